@@ -1,0 +1,17 @@
+pub mod Arity
+pub mod CleanWords
+pub mod Barred
+pub mod Bools
+pub mod Digits
+pub mod Each
+pub mod Joined
+pub mod Names
+pub mod NumbersBack
+pub mod Pieces
+pub mod RawLines
+pub mod SourcesBack
+pub mod UnderWay
+pub mod Splits
+pub mod Places
+pub mod WrittenLines
+pub mod Values

@@ -1,0 +1,12 @@
+pub mod Causes
+pub mod Lines
+pub mod LineView
+pub mod Memory
+pub mod Numbers
+pub mod Reading
+pub mod SourceText
+pub mod ReadStop
+pub mod Transfer
+pub mod Words
+pub mod Parts
+pub mod WrittenLines

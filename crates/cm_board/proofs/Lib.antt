@@ -1,0 +1,12 @@
+pub mod Added
+pub mod BoardBack
+pub mod Fields
+pub mod Good
+pub mod ItemsBack
+pub mod Limited
+pub mod Lines
+pub mod PrintedBack
+pub mod Sound
+pub mod SubBack
+pub mod WordsBack
+pub mod Written

@@ -1,0 +1,237 @@
+-- The lines of a block together.
+use Rattle.std.specs.Prelude.{ℕ, ◌-◌, ◌*◌, ◌^◌, ◌%◌, Bool, true, false, not, ◌&&◌, ◌||◌, ◌==◌, nat_le, nat_lt, int_lt, List, [], ◌∷◌, length, Option, Some, None, Result, Ok, Err, if◌then◌else◌}
+use Rattle.std.specs.List.{filter_map}
+use Rattle.cm_base.specs.Lines.{LineText}
+use Rattle.cm_base.specs.Reading.{◌>>=◌}
+use Rattle.cm_base.specs.declared.faults.Fault.{Fault}
+use Rattle.cm_base.specs.declared.faults.Fault.TheVariants.{Bad, Double, Limit, Missing}
+use Rattle.cm_board.specs.Board.{Masks, SubText, is_digital, is_unused, swaps}
+use Rattle.cm_board.specs.Items.{item_of}
+use Rattle.cm_board.specs.Source.{allows, ext}
+use Rattle.cm_board.specs.declared.board.Kind.{Kind}
+use Rattle.cm_board.specs.declared.board.Munge.{Munge}
+use Rattle.cm_board.specs.declared.board.Munge.TheVariants as munges
+use Rattle.cm_board.specs.declared.board.Range.{Range}
+use Rattle.cm_board.specs.declared.board.Forbid.{Forbid}
+use Rattle.cm_board.specs.declared.items.Span.{Span}
+use Rattle.cm_board.specs.declared.items.Sources.{Sources}
+use Rattle.cm_board.specs.declared.items.Head.{Head}
+use Rattle.cm_board.specs.declared.items.Item.{Item}
+use Rattle.cm_board.specs.declared.items.Item.TheVariants as items
+
+-- what the lines of a block say, form by form, each in the lines' order
+pub record Block : Type 0 where
+  pub bits : List ℕ
+  pub munge : List Munge
+  pub ranges : List Range
+  pub sources : List Sources
+  pub tick : List ℕ
+  pub scan : List Span
+  pub convert : List Span
+  pub list : List ℕ
+  pub scans : List ℕ
+  pub lines : List ℕ
+  pub buffer : List ℕ
+  pub same_range : List Bool
+  pub forbidden : List Forbid
+
+-- what an item says where it is of this form
+abbrev pub bits_in : Item → Option ℕ
+bits_in (items.Bits k) = Some k
+bits_in other = None
+
+abbrev pub munge_in : Item → Option Munge
+munge_in (items.Munge m) = Some m
+munge_in other = None
+
+abbrev pub ranges_in : Item → Option Range
+ranges_in (items.Range r) = Some r
+ranges_in other = None
+
+abbrev pub sources_in : Item → Option Sources
+sources_in (items.Sources s) = Some s
+sources_in other = None
+
+abbrev pub tick_in : Item → Option ℕ
+tick_in (items.Tick n) = Some n
+tick_in other = None
+
+abbrev pub scan_in : Item → Option Span
+scan_in (items.Scan s) = Some s
+scan_in other = None
+
+abbrev pub convert_in : Item → Option Span
+convert_in (items.Convert s) = Some s
+convert_in other = None
+
+abbrev pub list_in : Item → Option ℕ
+list_in (items.List n) = Some n
+list_in other = None
+
+abbrev pub scans_in : Item → Option ℕ
+scans_in (items.Scans n) = Some n
+scans_in other = None
+
+abbrev pub lines_in : Item → Option ℕ
+lines_in (items.Lines n) = Some n
+lines_in other = None
+
+abbrev pub buffer_in : Item → Option ℕ
+buffer_in (items.Buffer n) = Some n
+buffer_in other = None
+
+abbrev pub same_range_in : Item → Option Bool
+same_range_in items.SameRange = Some true
+same_range_in other = None
+
+abbrev pub forbidden_in : Item → Option Forbid
+forbidden_in (items.Forbid f) = Some f
+forbidden_in other = None
+
+abbrev pub block_of : List Item → Block
+block_of items = record {
+  bits = filter_map bits_in items;
+  munge = filter_map munge_in items;
+  ranges = filter_map ranges_in items;
+  sources = filter_map sources_in items;
+  tick = filter_map tick_in items;
+  scan = filter_map scan_in items;
+  convert = filter_map convert_in items;
+  list = filter_map list_in items;
+  scans = filter_map scans_in items;
+  lines = filter_map lines_in items;
+  buffer = filter_map buffer_in items;
+  same_range = filter_map same_range_in items;
+  forbidden = filter_map forbidden_in items;
+}
+
+-- how many lines of an item's form there are
+abbrev pub count_of : Item → Block → ℕ
+count_of (items.Bits k) b = length b.bits
+count_of (items.Munge m) b = length b.munge
+count_of (items.Range r) b = length b.ranges
+count_of (items.Sources s) b = length b.sources
+count_of (items.Tick n) b = length b.tick
+count_of (items.Scan s) b = length b.scan
+count_of (items.Convert s) b = length b.convert
+count_of (items.List n) b = length b.list
+count_of (items.Scans n) b = length b.scans
+count_of (items.Lines n) b = length b.lines
+count_of (items.Buffer n) b = length b.buffer
+count_of items.SameRange b = length b.same_range
+count_of (items.Forbid f) b = length b.forbidden
+
+-- how many there may be
+abbrev pub most_of : Item → ℕ
+most_of (items.Range r) = 16
+most_of (items.Forbid f) = 16
+most_of other = 1
+
+-- the rule over the words of a line
+abbrev pub is_fine : Item → Bool
+is_fine (items.Range r) = int_lt r.min r.max
+is_fine (items.Scan s) = nat_le s.min s.max
+is_fine (items.Convert s) = nat_le s.min s.max
+is_fine (items.Forbid f) = not (f.field == f.other)
+is_fine other = true
+
+-- a line more in a block: not too many of its form, and fine in itself
+abbrev pub behind : Block → Item → Result Item Fault
+behind block item =
+    if nat_lt (count_of item block) (most_of item)
+    then (if is_fine item then Ok item else Err Bad)
+    else Err (if most_of item == 1 then Double else Limit)
+
+-- what a line says behind the lines before it
+abbrev pub item_behind : Kind → List Item → LineText → Result Item Fault
+item_behind kind before line = item_of kind line >>= behind (block_of before)
+
+-- none of these
+abbrev pub is_empty : {X : Type 0} → List X → Bool
+is_empty xs = length xs == 0
+
+-- a line that a subdevice with commands needs, or that it may have
+abbrev pub has_needed : Block → Bool
+has_needed b = not (is_empty b.sources && is_empty b.tick && is_empty b.scan && is_empty b.convert && is_empty b.list && is_empty b.buffer)
+
+abbrev pub has_further : Block → Bool
+has_further b = not (is_empty b.scans && is_empty b.lines && is_empty b.same_range && is_empty b.forbidden)
+
+-- a line that only a subdevice with commands has
+abbrev pub has_command : Block → Bool
+has_command b = has_needed b || has_further b
+
+-- a line is missing that a subdevice with commands needs
+abbrev pub lacks_command : Block → Bool
+lacks_command b = is_empty b.sources || is_empty b.tick || is_empty b.scan || is_empty b.convert || is_empty b.list || is_empty b.buffer
+
+-- a needed line is missing
+abbrev pub lacks : Kind → Block → Bool
+lacks kind b = not (is_unused kind) && (is_empty b.bits || is_empty b.ranges || (has_command b && lacks_command b))
+
+-- no sources, and the sources that a line names
+abbrev pub no_sources : Sources
+no_sources = record { start = 0; scan_begin = 0; convert = 0; scan_end = 0; stop = 0 }
+
+abbrev pub masks_said : Sources → Masks
+masks_said s = record { start = s.start; scan_begin = s.scan_begin; convert = s.convert; scan_end = s.scan_end; stop = s.stop }
+
+-- the times of a subdevice that takes no commands
+abbrev pub once : Span
+once = record { min = 1; max = 1 }
+
+-- what the line of a form says, or what holds without one
+abbrev pub said_or : {X : Type 0} → X → List X → X
+said_or default [] = default
+said_or default (x ∷ more) = x
+
+-- the subdevice that the lines of a block describe
+abbrev pub sub_of : Head → Block → SubText
+sub_of head b = record {
+  kind = head.kind;
+  channels = head.channels;
+  maxdata = 2 ^ said_or 1 b.bits - 1;
+  munge = said_or munges.Plain b.munge;
+  ranges = b.ranges;
+  masks = masks_said (said_or no_sources b.sources);
+  tick = said_or 1 b.tick;
+  scan_min = (said_or once b.scan).min;
+  scan_max = (said_or once b.scan).max;
+  conv_min = (said_or once b.convert).min;
+  conv_max = (said_or once b.convert).max;
+  list_max = said_or 1 b.list;
+  scans_max = said_or (if is_empty b.sources then 1 else 1000000) b.scans;
+  lines = said_or 0 b.lines;
+  buffer = said_or 1 b.buffer;
+  same_range = said_or false b.same_range;
+  forbidden = b.forbidden;
+}
+
+-- digital channels have one bit, and swapped words at most 16
+abbrev pub is_bits_ok : SubText → Bool
+is_bits_ok s = (not (is_digital s.kind) || s.maxdata == 1) && (not (swaps s.munge) || nat_le s.maxdata 65535)
+
+-- the limits of times are multiples of the tick
+abbrev pub is_ticks_ok : SubText → Bool
+is_ticks_ok s = s.scan_min % s.tick == 0 && s.scan_max % s.tick == 0 && s.conv_min % s.tick == 0 && s.conv_max % s.tick == 0
+
+-- all conversions of the longest list fit into the longest scan
+abbrev pub is_list_ok : SubText → Bool
+is_list_ok s = nat_le (s.conv_min * s.list_max) s.scan_max
+
+-- a trigger that may be external has a line
+abbrev pub has_line : ℕ → ℕ → Bool
+has_line lines mask = not (allows mask ext) || nat_le 1 lines
+
+abbrev pub is_lines_ok : SubText → Bool
+is_lines_ok s =
+    has_line s.lines s.masks.start && has_line s.lines s.masks.scan_begin && has_line s.lines s.masks.convert
+    && has_line s.lines s.masks.scan_end && has_line s.lines s.masks.stop
+
+-- the rules over the lines of a block
+abbrev pub is_board_ok : SubText → Bool
+is_board_ok s = is_bits_ok s && is_ticks_ok s && is_list_ok s && is_lines_ok s
+
+-- what a block says at its end
+abbrev pub finished : Head → Block → Result SubText Fault
+finished head b = if lacks head.kind b then Err Missing else if is_board_ok (sub_of head b) then Ok (sub_of head b) else Err Bad

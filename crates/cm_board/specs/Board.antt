@@ -1,0 +1,211 @@
+-- What a board's subdevices promise.
+use Rattle.std.specs.Prelude.{◌≡◌, ◌≤◌, ◌*◌, ◌^◌, ◌%◌, ◌-◌, ℕ, Bool, true, false, not, ◌&&◌, ◌||◌, ◌==◌, nat_le, nat_lt, pos, ◌<ℤ◌, List, length, slice_index_or, IsTrue, bit_and, if◌then◌else◌}
+use Rattle.std.specs.List.{All, list_all, list_any, range_with_len}
+use Rattle.cm_base.specs.Lines.{is_printable}
+use Rattle.cm_base.specs.Words.{is_int}
+use Rattle.cm_board.specs.Source.{allows, ext}
+use Rattle.cm_board.specs.declared.board.Kind.{Kind}
+use Rattle.cm_board.specs.declared.board.Kind.TheVariants as kinds
+use Rattle.cm_board.specs.declared.board.Munge.{Munge}
+use Rattle.cm_board.specs.declared.board.Munge.TheVariants as munges
+use Rattle.cm_board.specs.declared.board.Range.{Range}
+use Rattle.cm_board.specs.declared.board.Forbid.{Forbid}
+
+-- the sources that each trigger may have
+pub record Masks : Type 0 where
+  pub start : ℕ
+  pub scan_begin : ℕ
+  pub convert : ℕ
+  pub scan_end : ℕ
+  pub stop : ℕ
+
+-- a subdevice as a plain record of numbers and lists
+pub record SubText : Type 0 where
+  pub kind : Kind
+  pub channels : ℕ
+  pub maxdata : ℕ
+  pub munge : Munge
+  pub ranges : List Range
+  pub masks : Masks
+  pub tick : ℕ
+  pub scan_min : ℕ
+  pub scan_max : ℕ
+  pub conv_min : ℕ
+  pub conv_max : ℕ
+  pub list_max : ℕ
+  pub scans_max : ℕ
+  pub lines : ℕ
+  pub buffer : ℕ
+  pub same_range : Bool
+  pub forbidden : List Forbid
+
+-- a board as a plain record
+pub record BoardText : Type 0 where
+  pub name : List ℕ
+  pub subs : List SubText
+
+-- the greatest code, the munge and the ranges of a channel
+abbrev pub maxdata_of : SubText → ℕ → ℕ
+maxdata_of sub chan = sub.maxdata
+
+abbrev pub munge_of : SubText → ℕ → Munge
+munge_of sub chan = sub.munge
+
+abbrev pub ranges_of : SubText → ℕ → List Range
+ranges_of sub chan = sub.ranges
+
+abbrev pub range_count : SubText → ℕ → ℕ
+range_count sub chan = length (ranges_of sub chan)
+
+-- the range of a channel with this number, and an empty one where there is none
+abbrev pub range_of : SubText → ℕ → ℕ → Range
+range_of sub chan index = slice_index_or (ranges_of sub chan) index (record { min = pos 0; max = pos 0; unit = 0 })
+
+-- a subdevice takes commands where its triggers may have sources
+abbrev pub takes_commands : SubText → Bool
+takes_commands sub = not (sub.masks.start == 0)
+
+abbrev pub is_unused : Kind → Bool
+is_unused kinds.Unused = true
+is_unused kind = false
+
+-- the kinds whose channels are one bit
+abbrev pub is_digital : Kind → Bool
+is_digital kinds.Di = true
+is_digital kinds.Do = true
+is_digital kinds.Dio = true
+is_digital kind = false
+
+-- the kinds that may take commands
+abbrev pub may_command : Kind → Bool
+may_command kinds.Unused = false
+may_command kinds.Dio = false
+may_command kind = true
+
+abbrev pub swaps : Munge → Bool
+swaps munges.Swap16 = true
+swaps munge = false
+
+abbrev pub is_plain : Munge → Bool
+is_plain munges.Plain = true
+is_plain munge = false
+
+-- a shift is by 1 to 8 bits
+abbrev pub is_munge : Munge → Bool
+is_munge (munges.Left bits) = nat_le 1 bits && nat_le bits 8
+is_munge munge = true
+
+-- 1 to 64 channels, and none where the subdevice is unused
+abbrev pub has_channels : Kind → ℕ → Bool
+has_channels kinds.Unused channels = channels == 0
+has_channels kind channels = nat_le 1 channels && nat_le channels 64
+
+-- the greatest number of 1 to 24 bits
+abbrev pub is_maxdata : ℕ → Bool
+is_maxdata n = list_any (λ bits. n == 2 ^ bits - 1) (range_with_len 1 24)
+
+-- a range is not empty
+abbrev pub IsRange : Range → Type 0
+IsRange r = r.min <ℤ r.max
+
+-- ends of 32 bits, and one of the three units
+abbrev pub fits_range : Range → Bool
+fits_range r = is_int r.min && is_int r.max && nat_le r.unit 2
+
+-- some sources of a set, and none but these
+abbrev pub is_among : ℕ → ℕ → Bool
+is_among set mask = not (mask == 0) && bit_and mask set == mask
+
+-- no trigger has a source
+abbrev pub are_empty : Masks → Bool
+are_empty m = m.start == 0 && m.scan_begin == 0 && m.convert == 0 && m.scan_end == 0 && m.stop == 0
+
+-- each trigger has sources: start now, ext or int; scan_begin follow, timer or ext; convert now, timer or ext; scan_end count; stop none or count
+abbrev pub are_full : Masks → Bool
+are_full m = is_among 194 m.start && is_among 84 m.scan_begin && is_among 82 m.convert && is_among 32 m.scan_end && is_among 33 m.stop
+
+-- the numbers of a subdevice that takes no commands
+abbrev pub is_idle : SubText → Bool
+is_idle s =
+    are_empty s.masks && s.tick == 1 && s.scan_min == 1 && s.scan_max == 1 && s.conv_min == 1 && s.conv_max == 1
+    && s.list_max == 1 && s.scans_max == 1 && s.lines == 0 && s.buffer == 1 && not s.same_range && length s.forbidden == 0
+
+-- an unused subdevice has no ranges, and its words are plain bits
+abbrev pub is_bare : SubText → Bool
+is_bare s = length s.ranges == 0 && s.maxdata == 1 && is_plain s.munge && is_idle s
+
+-- one source
+abbrev pub is_source : ℕ → Bool
+is_source src = is_among 511 src && bit_and src (src - 1) == 0
+
+-- two different triggers, each with a source
+abbrev pub is_pair : Forbid → Bool
+is_pair f = nat_lt f.field 5 && nat_lt f.other 5 && not (f.field == f.other) && is_source f.src && is_source f.other_src
+
+-- a number from 1 on, at most `most`
+pub record IsFrom1To (most n : ℕ) : Type 0 where
+  pub low : 1 ≤ n
+  pub high : n ≤ most
+
+-- two times in their order, both on the tick
+pub record AreTimes (tick least most : ℕ) : Type 0 where
+  pub some : 1 ≤ least
+  pub order : least ≤ most
+  pub high : most ≤ 4000000000
+  pub least_ticks : least % tick ≡ 0
+  pub most_ticks : most % tick ≡ 0
+
+-- a trigger that may be external has a line
+abbrev pub HasLine : ℕ → ℕ → Type 0
+HasLine lines mask = IsTrue (allows mask ext) → 1 ≤ lines
+
+-- what the kind asks: channels, one bit for digital ones, ranges and commands, and nothing of an unused subdevice
+abbrev pub fits_kind : SubText → Bool
+fits_kind s =
+    has_channels s.kind s.channels && (not (is_digital s.kind) || s.maxdata == 1)
+    && (is_unused s.kind || nat_le 1 (length s.ranges)) && (not (is_unused s.kind) || is_bare s)
+
+-- a subdevice takes commands by its kind, and by all of its triggers or none
+abbrev pub fits_commands : SubText → Bool
+fits_commands s = (if takes_commands s then are_full s.masks && may_command s.kind else is_idle s)
+
+-- each number, range and pair is one that a line can say
+abbrev pub fits_lines : SubText → Bool
+fits_lines s = is_maxdata s.maxdata && is_munge s.munge && list_all fits_range s.ranges && list_all is_pair s.forbidden
+
+-- what only the text of a board looks at
+unfoldable pub has_text : SubText → Bool
+has_text s = fits_kind s && fits_commands s && fits_lines s
+
+-- a shift is by 8 bits at most, and swapped words have two bytes
+unfoldable pub has_munge : SubText → Bool
+has_munge s = is_munge s.munge && (not (swaps s.munge) || nat_le s.maxdata 65535)
+
+-- the limits of a block, and the rules over several of its lines
+pub record IsSound (sub : SubText) : Type 0 where
+  pub text : IsTrue (has_text sub)
+  pub munge : IsTrue (has_munge sub)
+  pub largest : IsFrom1To (2 ^ 24 - 1) sub.maxdata
+  pub few_channels : sub.channels ≤ 64
+  pub few_ranges : length sub.ranges ≤ 16
+  pub ranges : All IsRange sub.ranges
+  pub tick : IsFrom1To 1000000000 sub.tick
+  pub scan : AreTimes sub.tick sub.scan_min sub.scan_max
+  pub convert : AreTimes sub.tick sub.conv_min sub.conv_max
+  pub list : IsFrom1To 256 sub.list_max
+  pub list_fits : sub.conv_min * sub.list_max ≤ sub.scan_max
+  pub scans : IsFrom1To 4000000000 sub.scans_max
+  pub few_lines : sub.lines ≤ 16
+  pub start_line : HasLine sub.lines sub.masks.start
+  pub scan_begin_line : HasLine sub.lines sub.masks.scan_begin
+  pub convert_line : HasLine sub.lines sub.masks.convert
+  pub scan_end_line : HasLine sub.lines sub.masks.scan_end
+  pub stop_line : HasLine sub.lines sub.masks.stop
+  pub buffer : IsFrom1To 65536 sub.buffer
+  pub few_pairs : length sub.forbidden ≤ 16
+
+-- a name of 1 to 32 printable bytes, and 1 to 16 subdevices
+pub record IsSoundBoard (board : BoardText) : Type 0 where
+  pub name : IsFrom1To 32 (length board.name)
+  pub printable : IsTrue (list_all is_printable board.name)
+  pub subs : IsFrom1To 16 (length board.subs)

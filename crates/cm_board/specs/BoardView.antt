@@ -1,0 +1,6 @@
+-- How contracts see a board.
+use Rattle.cm_board.specs.Board.{BoardText}
+use Rattle.cm_board.specs.declared.board.BoardDesc.TheInside.{Inside}
+
+abbrev pub board_text : Inside → BoardText
+board_text board = record { name = board.name.items; subs = board.subs.items }

@@ -1,0 +1,12 @@
+pub mod Block
+pub mod Board
+pub mod BoardPart
+pub mod BoardView
+pub mod DraftView
+pub mod Items
+pub mod Limits
+pub mod Printed
+pub mod PrintedReads
+pub mod Source
+pub mod UncheckedView
+pub mod View

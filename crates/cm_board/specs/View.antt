@@ -1,0 +1,34 @@
+-- How contracts see a subdevice.
+use Rattle.std.specs.Prelude.{ℕ, List, slice_index}
+use Rattle.cm_board.specs.Board.{Masks, SubText}
+use Rattle.cm_board.specs.declared.board.Sub.TheInside.{Inside}
+
+abbrev pub masks_of : List ℕ → Masks
+masks_of sources = record {
+  start = slice_index sources 0;
+  scan_begin = slice_index sources 1;
+  convert = slice_index sources 2;
+  scan_end = slice_index sources 3;
+  stop = slice_index sources 4;
+}
+
+abbrev pub sub_text : Inside → SubText
+sub_text s = record {
+  kind = s.kind;
+  channels = s.channels;
+  maxdata = s.maxdata;
+  munge = s.munge;
+  ranges = s.ranges.items;
+  masks = masks_of s.sources;
+  tick = s.tick;
+  scan_min = s.scan_min;
+  scan_max = s.scan_max;
+  conv_min = s.conv_min;
+  conv_max = s.conv_max;
+  list_max = s.list_max;
+  scans_max = s.scans_max;
+  lines = s.lines;
+  buffer = s.buffer;
+  same_range = s.same_range;
+  forbidden = s.forbidden.items;
+}

@@ -1,0 +1,168 @@
+// Subdevices as plain data with the rules that each of them keeps.
+use std::marker::Model;
+
+/// What a subdevice is (Comedi: `COMEDI_SUBD_*`).
+#[derive(Clone, Copy, Debug, PartialEq, Eq)]
+pub enum Kind {
+    /// No subdevice. It has no channels and takes no commands.
+    Unused,
+    /// Analog input.
+    Ai,
+    /// Analog output.
+    Ao,
+    /// Digital input.
+    Di,
+    /// Digital output.
+    Do,
+    /// Digital channels that each are an input or an output. They take no commands.
+    Dio,
+}
+
+/// How a word of the buffer stands for a code (Comedi: a driver's `munge`).
+#[derive(Clone, Copy, Debug, PartialEq, Eq)]
+pub enum Munge {
+    /// The word is the code.
+    Plain,
+    /// The highest bit of the code is inverted, as in two's complement.
+    Offset,
+    /// The two low bytes are exchanged.
+    Swap16,
+    /// The code stands this many bits to the left, 1 to 8.
+    Left(u8),
+}
+
+/// The levels that a channel can measure or put out, in micro-units. The unit is 0 for volt, 1 for
+/// mA and 2 for none (Comedi: `comedi_krange`).
+#[derive(Clone, Copy, Debug, PartialEq, Eq)]
+pub struct Range {
+    pub min: i32,
+    pub max: i32,
+    pub unit: u8,
+}
+
+/// Two sources that may not stand together, each at the number of its trigger: start 0,
+/// scan_begin 1, convert 2, scan_end 3, stop 4.
+#[derive(Clone, Copy, Debug, PartialEq, Eq)]
+pub struct Forbid {
+    pub field: u8,
+    pub src: u32,
+    pub other: u8,
+    pub other_src: u32,
+}
+
+/// A subdevice (Comedi: `comedi_subdevice`). Times are in nanoseconds.
+#[derive(Drop)]
+pub struct Sub {
+    pub kind: Kind,
+    /// 1 to 64, and 0 where the kind is unused.
+    pub channels: u32,
+    /// The greatest code, `2^bits - 1` with 1 to 24 bits.
+    pub maxdata: u32,
+    pub munge: Munge,
+    pub ranges: Vec<Range>,
+    /// The sources that start, scan_begin, convert, scan_end and stop may have. All are 0 where the
+    /// subdevice takes no commands.
+    pub sources: [u32; 5],
+    /// What the times of a command are multiples of.
+    pub tick: u32,
+    pub scan_min: u32,
+    pub scan_max: u32,
+    pub conv_min: u32,
+    pub conv_max: u32,
+    /// The longest channel list.
+    pub list_max: u32,
+    /// The greatest stop count.
+    pub scans_max: u32,
+    /// How many external lines there are.
+    pub lines: u32,
+    /// How many samples the buffer holds.
+    pub buffer: u32,
+    /// Whether all entries of a list have one range.
+    pub same_range: bool,
+    pub forbidden: Vec<Forbid>,
+}
+
+impl Model for Sub {
+    ghost use Rattle.cm_board.specs.Board.{SubText, IsSound};
+
+    ghost Value = { SubText };
+
+    ghost use Rattle.cm_board.specs.View.{sub_text};
+
+    ghost view = { sub_text };
+
+    ghost invariant = { λ s. IsSound (sub_text s) };
+}
+
+impl Sub {
+    ghost use Rattle.std.specs.Prelude.{◌≡◌, ◌<◌, ◌≤◌, ◌^◌, ◌<ℤ◌, IsTrue};
+    ghost use Rattle.cm_board.specs.Board.{is_munge, maxdata_of, munge_of, range_count, range_of, takes_commands};
+
+    /// Whether the subdevice takes commands.
+    pub fn takes_commands(&self) -> bool
+        ensures { result ≡ takes_commands self.now }
+    {
+        self.sources[0] != 0
+    }
+
+    /// The greatest code of a channel.
+    pub fn maxdata_of(&self, chan: u32) -> u32
+        requires { chan < self.now.channels }
+        ensures value { result ≡ maxdata_of self.now chan }
+        ensures low { 1 ≤ result }
+        ensures high { result < 2 ^ 24 }
+    {
+        let _ = chan;
+        self.maxdata
+    }
+
+    /// How the words of a channel are munged.
+    #[tactic(auto, unfolding(crate::specs::Board::has_munge))]
+    pub fn munge_of(&self, chan: u32) -> Munge
+        requires { chan < self.now.channels }
+        ensures value { result ≡ munge_of self.now chan }
+        ensures shift { IsTrue (is_munge result) }
+    {
+        let _ = chan;
+        self.munge
+    }
+
+    /// How many ranges a channel has.
+    pub fn range_count(&self, chan: u32) -> u32
+        requires { chan < self.now.channels }
+        ensures { result ≡ range_count self.now chan }
+    {
+        let _ = chan;
+        self.ranges.len() as u32
+    }
+
+    /// A range of a channel by its number.
+    pub fn range_of(&self, chan: u32, index: u32) -> Range
+        requires chan { chan < self.now.channels }
+        requires index { index < range_count self.now chan }
+        ensures value { result ≡ range_of self.now chan index }
+        ensures proper { result.min <ℤ result.max }
+    {
+        let _ = chan;
+        self.ranges[index as usize]
+    }
+}
+
+/// A board: its name of 1 to 32 printable bytes, and its 1 to 16 subdevices.
+#[derive(Drop)]
+pub struct BoardDesc {
+    pub name: Vec<u8>,
+    pub subs: Vec<Sub>,
+}
+
+impl Model for BoardDesc {
+    ghost use Rattle.cm_board.specs.Board.{BoardText, IsSoundBoard};
+
+    ghost Value = { BoardText };
+
+    ghost use Rattle.cm_board.specs.BoardView.{board_text};
+
+    ghost view = { board_text };
+
+    ghost invariant = { λ b. IsSoundBoard (board_text b) };
+}

@@ -1,0 +1,332 @@
+// The board part of a text, read into a board.
+ghost use Rattle.std.specs.Prelude.{◌≡◌, ◌<◌, ◌≤◌, ◌∷◌, IfOk, IsTrue, Ok, true, codes, drop, length, map};
+ghost use Rattle.std.specs.List.{list_all, position_or_len};
+ghost use Rattle.cm_base.specs.LineView.{line_view};
+ghost use Rattle.cm_base.specs.ReadStop.{Gives};
+ghost use Rattle.cm_base.specs.Reading.{at_line, read_each, seen};
+ghost use Rattle.cm_board.specs.Block.{block_of, finished, item_behind};
+ghost use Rattle.cm_board.specs.BoardPart.{begins, block_at, block_lines, block_said, blocks_from, is_between, is_part_end, lines_behind, next_block, board_of, any_words, ends_block, fixed, fixed_words, head_behind, is_name, is_signals, name_words, next_number, version_words};
+ghost use Rattle.std.specs.Prelude.{List};
+ghost use Rattle.cm_base.specs.declared.faults.ReadStop.TheVariants as stops;
+ghost use Rattle.cm_board.specs.declared.items.Item.{Item};
+ghost use Rattle.cm_board.specs.DraftView.{block_view};
+ghost use Rattle.cm_board.specs.Limits.{IsLimited};
+ghost use Rattle.cm_board.specs.Board.{IsSoundBoard, has_channels};
+ghost use Rattle.cm_base.specs.Lines.{is_word};
+
+use crate::board::{BoardDesc, Kind, Sub};
+use crate::draft::Draft;
+use crate::items::{Head, Item, read_head, read_item};
+use cm_base::faults::{Fault, ReadStop, Refused};
+use cm_base::lines::{Line, Lines};
+use cm_base::words::{at_line, number_in, one};
+use std::alloc::{AllocError, Global};
+
+// Whether the line ends the block before it.
+fn ends_block(line: &Line<'_>) -> bool
+    ensures { result ≡ ends_block (line_view line.now) }
+{
+    begins(b"subdevice", line) || begins(b"signals", line)
+}
+
+// Whether the line isn't bad and its first word is this one.
+fn begins(key: &[u8], line: &Line<'_>) -> bool
+    ensures { result ≡ begins key.now (line_view line.now) }
+{
+    if line.bad {
+        return false;
+    }
+    match line.words.as_slice() {
+        [] => false,
+        [word, ..] => *word == key,
+    }
+}
+
+// How many lines a block has behind its head.
+fn block_len(lines: &[Line<'_>]) -> usize
+    ensures value { result ≡ position_or_len ends_block (map line_view lines.now) }
+    ensures within { result ≤ length lines.now }
+{
+    let mut count = 0;
+    for line in lines {
+        if ends_block(line) {
+            return count;
+        }
+        count += 1;
+    }
+    count
+}
+
+// The number of the line at which something is missing.
+fn next_number(lines: &[Line<'_>], end: u32) -> u32
+    ensures { result ≡ next_number end (map line_view lines.now) }
+{
+    match lines {
+        [] => end,
+        [line, ..] => line.number,
+    }
+}
+
+// The head of a block, where at most 16 stand before it.
+fn head_behind(count: usize, line: &Line<'_>) -> Result<Head, Fault>
+    ensures { result ≡ head_behind count (line_view line.now) }
+{
+    let words = line.words.as_slice();
+    let head = read_head(behind_key(words))?;
+    if count < 16 {
+        Ok(head)
+    } else {
+        Err(Fault::Limit)
+    }
+}
+
+// The words behind the first one.
+fn behind_key<'a, 'b>(words: &'b [&'a [u8]]) -> &'b [&'a [u8]]
+    ensures value { map (λ word. word.now) result.now ≡ drop 1 (map (λ word. word.now) words.now) }
+    ensures words { IsTrue (list_all (λ word. is_word word.now) words.now) → IsTrue (list_all (λ word. is_word word.now) result.now) }
+{
+    match words {
+        [] => &[],
+        [_, rest @ ..] => rest,
+    }
+}
+
+// A line's item, where it may stand behind those of the draft.
+fn item_behind(kind: Kind, draft: &Draft, line: &Line<'_>) -> Result<Item, Fault>
+    ensures { (items : List Item) → block_view draft.now ≡ block_of items → result ≡ item_behind kind items (line_view line.now) }
+{
+    let item = read_item(kind, line)?;
+    draft.check(&item)?;
+    Ok(item)
+}
+
+// What the lines of a block say together.
+fn read_items(alloc: Global, kind: Kind, lines: &[Line<'_>]) -> Result<Draft, ReadStop>
+    ensures { Gives block_view result (block_said kind (map line_view lines.now)) }
+{
+    let mut draft = Draft::new(alloc);
+    for line in lines {
+        let item = at_line(line.number, item_behind(kind, &draft, line))?;
+        draft.put(item)?;
+    }
+    Ok(draft)
+}
+
+// The lines of a block behind its head, and those behind the block.
+fn cut_block<'a, 'b>(lines: &'a [Line<'b>]) -> (&'a [Line<'b>], &'a [Line<'b>])
+    ensures inside { map line_view result.0.now ≡ block_lines (map line_view lines.now) }
+    ensures behind { map line_view result.1.now ≡ lines_behind (map line_view lines.now) }
+    ensures shorter { length result.1.now ≤ length lines.now }
+{
+    lines.split_at(block_len(lines))
+}
+
+// The subdevice that a head and the lines behind it describe, with `count` blocks before and the line `stop` behind.
+fn read_block(
+    alloc: Global,
+    stop: u32,
+    count: usize,
+    head: &Line<'_>,
+    inside: &[Line<'_>],
+) -> Result<Sub, ReadStop>
+    ensures { Gives (λ sub. sub) result (block_at stop count (line_view head.now) (map line_view inside.now)) }
+{
+    let line = head.number;
+    let head = at_line(line, head_behind(count, head))?;
+    let draft = read_items(alloc, head.kind, inside)?;
+    at_line(stop, finish(draft, head))
+}
+
+// What a block says at its end.
+fn finish(draft: Draft, head: Head) -> Result<Sub, Fault>
+    requires limits { IsLimited head.kind (block_view draft) }
+    requires channels { IsTrue (has_channels head.kind head.channels) }
+    ensures { result ≡ finished head (block_view draft) }
+{
+    if draft.lacks(head.kind) {
+        return Err(Fault::Missing);
+    }
+    let sub = draft.fill(head);
+    if sub.is_board_ok() {
+        Ok(sub.into_sub())
+    } else {
+        Err(Fault::Bad)
+    }
+}
+
+// Whether no block stands at the front of these lines.
+fn is_part_end(lines: &[Line<'_>]) -> bool
+    ensures { result ≡ is_part_end (map line_view lines.now) }
+{
+    match lines {
+        [] => true,
+        [line, ..] => begins(b"signals", line),
+    }
+}
+
+// The lines from a place on.
+fn lines_from<'a, 'b>(lines: &'a [Line<'b>], at: usize) -> &'a [Line<'b>]
+    ensures lines { result.now ≡ drop at lines.now }
+    ensures views { map line_view result.now ≡ drop at (map line_view lines.now) }
+{
+    if at <= lines.len() { &lines[at..] } else { &[] }
+}
+
+// The subdevices of the blocks up to the `signals` line.
+fn read_blocks(alloc: Global, lines: &[Line<'_>], end: u32) -> Result<Vec<Sub>, ReadStop>
+    requires { IsTrue (is_between (map line_view lines.now)) }
+    ensures { Gives (λ subs. subs.items) result (blocks_from end 0 (map line_view lines.now)) }
+{
+    let mut subs = Vec::new(alloc);
+    let mut at = 0;
+    while !is_part_end(lines_from(lines, at)) {
+        let behind = lines_from(lines, at + 1);
+        let inside = block_len(behind);
+        let sub = match next_sub(alloc, subs.len(), &lines[at], behind, end) {
+            Ok(sub) => sub,
+            Err(stop) => return Err(stop),
+        };
+        subs.push(sub)?;
+        at += 1 + inside;
+    }
+    if at == lines.len() {
+        return Err(ReadStop::Refused(Refused {
+            line: end,
+            cause: Fault::Missing,
+        }));
+    }
+    Ok(subs)
+}
+
+// The subdevice that a block with this head describes, with `count` blocks before it.
+fn next_sub(
+    alloc: Global,
+    count: usize,
+    head: &Line<'_>,
+    behind: &[Line<'_>],
+    end: u32,
+) -> Result<Sub, ReadStop>
+    ensures { Gives (λ sub. sub) result (next_block end count (line_view head.now) (map line_view behind.now)) }
+{
+    let (inside, after) = cut_block(behind);
+    read_block(alloc, next_number(after, end), count, head, inside)
+}
+
+/// Reads the board part of a text, from its first line on, and tells the place of the `signals`
+/// line among the lines. It stops at the first line that fails, with the line's number and the
+/// cause, or where memory runs out. Its time is linear in the text, and it keeps no memory but the
+/// board's (Comedi: what a driver's `attach` sets up).
+pub fn read_board(alloc: Global, lines: &Lines<'_>) -> Result<(BoardDesc, usize), ReadStop>
+    ensures value { Gives (λ r. (r.0, r.1)) result (board_of lines.now.end (map line_view lines.now.list.items)) }
+    ensures within { IfOk result (λ r. r.1 ≤ length lines.now.list.items) }
+{
+    let list = lines.list.as_slice();
+    let end = lines.end;
+    read_version(list, end)?;
+    let name = read_name(lines_from(list, 1), end)?;
+    let blocks = lines_from(list, 2);
+    begins_block(blocks, end)?;
+    let subs = read_blocks(alloc, blocks, end)?;
+    let board = describe(alloc, name, subs)?;
+    Ok((board, signals_place(list)))
+}
+
+// The board with this name and these subdevices.
+fn describe(alloc: Global, name: &[u8], subs: Vec<Sub>) -> Result<BoardDesc, AllocError>
+    requires { IsSoundBoard (record { name = name.now; subs = subs.items }) }
+    ensures { IfOk result (λ board. board ≡ record { name = name.now; subs = subs.items }) }
+{
+    Ok(BoardDesc {
+        name: Vec::from_slice(alloc, name)?,
+        subs,
+    })
+}
+
+// The words behind the one fixed word that may begin the first of these lines, and its number.
+fn fixed<'a, 'b>(
+    lines: &'a [Line<'b>],
+    key: &[u8],
+    end: u32,
+) -> Result<(u32, &'a [&'b [u8]]), ReadStop>
+    ensures value { Gives (λ r. (r.0, map (λ word. word.now) r.1.now)) result (fixed_words end key.now (map line_view lines.now)) }
+    ensures words { IfOk result (λ r. IsTrue (list_all (λ word. is_word word.now) r.1.now)) }
+{
+    match lines {
+        [] => Err(refused(end, Fault::Missing)),
+        [line, ..] => {
+            if line.bad {
+                Err(refused(line.number, Fault::BadLine))
+            } else if begins(key, line) {
+                Ok((line.number, behind_key(line.words.as_slice())))
+            } else {
+                Err(refused(line.number, Fault::Missing))
+            }
+        }
+    }
+}
+
+// A text that is refused at a line.
+fn refused(line: u32, cause: Fault) -> ReadStop
+    ensures { result ≡ stops.Refused (record { line = line; cause = cause }) }
+{
+    ReadStop::Refused(Refused { line, cause })
+}
+
+// The version of the board part.
+fn read_version(lines: &[Line<'_>], end: u32) -> Result<u32, ReadStop>
+    ensures { Gives (λ version. version) result (fixed end (codes "comedi") version_words (map line_view lines.now)) }
+{
+    let (number, words) = fixed(lines, b"comedi", end)?;
+    at_line(number, version(words))
+}
+
+fn version(words: &[&[u8]]) -> Result<u32, Fault>
+    ensures { result ≡ version_words (map (λ word. word.now) words.now) }
+{
+    number_in(one(words)?, 1, 1)
+}
+
+// The board's name.
+fn read_name<'a, 'b>(lines: &'a [Line<'b>], end: u32) -> Result<&'b [u8], ReadStop>
+    ensures value { Gives (λ name. name.now) result (fixed end (codes "board") name_words (map line_view lines.now)) }
+    ensures word { IfOk result (λ name. IsTrue (is_name name.now)) }
+{
+    let (number, words) = fixed(lines, b"board", end)?;
+    at_line(number, name(words))
+}
+
+fn name<'b>(words: &[&'b [u8]]) -> Result<&'b [u8], Fault>
+    requires { IsTrue (list_all (λ word. is_word word.now) words.now) }
+    ensures value { seen (λ name. name.now) result ≡ name_words (map (λ word. word.now) words.now) }
+    ensures word { IfOk result (λ name. IsTrue (is_name name.now)) }
+{
+    let name = one(words)?;
+    if name.len() <= 32 {
+        Ok(name)
+    } else {
+        Err(Fault::Limit)
+    }
+}
+
+// The first block begins at the third line.
+fn begins_block(lines: &[Line<'_>], end: u32) -> Result<(), ReadStop>
+    ensures { Gives (λ u. true) result (fixed end (codes "subdevice") any_words (map line_view lines.now)) }
+{
+    fixed(lines, b"subdevice", end)?;
+    Ok(())
+}
+
+// The place of the `signals` line.
+fn signals_place(lines: &[Line<'_>]) -> usize
+    ensures value { result ≡ position_or_len is_signals (map line_view lines.now) }
+    ensures within { result ≤ length lines.now }
+{
+    let mut count = 0;
+    for line in lines {
+        if begins(b"signals", line) {
+            return count;
+        }
+        count += 1;
+    }
+    count
+}

@@ -1,0 +1,133 @@
+// A subdevice before the rules over its lines are asked.
+ghost use Rattle.std.specs.Prelude.{◌≡◌};
+ghost use Rattle.cm_board.specs.Block.{has_line};
+ghost use Rattle.cm_board.specs.Board.{is_digital, swaps};
+
+use crate::board::{Forbid, Kind, Munge, Range, Sub};
+use crate::items::{Sources, Span};
+use crate::source::EXT;
+
+/// A subdevice whose numbers keep their limits one by one, and maybe not the rules over them.
+#[derive(Drop)]
+pub struct Unchecked {
+    pub kind: Kind,
+    pub channels: u32,
+    pub maxdata: u32,
+    pub munge: Munge,
+    pub ranges: Vec<Range>,
+    pub sources: Sources,
+    pub tick: u32,
+    pub scan: Span,
+    pub convert: Span,
+    pub list_max: u32,
+    pub scans_max: u32,
+    pub lines: u32,
+    pub buffer: u32,
+    pub same_range: bool,
+    pub forbidden: Vec<Forbid>,
+}
+
+impl Unchecked {
+    ghost use Rattle.cm_board.specs.Block.{is_bits_ok, is_board_ok, is_lines_ok, is_list_ok, is_ticks_ok};
+    ghost use Rattle.cm_board.specs.Board.{IsSound};
+    ghost use Rattle.cm_board.specs.UncheckedView.{unchecked_text};
+    ghost use Rattle.std.specs.Prelude.{◌<◌};
+
+    /// The rules over the lines of a block.
+    pub fn is_board_ok(&self) -> bool
+        requires { 0 < self.now.tick }
+        ensures { result ≡ is_board_ok (unchecked_text self.now) }
+    {
+        self.is_bits_ok() && self.is_ticks_ok() && self.is_list_ok() && self.is_lines_ok()
+    }
+
+    /// The subdevice, where all rules hold.
+    pub fn into_sub(self) -> Sub
+        requires { IsSound (unchecked_text self) }
+        ensures { result ≡ unchecked_text self }
+    {
+        let masks = self.sources;
+        Sub {
+            kind: self.kind,
+            channels: self.channels,
+            maxdata: self.maxdata,
+            munge: self.munge,
+            ranges: self.ranges,
+            sources: [
+                masks.start,
+                masks.scan_begin,
+                masks.convert,
+                masks.scan_end,
+                masks.stop,
+            ],
+            tick: self.tick,
+            scan_min: self.scan.min,
+            scan_max: self.scan.max,
+            conv_min: self.convert.min,
+            conv_max: self.convert.max,
+            list_max: self.list_max,
+            scans_max: self.scans_max,
+            lines: self.lines,
+            buffer: self.buffer,
+            same_range: self.same_range,
+            forbidden: self.forbidden,
+        }
+    }
+
+    // Digital channels have one bit, and swapped words at most 16.
+    fn is_bits_ok(&self) -> bool
+        ensures { result ≡ is_bits_ok (unchecked_text self.now) }
+    {
+        (!is_digital(self.kind) || self.maxdata == 1)
+            && (!swaps(self.munge) || self.maxdata <= 65_535)
+    }
+
+    // The limits of times are multiples of the tick.
+    fn is_ticks_ok(&self) -> bool
+        requires { 0 < self.now.tick }
+        ensures { result ≡ is_ticks_ok (unchecked_text self.now) }
+    {
+        self.scan.min % self.tick == 0
+            && self.scan.max % self.tick == 0
+            && self.convert.min % self.tick == 0
+            && self.convert.max % self.tick == 0
+    }
+
+    // All conversions of the longest list fit into the longest scan.
+    fn is_list_ok(&self) -> bool
+        ensures { result ≡ is_list_ok (unchecked_text self.now) }
+    {
+        self.convert.min as u64 * self.list_max as u64 <= self.scan.max as u64
+    }
+
+    // Where an external source may stand there is an external line.
+    fn is_lines_ok(&self) -> bool
+        ensures { result ≡ is_lines_ok (unchecked_text self.now) }
+    {
+        let sources = &self.sources;
+        has_line(self.lines, sources.start)
+            && has_line(self.lines, sources.scan_begin)
+            && has_line(self.lines, sources.convert)
+            && has_line(self.lines, sources.scan_end)
+            && has_line(self.lines, sources.stop)
+    }
+}
+
+// A trigger that may be external has a line.
+fn has_line(lines: u32, mask: u32) -> bool
+    ensures { result ≡ has_line lines mask }
+{
+    EXT & mask != EXT || 1 <= lines
+}
+
+fn is_digital(kind: Kind) -> bool
+    ensures { result ≡ is_digital kind }
+{
+    matches!(kind, Kind::Di | Kind::Do | Kind::Dio)
+}
+
+fn swaps(munge: Munge) -> bool
+    ensures { result ≡ swaps munge }
+{
+    matches!(munge, Munge::Swap16)
+}
