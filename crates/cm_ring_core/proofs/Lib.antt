@@ -1,0 +1,4 @@
+pub mod Cells
+pub mod Munged
+pub mod Rings
+pub mod Views

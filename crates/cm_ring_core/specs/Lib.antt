@@ -1,0 +1,4 @@
+pub mod Between
+pub mod Held
+pub mod Local
+pub mod LocalView
