@@ -1,0 +1,6 @@
+pub mod Numbers
+pub mod Parts
+pub mod Printed
+pub mod Readable
+pub mod Cuts
+pub mod Sources

@@ -1,0 +1,59 @@
+// Words made of parts, with a byte between two parts.
+ghost use Rattle.std.specs.Prelude.{◌≡◌, ◌+◌, ◌<◌, length, take, drop, IfSome};
+ghost use Rattle.std.specs.List.{position, slice_split};
+ghost use Rattle.cm_base.specs.Reading.{seen};
+ghost use Rattle.cm_base.specs.Words.{two_words, three_words};
+ghost use Rattle.cm_cmd.specs.ListText.{is_byte};
+
+use cm_base::faults::Fault;
+
+/// The place of the first separator.
+pub fn first_place(text: &[u8], separator: u8) -> Option<usize>
+    ensures place { result ≡ position (is_byte separator) text.now }
+    ensures within { IfSome result (λ at. at < length text.now) }
+{
+    text.iter().position(move |byte| *byte == separator)
+}
+
+/// What stands before a place.
+pub fn before(text: &[u8], at: usize) -> &[u8]
+    requires { at < length text.now }
+    ensures { result.now ≡ take at text.now }
+{
+    &text[..at]
+}
+
+/// What stands behind a place.
+pub fn behind(text: &[u8], at: usize) -> &[u8]
+    requires { at < length text.now }
+    ensures { result.now ≡ drop (at + 1) text.now }
+{
+    &text[at + 1..]
+}
+
+/// The two parts of a word with one separator.
+#[tactic(auto, using(crate::proofs::Cuts::one_is_not_two, crate::proofs::Cuts::two_are_two, crate::proofs::Cuts::more_are_not_two))]
+pub fn two_parts(text: &[u8], separator: u8) -> Result<(&[u8], &[u8]), Fault>
+    ensures { seen (λ w. (w.0.now, w.1.now)) result ≡ two_words (slice_split (is_byte separator) text.now) }
+{
+    let Some(at) = first_place(text, separator) else {
+        return Err(Fault::BadLine);
+    };
+    let rest = behind(text, at);
+    match first_place(rest, separator) {
+        None => Ok((before(text, at), rest)),
+        Some(_) => Err(Fault::BadLine),
+    }
+}
+
+/// The three parts of a word with two separators.
+#[tactic(auto, using(crate::proofs::Cuts::one_is_not_three, crate::proofs::Cuts::three_are_one_and_two))]
+pub fn three_parts(text: &[u8], separator: u8) -> Result<(&[u8], &[u8], &[u8]), Fault>
+    ensures { seen (λ w. (w.0.now, w.1.now, w.2.now)) result ≡ three_words (slice_split (is_byte separator) text.now) }
+{
+    let Some(at) = first_place(text, separator) else {
+        return Err(Fault::BadLine);
+    };
+    let (second, third) = two_parts(behind(text, at), separator)?;
+    Ok((before(text, at), second, third))
+}

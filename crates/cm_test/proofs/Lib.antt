@@ -1,0 +1,6 @@
+pub mod Adjusted
+pub mod Ticks
+pub mod Same
+pub mod Inside
+pub mod Kept
+pub mod Passed

@@ -1,0 +1,6 @@
+pub mod Accepts
+pub mod Law
+pub mod Passed
+pub mod ValidList
+pub mod Steps
+pub mod Questions

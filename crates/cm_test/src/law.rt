@@ -1,0 +1,21 @@
+// What holds of the definitions alone.
+ghost use Rattle.cm_test.specs.Law.{PassedIsInside, RepairedPasses, RoundedPasses, RoundedSettles};
+ghost use Rattle.cm_test.specs.Passed.{PassedIsTaken};
+
+/// A command that the test has adjusted passes the steps up to that one.
+pub fn an_adjusted_command_passes()
+    ensures repaired { RepairedPasses }
+    ensures rounded { RoundedPasses }
+    ensures settled { RoundedSettles }
+{}
+
+/// A command that passes the first three steps has its arguments between their limits, and its lines exist.
+pub fn a_passed_command_is_inside()
+    ensures { PassedIsInside }
+{}
+
+/// A command that passes the whole test has one of its subdevice's sources at each trigger, its
+/// arguments between their limits, and a list of entries that the subdevice has.
+pub fn what_passes_is_taken()
+    ensures { PassedIsTaken }
+{}

@@ -1,0 +1,146 @@
+// The limits of each trigger's argument.
+ghost use Rattle.std.specs.Prelude.{◌≡◌, ◌≤◌, ◌<◌, ◌^◌, length, IsTrue};
+ghost use Rattle.cm_test.specs.Steps as spec;
+ghost use Rattle.cm_test.specs.Questions.{same_trigger, is_within};
+
+use cm_board::board::Sub;
+use cm_board::source::{COUNT, EXT, TIMER};
+use cm_cmd::command::{Cmd, Trig};
+
+/// The least and the greatest value of a trigger's argument.
+#[derive(Clone, Copy, Debug, PartialEq, Eq)]
+pub struct Limits {
+    pub low: u32,
+    pub high: u32,
+}
+
+/// Moves each argument to the nearest value in its limits, and tells whether all were there.
+pub fn repair(sub: &Sub, cmd: &mut Cmd) -> bool
+    requires { length cmd.old.list < 2 ^ 32 }
+    ensures cmd { cmd.new ≡ spec.repaired sub.now cmd.old }
+    ensures result { result ≡ is_within sub.now cmd.old }
+    ensures kept { IsTrue result → cmd.new ≡ cmd.old }
+{
+    let limits = start_limits(sub, cmd);
+    let start = limits.repair(&mut cmd.start);
+    let limits = scan_begin_limits(sub, cmd);
+    let scan_begin = limits.repair(&mut cmd.scan_begin);
+    let limits = convert_limits(sub, cmd);
+    let convert = limits.repair(&mut cmd.convert);
+    let limits = scan_end_limits(cmd);
+    let scan_end = limits.repair(&mut cmd.scan_end);
+    let limits = stop_limits(sub, cmd);
+    let stop = limits.repair(&mut cmd.stop);
+    start && scan_begin && convert && scan_end && stop
+}
+
+impl Limits {
+    // One value and no other.
+    fn exactly(value: u32) -> Limits
+        ensures { result ≡ spec.exactly value }
+    {
+        Limits {
+            low: value,
+            high: value,
+        }
+    }
+
+    // The external lines, counted from 0.
+    fn lines(sub: &Sub) -> Limits
+        ensures { result ≡ spec.line_limits sub.now }
+    {
+        Limits {
+            low: 0,
+            high: sub.lines.saturating_sub(1),
+        }
+    }
+
+    // Moves an argument to the nearest value in the limits, and tells whether it was there.
+    fn repair(self, trigger: &mut Trig) -> bool
+        ensures trigger { trigger.new ≡ spec.moved self trigger.old }
+        ensures result { result ≡ same_trigger trigger.new trigger.old }
+    {
+        let old = *trigger;
+        trigger.arg = trigger.arg.min(self.high).max(self.low);
+        *trigger == old
+    }
+}
+
+fn start_limits(sub: &Sub, cmd: &Cmd) -> Limits
+    ensures { result ≡ spec.start_limits sub.now cmd.now }
+{
+    match cmd.start.src {
+        EXT => Limits::lines(sub),
+        _ => Limits::exactly(0),
+    }
+}
+
+fn scan_begin_limits(sub: &Sub, cmd: &Cmd) -> Limits
+    ensures { result ≡ spec.scan_begin_limits sub.now cmd.now }
+{
+    match cmd.scan_begin.src {
+        TIMER => Limits {
+            low: sub.scan_min,
+            high: sub.scan_max,
+        },
+        EXT => Limits::lines(sub),
+        _ => Limits::exactly(0),
+    }
+}
+
+fn convert_limits(sub: &Sub, cmd: &Cmd) -> Limits
+    requires { length cmd.now.list < 2 ^ 32 }
+    ensures { result ≡ spec.convert_limits sub.now cmd.now }
+{
+    match cmd.convert.src {
+        TIMER => Limits {
+            low: sub.conv_min,
+            high: slowest_conversion(sub, cmd),
+        },
+        EXT => Limits::lines(sub),
+        _ => Limits::exactly(0),
+    }
+}
+
+// The longest time between conversions with which a scan still fits, where scans are timed.
+fn slowest_conversion(sub: &Sub, cmd: &Cmd) -> u32
+    requires { length cmd.now.list < 2 ^ 32 }
+    ensures { result ≡ spec.slowest_conversion sub.now cmd.now }
+{
+    if cmd.scan_begin.src == TIMER {
+        let time = sub.scan_max / scan_length(sub, cmd);
+        sub.conv_max.min(time / sub.tick * sub.tick)
+    } else {
+        sub.conv_max
+    }
+}
+
+/// The length of a command's list, moved into the lengths that a list may have: 1 to the
+/// subdevice's `list_max`.
+pub fn scan_length(sub: &Sub, cmd: &Cmd) -> u32
+    requires { length cmd.now.list < 2 ^ 32 }
+    ensures value { result ≡ spec.scan_length sub.now cmd.now }
+    ensures some { 1 ≤ result }
+{
+    let length = cmd.list.len() as u32;
+    length.min(sub.list_max).max(1)
+}
+
+fn scan_end_limits(cmd: &Cmd) -> Limits
+    requires { length cmd.now.list < 2 ^ 32 }
+    ensures { result ≡ spec.exactly (length cmd.now.list) }
+{
+    Limits::exactly(cmd.list.len() as u32)
+}
+
+fn stop_limits(sub: &Sub, cmd: &Cmd) -> Limits
+    ensures { result ≡ spec.stop_limits sub.now cmd.now }
+{
+    match cmd.stop.src {
+        COUNT => Limits {
+            low: 1,
+            high: sub.scans_max,
+        },
+        _ => Limits::exactly(0),
+    }
+}
