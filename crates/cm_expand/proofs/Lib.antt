@@ -1,0 +1,16 @@
+pub mod Least
+pub mod Edges
+pub mod Ticks
+pub mod Soonest
+pub mod Sound
+pub mod Conversions
+pub mod Scans
+pub mod Plans
+pub mod Triggers
+pub mod Boards
+pub mod Order
+pub mod Fits
+pub mod Codes
+pub mod Come
+pub mod Counted
+pub mod Through

@@ -1,0 +1,149 @@
+-- What each plan of a sound subdevice and sound signals keeps, over the definitions alone.
+use Rattle.std.proofs.Common.{◌≡◌, ℕ, zero, suc, ◌+◌, ◌-◌, ◌*◌, ◌<◌, ◌≤◌, ◌^◌, min, Bool, true, false, List, [], ◌∷◌, ◌++◌, length, Option, Some, None, refl, sym, ap, subst, ◌∙◌, inl, inr, arith, length-append, mul-le-mul_right, mul-le-mul_left}
+use Rattle.std.specs.Prelude.{◌==◌, IfSome, flat_map, option_map, if◌then◌else◌}
+use Rattle.std.proofs.lemmas.Bool.{cases_Bool}
+use Rattle.cm_board.specs.Board as board
+use Rattle.cm_board.specs.Board.{SubText}
+use Rattle.cm_board.specs.Source as source
+use Rattle.cm_cmd.specs.Command.{CmdText}
+use Rattle.cm_signal.specs.Signals as signals
+use Rattle.cm_test.specs.Law.{AreInside}
+use Rattle.cm_test.specs.Steps.{convert_limits, scan_begin_limits, slowest_conversion, stop_limits}
+use Rattle.cm_test.proofs.Passed.{passed}
+use Rattle.cm_expand.specs.Course.{AnyTime, AreBegins, AreConverts, AtOnce, Course, Every, OnEdges, PerEdge, Spaced, IsCourse, as_long_as, before_none, begins, begins_from, conversion, first, next_begin, scan, times}
+use Rattle.cm_expand.specs.Fit.{IsExpansion, IsFit}
+use Rattle.cm_expand.specs.Plan.{IsPlan, PlanText, begins_of, converts_of, course_from, course_of, edge_since, edges_of, first_trigger, is_edge, is_trigger, most_of, start_of, times_if, times_of}
+use Rattle.cm_expand.proofs.Fits.{fit}
+use Rattle.cm_expand.proofs.Order.{expansion}
+use Rattle.cm_expand.proofs.Plans.{least_within}
+
+-- a plan whose subdevice and signals keep their rules
+pub record IsSoundPlan (p : PlanText) : Type 0 where
+  pub sub : board.IsSound p.sub
+  pub signals : signals.IsSound p.signals
+  pub plan : IsPlan p
+
+-- a choice of three, by two tests
+start_by : (horizon t0 s : ℕ) (one two : Bool) (a b : Option ℕ) → t0 ≤ horizon → (a ≡ Some s → s ≤ horizon) → (b ≡ Some s → s ≤ horizon) → (if one then a else (if two then b else Some t0)) ≡ Some s → s ≤ horizon
+start_by horizon t0 s true two a b by first second e = first e
+start_by horizon t0 s false true a b by first second e = second e
+start_by horizon t0 s false false a b by first second e = let same : t0 ≡ s = cc in omega arith
+
+-- a command starts by the horizon
+start_within : (p : PlanText) (s : ℕ) → p.t0 ≤ p.signals.horizon → start_of p ≡ Some s → s ≤ p.signals.horizon
+start_within p s by e =
+    start_by p.signals.horizon p.t0 s (p.cmd.start.src == source.ext) (p.cmd.start.src == source.int) (edge_since p p.cmd.start.arg p.t0) (first_trigger p) by
+    (λ found. let low = least_within (is_edge (edges_of p p.cmd.start.arg)) p.t0 (p.signals.horizon + 1 - p.t0) s found in omega arith)
+    (λ found. let low = least_within (is_trigger p p.signals.ints) p.t0 (p.signals.horizon + 1 - p.t0) s found in omega arith)
+    e
+
+begins_by : (horizon arg : ℕ) (timer ext : Bool) (edges : List ℕ) → (timer ≡ true → (1 ≤ arg) × (arg < 2 ^ 32)) → (ext ≡ true → signals.AreEdges horizon edges) → AreBegins horizon (if timer then Every arg else (if ext then OnEdges edges else AnyTime))
+begins_by horizon arg true ext edges ticks lines = ticks refl
+begins_by horizon arg false true edges ticks lines = lines refl
+begins_by horizon arg false false edges ticks lines = tt
+
+converts_by : (horizon arg : ℕ) (timer ext : Bool) (edges : List ℕ) → (timer ≡ true → (1 ≤ arg) × (arg < 2 ^ 32)) → (ext ≡ true → signals.AreEdges horizon edges) → AreConverts horizon (if timer then Spaced arg else (if ext then PerEdge edges else AtOnce))
+converts_by horizon arg true ext edges ticks lines = ticks refl
+converts_by horizon arg false true edges ticks lines = lines refl
+converts_by horizon arg false false edges ticks lines = tt
+
+most_by : (horizon arg : ℕ) (counted : Bool) → horizon ≤ 10 ^ 12 → (counted ≡ true → (1 ≤ arg) × (arg ≤ 4000000000)) → (1 ≤ (if counted then arg else horizon + 1)) × ((if counted then arg else horizon + 1) ≤ 2 ^ 40)
+most_by horizon arg true by counts = (let c = counts refl in c.0, let c = counts refl in omega arith)
+most_by horizon arg false by counts = (omega arith, omega arith)
+
+slowest : (timed : Bool) (most other : ℕ) → (if timed then min most other else most) ≤ most
+slowest true most other = omega arith
+slowest false most other = omega arith
+
+period_high : (sub : SubText) (cmd : CmdText) → board.IsSound sub → AreInside sub cmd → (cmd.scan_begin.src == source.timer) ≡ true → cmd.scan_begin.arg < 2 ^ 32
+period_high sub cmd sound inside timer =
+    let high : cmd.scan_begin.arg ≤ (scan_begin_limits sub cmd).high = inside.scan_begin.high in
+    let most : cmd.scan_begin.arg ≤ sub.scan_max = rw timer at high in
+    let limit = sound.scan.high in
+    omega arith
+
+gap_high : (sub : SubText) (cmd : CmdText) → board.IsSound sub → AreInside sub cmd → (cmd.convert.src == source.timer) ≡ true → cmd.convert.arg < 2 ^ 32
+gap_high sub cmd sound inside timer =
+    let high : cmd.convert.arg ≤ (convert_limits sub cmd).high = inside.convert.high in
+    let most : cmd.convert.arg ≤ slowest_conversion sub cmd = rw timer at high in
+    let slow : slowest_conversion sub cmd ≤ sub.conv_max = slowest (cmd.scan_begin.src == source.timer) sub.conv_max _ in
+    let limit = sound.convert.high in
+    omega arith
+
+count_high : (sub : SubText) (cmd : CmdText) → board.IsSound sub → AreInside sub cmd → (cmd.stop.src == source.count) ≡ true → cmd.stop.arg ≤ 4000000000
+count_high sub cmd sound inside counted =
+    let high : cmd.stop.arg ≤ (stop_limits sub cmd).high = inside.stop.high in
+    let most : cmd.stop.arg ≤ sub.scans_max = rw counted at high in
+    let limit = sound.scans.high in
+    omega arith
+
+-- the edges of a line
+line_edges : (s : signals.SignalsText) (arg : ℕ) → signals.IsSound s → arg < 16 → signals.AreEdges s.horizon (signals.edges_at s arg)
+line_edges s arg sound below = sound.edges arg (omega (arith, sound.lines))
+
+course_is : (p : PlanText) (start : ℕ) → IsSoundPlan p → start_of p ≡ Some start → IsCourse (course_from p start)
+course_is p start sound begun =
+    let fits = fit p sound.sub sound.plan in
+    let inside = (passed p.sub p.cmd sound.sub sound.plan.passed).inside in
+    let most = most_by p.signals.horizon p.cmd.stop.arg (p.cmd.stop.src == source.count) sound.signals.horizon (λ counted. (fits.count counted, count_high p.sub p.cmd sound.sub inside counted)) in
+    record {
+      horizon = sound.signals.horizon;
+      until = omega arith;
+      start = start_within p start sound.plan.t0 begun;
+      begins = begins_by p.signals.horizon p.cmd.scan_begin.arg (p.cmd.scan_begin.src == source.timer) (p.cmd.scan_begin.src == source.ext) (edges_of p p.cmd.scan_begin.arg)
+          (λ timer. (fits.period timer, period_high p.sub p.cmd sound.sub inside timer)) (λ ext. line_edges p.signals p.cmd.scan_begin.arg sound.signals (fits.begin_line ext));
+      converts = converts_by p.signals.horizon p.cmd.convert.arg (p.cmd.convert.src == source.timer) (p.cmd.convert.src == source.ext) (edges_of p p.cmd.convert.arg)
+          (λ timer. (fits.gap timer, gap_high p.sub p.cmd sound.sub inside timer)) (λ ext. line_edges p.signals p.cmd.convert.arg sound.signals (fits.convert_line ext));
+      some = fits.some;
+      few = omega (arith, fits.few);
+      most = most.0;
+      not_more = most.1;
+    }
+
+course_if : (p : PlanText) (start : Option ℕ) → IsSoundPlan p → start_of p ≡ start → IfSome (option_map (course_from p) start) IsCourse
+course_if p None sound e = tt
+course_if p (Some start) sound e = course_is p start sound e
+
+same_horizon : (p : PlanText) (start : Option ℕ) → IfSome (option_map (course_from p) start) (λ c. c.horizon ≡ p.signals.horizon)
+same_horizon p None = tt
+same_horizon p (Some start) = refl
+
+-- what the expansion of a sound plan keeps
+pub expansion_of : (p : PlanText) → IsSoundPlan p → IsExpansion p
+expansion_of p sound = expansion p (course_of p) refl (course_if p (start_of p) sound refl) (same_horizon p (start_of p)) (fit p sound.sub sound.plan)
+
+length-before_none : (o : Option ℕ) (xs : List ℕ) → length (before_none o xs) ≤ suc (length xs)
+length-before_none None xs = omega arith
+length-before_none (Some x) xs = omega arith
+
+length-as_long_as : (f : ℕ → Option ℕ) (from count : ℕ) → length (as_long_as f from count) ≤ count
+length-as_long_as f from zero = omega arith
+length-as_long_as f from (suc count) = omega (arith, length-before_none (f from) (as_long_as f (suc from) count), length-as_long_as f (suc from) count)
+
+length-begins_from : (c : Course) (left : ℕ) (begin : Option ℕ) → length (begins_from c left begin) ≤ left
+length-begins_from c zero begin = omega arith
+length-begins_from c (suc left) None = omega arith
+length-begins_from c (suc left) (Some begin) = omega (arith, length-begins_from c left (next_begin c begin))
+
+length-scans : (c : Course) (bs : List ℕ) → length (flat_map (scan c) bs) ≤ length bs * c.per_scan
+length-scans c [] = omega arith
+length-scans c (b ∷ bs) =
+    let front = length-as_long_as (conversion c b) 0 c.per_scan in
+    let back = length-scans c bs in
+    omega (arith, length-append (scan c b) (flat_map (scan c) bs))
+
+length-times : (c : Course) → IsCourse c → length (times c) ≤ 2 ^ 56
+length-times c is =
+    let all = length-scans c (begins c) in
+    let some : length (begins c) ≤ 2 ^ 40 = omega (arith, length-begins_from c c.most (first c c.start), is.not_more) in
+    let a = mul-le-mul_right c.per_scan some in
+    let b = mul-le-mul_left (2 ^ 40) is.few in
+    omega arith
+
+length-times_if : (o : Option Course) → IfSome o IsCourse → length (times_if o) ≤ 2 ^ 56
+length-times_if None is = omega arith
+length-times_if (Some c) is = length-times c is
+
+-- an expansion isn't long
+pub length-times_of : (p : PlanText) → IsSoundPlan p → length (times_of p) ≤ 2 ^ 56
+length-times_of p sound = length-times_if (course_of p) (course_if p (start_of p) sound refl)

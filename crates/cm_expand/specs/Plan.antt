@@ -1,0 +1,111 @@
+-- What a command's expansion is made from.
+use Rattle.std.specs.Prelude.{◌≡◌, ℕ, ◌+◌, ◌-◌, ◌≤◌, ◌*◌, Bool, false, ◌&&◌, ◌||◌, ◌==◌, if◌then◌else◌, nat_le, List, [], length, Option, Some, None, option_map}
+use Rattle.std.specs.List.{list_any}
+use Rattle.cm_board.specs.Board.{SubText}
+use Rattle.cm_board.specs.Source as source
+use Rattle.cm_cmd.specs.Command.{CmdText}
+use Rattle.cm_test.specs.Questions.{tested}
+use Rattle.cm_signal.specs.Signals.{SignalsText, edges_at}
+use Rattle.cm_signal.specs.declared.signals.IntAt.{IntAt}
+use Rattle.cm_expand.specs.Course.{Course, Begins, Every, OnEdges, AnyTime, Converts, AtOnce, Spaced, PerEdge, least, times}
+
+-- a command on the subdevice at a place of its board, which is called at `t0`, and maybe given a trigger
+pub record PlanText : Type 0 where
+  pub sub : SubText
+  pub signals : SignalsText
+  pub cmd : CmdText
+  pub index : ℕ
+  pub t0 : ℕ
+  pub trig : Option ℕ
+
+-- the edges that an argument names
+abbrev pub edges_of : PlanText → ℕ → List ℕ
+edges_of p arg = edges_at p.signals arg
+
+abbrev pub is_edge : List ℕ → ℕ → Bool
+is_edge edges t = list_any (λ edge. edge == t) edges
+
+-- the first edge not below a time
+abbrev pub edge_since : PlanText → ℕ → ℕ → Option ℕ
+edge_since p arg from = least (is_edge (edges_of p arg)) from (p.signals.horizon + 1 - from)
+
+abbrev pub is_given : Option ℕ → ℕ → Bool
+is_given None t = false
+is_given (Some given) t = given == t
+
+-- an internal trigger of this subdevice with the start argument as number
+abbrev pub is_own : PlanText → IntAt → Bool
+is_own p int = int.sub == p.index && int.arg == p.cmd.start.arg
+
+-- when such a trigger comes, where it isn't below the time of the call
+abbrev pub own_time : PlanText → IntAt → Option ℕ
+own_time p int = if is_own p int && nat_le p.t0 int.time then Some int.time else None
+
+-- whether one of these triggers, or the given one, comes at a time
+abbrev pub is_trigger : PlanText → List IntAt → ℕ → Bool
+is_trigger p ints t = is_given p.trig t || list_any (λ int. is_own p int && int.time == t) ints
+
+-- the first internal trigger not below the time of the call
+abbrev pub first_trigger : PlanText → Option ℕ
+first_trigger p = least (is_trigger p p.signals.ints) p.t0 (p.signals.horizon + 1 - p.t0)
+
+-- when the command starts, if it does
+abbrev pub start_of : PlanText → Option ℕ
+start_of p =
+    if p.cmd.start.src == source.ext then edge_since p p.cmd.start.arg p.t0
+    else (if p.cmd.start.src == source.int then first_trigger p else Some p.t0)
+
+abbrev pub begins_of : PlanText → Begins
+begins_of p =
+    if p.cmd.scan_begin.src == source.timer then Every p.cmd.scan_begin.arg
+    else (if p.cmd.scan_begin.src == source.ext then OnEdges (edges_of p p.cmd.scan_begin.arg) else AnyTime)
+
+abbrev pub converts_of : PlanText → Converts
+converts_of p =
+    if p.cmd.convert.src == source.timer then Spaced p.cmd.convert.arg
+    else (if p.cmd.convert.src == source.ext then PerEdge (edges_of p p.cmd.convert.arg) else AtOnce)
+
+-- how many scans there are at most: the stop count, or as many as there are nanoseconds, since a scan takes one at least
+abbrev pub most_of : PlanText → ℕ
+most_of p = if p.cmd.stop.src == source.count then p.cmd.stop.arg else p.signals.horizon + 1
+
+abbrev pub course_from : PlanText → ℕ → Course
+course_from p start = record {
+  start = start;
+  begins = begins_of p;
+  converts = converts_of p;
+  per_scan = length p.cmd.list;
+  most = most_of p;
+  until = p.signals.horizon + 1;
+  horizon = p.signals.horizon;
+}
+
+abbrev pub course_of : PlanText → Option Course
+course_of p = option_map (course_from p) (start_of p)
+
+-- the times of a course, and none without one
+abbrev pub times_if : Option Course → List ℕ
+times_if None = []
+times_if (Some c) = times c
+
+-- the times of the expansion
+abbrev pub times_of : PlanText → List ℕ
+times_of p = times_if (course_of p)
+
+-- how many conversions a command with a stop count has when it is complete
+abbrev pub whole_count : PlanText → Option ℕ
+whole_count p = if p.cmd.stop.src == source.count then Some (p.cmd.stop.arg * length p.cmd.list) else None
+
+abbrev pub is_complete_by : Option ℕ → PlanText → Bool
+is_complete_by (Some count) p = length (times_of p) == count
+is_complete_by None p = false
+
+-- whether the expansion has all conversions of its stop count
+abbrev pub is_complete : PlanText → Bool
+is_complete p = is_complete_by (whole_count p) p
+
+-- the command passes the test, and the times are within the signals
+pub record IsPlan (p : PlanText) : Type 0 where
+  pub passed : (tested p.sub p.cmd).0 ≡ 0
+  pub t0 : p.t0 ≤ p.signals.horizon
+  pub given : (t : ℕ) → p.trig ≡ Some t → (p.t0 ≤ t) × (t ≤ p.signals.horizon)

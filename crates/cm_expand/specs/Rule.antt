@@ -1,0 +1,40 @@
+-- The munge of a command's buffer.
+use Rattle.std.specs.Prelude.{ℕ, ◌/◌, ◌%◌, Bool, true, false, ◌==◌, length, slice_index, if◌then◌else◌}
+use Rattle.cm_board.specs.Board.{SubText, maxdata_of, munge_of}
+use Rattle.cm_board.specs.declared.board.Kind.{Kind}
+use Rattle.cm_board.specs.declared.board.Kind.TheVariants as kinds
+use Rattle.cm_cmd.specs.Command.{CmdText}
+use Rattle.cm_cmd.specs.Entry.{chan}
+use Rattle.cm_sample.specs.Munging.{munged, unmunged}
+use Rattle.cm_sample.specs.declared.rule.MungeRule.{MungeRule}
+
+-- the kinds whose commands put samples out
+abbrev pub is_output : Kind → Bool
+is_output kinds.Ao = true
+is_output kinds.Do = true
+is_output kind = false
+
+-- the flags ask for words that aren't munged
+abbrev pub is_raw : ℕ → Bool
+is_raw flags = flags / 128 % 2 == 1
+
+-- the channel of a place, whose entry is that of the place modulo the list's length
+abbrev pub chan_at : CmdText → ℕ → ℕ
+chan_at cmd place = chan (slice_index cmd.list (place % length cmd.list))
+
+-- the munged word of a place, by the munge and the greatest code of its channel
+abbrev pub munged_at : SubText → CmdText → ℕ → ℕ → ℕ
+munged_at sub cmd place word =
+    if is_raw cmd.flags then word
+    else (if is_output sub.kind then unmunged (munge_of sub (chan_at cmd place)) (maxdata_of sub (chan_at cmd place)) word
+    else munged (munge_of sub (chan_at cmd place)) (maxdata_of sub (chan_at cmd place)) word)
+
+-- the rule of a command
+abbrev pub rule_of : SubText → CmdText → MungeRule
+rule_of sub cmd = record {
+  kind = munge_of sub (chan_at cmd 0);
+  maxdata = maxdata_of sub (chan_at cmd 0);
+  len = length cmd.list;
+  out = is_output sub.kind;
+  raw = is_raw cmd.flags;
+}

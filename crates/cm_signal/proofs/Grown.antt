@@ -1,0 +1,236 @@
+-- Signals with one line more keep what signals keep.
+use Rattle.std.proofs.Common.{◌≡◌, ℕ, zero, suc, ◌+◌, ◌-◌, ◌<◌, ◌≤◌, ◌^◌, List, [], ◌∷◌, ◌++◌, length, get_or, set, Bool, true, false, cond, ◌&&◌, refl, ap, sym, subst, ◌∙◌, inl, inr, arith, rules, length-append}
+use Rattle.std.specs.Prelude.{◌==◌, ◌||◌, not, nat_le, int_le, slice_set, replicate}
+use Rattle.std.specs.List.{list_all, list_any}
+use Rattle.std.specs.List.Sorted.{IsStrictlyIncreasing}
+use Rattle.std.proofs.lemmas.Bool.{cases_Bool, cases_eq, cases_lt, eqb-true, eq-eqb, leb-true, le-leb, and_from, or_from}
+use Rattle.std.proofs.lemmas.List.Folds.{list_all_at, list_any-append}
+use Rattle.std.proofs.Math.ListN.{get_or-append}
+use Rattle.std.proofs.Math.Seq.{get_or-append_right}
+use Rattle.std.proofs.lemmas.List.Elements.{All-nil, All-push}
+use Rattle.std.proofs.lemmas.List.{get_or-set_same, get_or-set_other, length-set}
+use Rattle.cm_signal.specs.Said.{HasPeriod}
+use Rattle.cm_signal.specs.Signals.{SignalsText, IsSound, IsWave, AreEdges, edge_count, edges_at, have_own, is_at}
+use Rattle.cm_signal.specs.SignalsPart.{is_fine, has_room, rises_from, silent}
+use Rattle.cm_signal.specs.declared.signals.IntAt.{IntAt}
+use Rattle.cm_signal.specs.declared.wave.Wave.{Wave}
+use Rattle.cm_signal.specs.declared.wave.Wave.TheVariants.{Const, Square, Saw, Table}
+use Rattle.cm_signal.specs.declared.wave.WaveAt.{WaveAt}
+
+both : (a b : Bool) → (a && b) ≡ true → (a ≡ true) × (b ≡ true)
+both true b e = (refl, e)
+both false b e = cc
+
+-- what holds of all items by a test
+pub all_at : (test : ℕ → Bool) (xs : List ℕ) (i : ℕ) → list_all test xs ≡ true → i < length xs → test (get_or xs i 0) ≡ true
+all_at test xs i all inside = elim (cases_Bool (test (get_or xs i 0))) [
+  | inl passes ↦ passes
+  | inr fails ↦ let none = list_all_at test xs i 0 inside fails in cc
+]
+
+-- a wave with its period whose saw does not fall
+pub is_wave : (wave : Wave) → HasPeriod wave → is_fine wave ≡ true → IsWave wave
+is_wave (Const level) has fine = tt
+is_wave (Square low high period) has fine = has
+is_wave (Saw low high period) has fine = (let h : int_le low high ≡ true = fine in search rules, has.0, has.1)
+is_wave (Table period levels) has fine = has
+
+-- two waves are of one channel, seen from either
+same_channel : (w x : WaveAt) → is_at w.sub w.chan x ≡ false → is_at x.sub x.chan w ≡ false
+same_channel w x other = elim (cases_Bool (is_at x.sub x.chan w)) [
+  | inl same ↦
+      let parts = both (w.sub == x.sub) (w.chan == x.chan) same in
+      let sub = eq-eqb x.sub w.sub (sym (eqb-true w.sub x.sub parts.0)) in
+      let chan = eq-eqb x.chan w.chan (sym (eqb-true w.chan x.chan parts.1)) in
+      let seen = and_from (x.sub == w.sub) (x.chan == w.chan) sub chan in
+      cc
+  | inr apart ↦ apart
+]
+
+neither : (a b : Bool) → (a || b) ≡ false → (a ≡ false) × (b ≡ false)
+neither true b e = cc
+neither false b e = (refl, e)
+
+not_false : (b : Bool) → b ≡ false → not b ≡ true
+not_false true e = cc
+not_false false e = refl
+
+not_true : (b : Bool) → not b ≡ true → b ≡ false
+not_true true e = cc
+not_true false e = refl
+
+-- one wave more
+pub own_more : (ws : List WaveAt) (w : WaveAt) → have_own ws ≡ true → list_any (is_at w.sub w.chan) ws ≡ false → have_own (ws ++ w ∷ []) ≡ true
+unfolding have_own
+own_more [] w own other = refl
+own_more (x ∷ xs) w own other =
+    let apart = neither (is_at w.sub w.chan x) (list_any (is_at w.sub w.chan) xs) other in
+    let parts = both (not (list_any (is_at x.sub x.chan) xs)) (have_own xs) own in
+    let none = or_from _ _ (not_true (list_any (is_at x.sub x.chan) xs) parts.0) (or_from (is_at x.sub x.chan w) false (same_channel w x apart.0) refl) in
+    and_from _ _ (not_false _ (list_any-append (is_at x.sub x.chan) xs (w ∷ []) ∙ none)) (own_more xs w parts.1 apart.1)
+
+-- the least time behind others
+behind : ℕ → List ℕ → ℕ
+behind least [] = least
+behind least (x ∷ xs) = behind (x + 1) xs
+
+rises_append : (least : ℕ) (xs ys : List ℕ) → rises_from least xs ≡ true → rises_from least (xs ++ ys) ≡ rises_from (behind least xs) ys
+unfolding behind
+rises_append least [] ys e = refl
+rises_append least (x ∷ xs) ys e =
+    let parts = both (nat_le least x) (rises_from (x + 1) xs) e in
+    ap (λ t. t && rises_from (x + 1) (xs ++ ys)) parts.0 ∙ rises_append (x + 1) xs ys parts.1
+
+behind_last : (least : ℕ) (xs : List ℕ) → 0 < length xs → behind least xs ≡ get_or xs (length xs - 1) 0 + 1
+unfolding behind
+behind_last least [] some = absurd (omega arith)
+behind_last least (x ∷ []) some = refl
+behind_last least (x ∷ y ∷ more) some =
+    let last : suc (length (y ∷ more) - 1) ≡ length (x ∷ y ∷ more) - 1 = omega arith in
+    behind_last (x + 1) (y ∷ more) (omega arith) ∙ ap (λ n. get_or (x ∷ y ∷ more) n 0 + 1) last
+
+-- rising times rise from each number that isn't above the first
+rising : (least : ℕ) (xs : List ℕ) → IsStrictlyIncreasing xs → (0 < length xs → least ≤ get_or xs 0 0) → rises_from least xs ≡ true
+rising least [] rise low = refl
+rising least (x ∷ xs) rise low =
+    and_from (nat_le least x) _ (le-leb least x (low (omega arith))) (rising (x + 1) xs (λ k h.
+    let step = rise (suc k) (omega arith) in
+    let next : suc k + 1 ≡ suc (k + 1) = omega arith in
+    let there = ap (λ n. get_or (x ∷ xs) n 0) next in
+    omega arith) (λ h. let first = rise 0 (omega arith) in omega arith))
+
+pub rises_behind_is : (xs ys : List ℕ) → IsStrictlyIncreasing xs → 0 < length xs → rises_from 0 (xs ++ ys) ≡ rises_from (get_or xs (length xs - 1) 0 + 1) ys
+rises_behind_is xs ys rise some = rises_append 0 xs ys (rising 0 xs rise (λ h. omega arith)) ∙ ap (λ n. rises_from n ys) (behind_last 0 xs some)
+
+-- times that rise from a number rise
+pub increasing : (least : ℕ) (xs : List ℕ) → rises_from least xs ≡ true → IsStrictlyIncreasing xs
+increasing least [] e k h = absurd (omega arith)
+increasing least (x ∷ []) e k h = absurd (omega arith)
+increasing least (x ∷ y ∷ more) e zero h =
+    let parts = both (nat_le least x) (rises_from (x + 1) (y ∷ more)) e in
+    let next = both (nat_le (x + 1) y) (rises_from (y + 1) more) parts.1 in
+    let above = leb-true (x + 1) y next.0 in
+    omega arith
+increasing least (x ∷ y ∷ more) e (suc k) h =
+    let parts = both (nat_le least x) (rises_from (x + 1) (y ∷ more)) e in
+    let step = increasing (x + 1) (y ∷ more) parts.1 k (omega arith) in
+    let later : suc k + 1 ≡ suc (k + 1) = omega arith in
+    let there = ap (λ n. get_or (x ∷ y ∷ more) n 0) later in
+    omega arith
+
+-- the edges of one line are among all
+one_line : (edges : List (List ℕ)) (line : ℕ) → line < length edges → length (get_or edges line []) ≤ edge_count edges
+one_line [] line h = absurd (omega arith)
+one_line (x ∷ xs) zero h = omega arith
+one_line (x ∷ xs) (suc line) h = let rest = one_line xs line (omega arith) in omega arith
+
+-- other edges on a line
+count_set : (edges : List (List ℕ)) (line : ℕ) (new : List ℕ) → line < length edges → edge_count (set edges line new) + length (get_or edges line []) ≡ edge_count edges + length new
+count_set [] line new h = absurd (omega arith)
+count_set (x ∷ xs) zero new h = omega arith
+count_set (x ∷ xs) (suc line) new h = let rest = count_set xs line new (omega arith) in omega arith
+
+-- signals with other edges on a line
+pub sound_with : (s : SignalsText) (line : ℕ) (new : List ℕ) → IsSound s → line < 16 → AreEdges s.horizon new → edge_count s.edges + length new ≤ 10 ^ 5 + length (edges_at s line) →
+    IsSound (record s { edges = slice_set s.edges line new })
+sound_with s line new sound h are room =
+    let lines = sound.lines in
+    let counted = count_set s.edges line new (omega arith) in
+    record {
+      horizon = sound.horizon;
+      lines = length-set s.edges line new ∙ sound.lines;
+      edges = λ k below. elim (cases_eq k line) [
+        | inl same ↦ subst (λ n. AreEdges s.horizon (get_or (set s.edges line new) n [])) (sym same) (subst (AreEdges s.horizon) (sym (get_or-set_same s.edges line new [] (omega arith))) are)
+        | inr other ↦ subst (AreEdges s.horizon) (sym (get_or-set_other s.edges line k new [] other)) (sound.edges k (let same = length-set s.edges line new in omega arith))
+      ];
+      few_edges = omega arith;
+      waves = sound.waves;
+      own = sound.own;
+      ints = sound.ints;
+      few_ints = sound.few_ints;
+    }
+
+-- the edges of a line with those of one text line more
+pub more_edges : (s : SignalsText) (line : ℕ) (times : List ℕ) → IsSound s → line < 16 → has_room s times ≡ true → rises_from 0 (edges_at s line ++ times) ≡ true → AreEdges s.horizon (edges_at s line ++ times)
+more_edges s line times sound h room rise =
+    let lines = sound.lines in
+    let parts = both (list_all (λ time. nat_le time s.horizon) times) (nat_le (edge_count s.edges + length times) 100000) room in
+    let few = leb-true _ 100000 parts.1 in
+    let one = one_line s.edges line (omega arith) in
+    let long = length-append (edges_at s line) times in
+    record {
+      rise = increasing 0 _ rise;
+      within = λ k below. elim (cases_lt k (length (edges_at s line))) [
+        | inl old ↦ subst (λ t. t ≤ s.horizon) (sym (get_or-append (edges_at s line) times 0 k old)) ((sound.edges line (omega arith)).within k old)
+        | inr new ↦
+            subst (λ t. t ≤ s.horizon) (sym (get_or-append_right (edges_at s line) times k 0 new))
+            (leb-true _ s.horizon (all_at (λ time. nat_le time s.horizon) times (k - length (edges_at s line)) parts.0 (omega arith)))
+      ];
+      few = omega arith;
+    }
+
+-- a place that a line names has at most so many edges, all of them early
+pub early : (s : SignalsText) (times : List ℕ) → IsSound s → has_room s times ≡ true → (k : ℕ) → k < length times → get_or times k 0 ≤ 10 ^ 12
+early s times sound room k h =
+    let parts = both (list_all (λ time. nat_le time s.horizon) times) (nat_le (edge_count s.edges + length times) 100000) room in
+    let low = leb-true _ s.horizon (all_at (λ time. nat_le time s.horizon) times k parts.0 h) in
+    let high = sound.horizon in
+    omega arith
+
+-- one wave more
+pub more_waves : (s : SignalsText) (w : WaveAt) → IsSound s → HasPeriod w.wave → list_any (is_at w.sub w.chan) s.waves ≡ false → is_fine w.wave ≡ true → IsSound (record s { waves = s.waves ++ w ∷ [] })
+more_waves s w sound period other fine = record {
+  horizon = sound.horizon;
+  lines = sound.lines;
+  edges = sound.edges;
+  few_edges = sound.few_edges;
+  waves = All-push (λ x. IsWave x.wave) s.waves w sound.waves (is_wave w.wave period fine);
+  own = own_more s.waves w sound.own other;
+  ints = sound.ints;
+  few_ints = sound.few_ints;
+}
+
+-- the edges of a line as they were, or with more
+pub edges_either : (s : SignalsText) (line : ℕ) (times : List ℕ) (done : Bool) → IsSound s → line < 16 → has_room s times ≡ true → rises_from 0 (edges_at s line ++ times) ≡ true →
+    IsSound (record s { edges = slice_set s.edges line (cond done (edges_at s line ++ times) (edges_at s line)) })
+edges_either s line times true sound h room rise =
+    let parts = both (list_all (λ time. nat_le time s.horizon) times) (nat_le (edge_count s.edges + length times) 100000) room in
+    let few = leb-true _ 100000 parts.1 in
+    let long = length-append (edges_at s line) times in
+    sound_with s line (edges_at s line ++ times) sound h (more_edges s line times sound h room rise) (omega arith)
+edges_either s line times false sound h room rise =
+    let lines = sound.lines in
+    let few = sound.few_edges in
+    sound_with s line (edges_at s line) sound h (sound.edges line (omega arith)) (omega arith)
+
+no_edges_anywhere : (horizon n : ℕ) (line : ℕ) → AreEdges horizon (get_or (replicate n []) line [])
+no_edges_anywhere horizon n line = subst (AreEdges horizon) (sym (nothing n line)) (record { rise = λ k h. absurd (omega arith); within = λ k h. absurd (omega arith); few = omega arith })
+  where
+    nothing : (n line : ℕ) → get_or (replicate {A = List ℕ} n []) line [] ≡ []
+    nothing zero line = refl
+    nothing (suc n) zero = refl
+    nothing (suc n) (suc line) = nothing n line
+
+none_counted : (n : ℕ) → edge_count (replicate n []) ≡ 0
+none_counted zero = refl
+none_counted (suc n) = let rest = none_counted n in omega arith
+
+-- silence
+pub silent_sound : (horizon : ℕ) → horizon ≤ 10 ^ 12 → IsSound (silent horizon)
+unfolding have_own
+silent_sound horizon h = record {
+  horizon = h;
+  lines = refl;
+  edges = λ line below. no_edges_anywhere horizon 16 line;
+  few_edges = let none = none_counted 16 in omega arith;
+  waves = All-nil (λ x. IsWave x.wave);
+  own = refl;
+  ints = All-nil (λ int. int.time ≤ horizon);
+  few_ints = omega arith;
+}
+
+pub silent_like : (horizon : ℕ) (waves : List WaveAt) (edges : List (List ℕ)) (ints : List IntAt) → waves ≡ [] → edges ≡ replicate 16 [] → ints ≡ [] → horizon ≤ 10 ^ 12 →
+    IsSound (record { horizon = horizon; waves = waves; edges = edges; ints = ints })
+silent_like horizon waves edges ints no_waves no_edges no_ints h =
+    let same : ◌≡◌ {A = SignalsText} (record { horizon = horizon; waves = waves; edges = edges; ints = ints }) (silent horizon) = λ i. record { horizon = horizon; waves = no_waves i; edges = no_edges i; ints = no_ints i } in
+    subst IsSound (sym same) (silent_sound horizon h)

@@ -1,0 +1,4 @@
+pub mod Said
+pub mod Signals
+pub mod SignalsPart
+pub mod View

@@ -1,0 +1,72 @@
+-- The signals at a board's inputs.
+use Rattle.std.specs.Prelude.{◌≡◌, ℕ, ◌+◌, ◌*◌, ◌/◌, ◌%◌, ◌<◌, ◌≤◌, ◌^◌, Bool, true, not, ℤ, pos, ◌+ℤ◌, ◌-ℤ◌, ◌≤ℤ◌, unsigned_abs, List, [], ◌∷◌, length, slice_index, slice_index_or, IsTrue, if◌then◌else◌, nat_lt, ◌==◌, ◌&&◌}
+use Rattle.std.specs.List.{All, list_any}
+use Rattle.std.specs.List.Sorted.{IsStrictlyIncreasing}
+use Rattle.cm_signal.specs.declared.signals.IntAt.{IntAt}
+use Rattle.cm_signal.specs.declared.wave.Wave.{Wave}
+use Rattle.cm_signal.specs.declared.wave.Wave.TheVariants.{Const, Square, Saw, Table}
+use Rattle.cm_signal.specs.declared.wave.WaveAt.{WaveAt}
+
+-- signals as a plain record
+pub record SignalsText : Type 0 where
+  pub horizon : ℕ
+  pub waves : List WaveAt
+  pub edges : List (List ℕ)
+  pub ints : List IntAt
+
+-- a wave has a period, a saw rises, and a table has levels
+abbrev pub IsWave : Wave → Type 0
+IsWave (Const level) = Unit {0}
+IsWave (Square low high period) = (1 ≤ period) × (period ≤ 10 ^ 12)
+IsWave (Saw low high period) = (low ≤ℤ high) × (1 ≤ period) × (period ≤ 10 ^ 12)
+IsWave (Table period levels) = (1 ≤ period) × (period ≤ 10 ^ 12) × (1 ≤ length levels) × (length levels ≤ 64)
+
+-- edges rise, none is above the horizon, and there aren't too many
+pub record AreEdges (horizon : ℕ) (edges : List ℕ) : Type 0 where
+  pub rise : IsStrictlyIncreasing edges
+  pub within : (k : ℕ) → k < length edges → slice_index edges k ≤ horizon
+  pub few : length edges ≤ 10 ^ 5
+
+-- the edges of a line
+abbrev pub edges_at : SignalsText → ℕ → List ℕ
+edges_at s line = slice_index_or s.edges line []
+
+-- how many edges all lines have together
+abbrev pub edge_count : List (List ℕ) → ℕ
+edge_count [] = 0
+edge_count (edges ∷ more) = length edges + edge_count more
+
+-- the wave is that of this channel
+abbrev pub is_at : ℕ → ℕ → WaveAt → Bool
+is_at sub chan w = w.sub == sub && w.chan == chan
+
+-- no channel has two waves
+unfoldable pub have_own : List WaveAt → Bool
+have_own [] = true
+have_own (w ∷ ws) = not (list_any (is_at w.sub w.chan) ws) && have_own ws
+
+-- what signals keep
+pub record IsSound (s : SignalsText) : Type 0 where
+  pub horizon : s.horizon ≤ 10 ^ 12
+  pub lines : length s.edges ≡ 16
+  pub edges : (line : ℕ) → line < length s.edges → AreEdges s.horizon (slice_index_or s.edges line [])
+  pub few_edges : edge_count s.edges ≤ 10 ^ 5
+  pub waves : All (λ w. IsWave w.wave) s.waves
+  pub own : IsTrue (have_own s.waves)
+  pub ints : All (λ int. int.time ≤ s.horizon) s.ints
+  pub few_ints : length s.ints ≤ 1000
+
+-- the level of a wave at a time
+abbrev pub wave_level : Wave → ℕ → ℤ
+wave_level (Const level) t = level
+wave_level (Square low high period) t = if nat_lt (2 * (t % period)) period then low else high
+wave_level (Saw low high period) t = low +ℤ pos (unsigned_abs (high -ℤ low) * (t % period) / period)
+wave_level (Table period levels) t = slice_index_or levels (t / period % length levels) (pos 0)
+
+-- the level of a channel: that of its wave, and 0 where it has none
+abbrev pub level_from : List WaveAt → ℕ → ℕ → ℕ → ℤ
+level_from [] sub chan t = pos 0
+level_from (w ∷ ws) sub chan t = if is_at sub chan w then wave_level w.wave t else level_from ws sub chan t
+
+abbrev pub level : SignalsText → ℕ → ℕ → ℕ → ℤ
+level s sub chan t = level_from s.waves sub chan t

@@ -1,0 +1,187 @@
+-- The signals part of a text.
+use Rattle.std.specs.Prelude.{ℕ, zero, suc, ◌+◌, Bool, true, false, ◌&&◌, nat_le, nat_lt, int_le, List, [], ◌∷◌, ◌++◌, length, drop, replicate, slice_get, slice_set, Option, Some, None, codes, Result, Ok, Err, if◌then◌else◌}
+use Rattle.std.specs.List.{before_first, list_all, list_any, position_or_len}
+use Rattle.cm_base.specs.Lines.{LineText}
+use Rattle.cm_base.specs.Numbers.{number_of}
+use Rattle.cm_base.specs.Parts.{begins, fixed}
+use Rattle.cm_base.specs.Reading.{◌>>=◌, read_on}
+use Rattle.cm_base.specs.Words.{Form, alone, each_word, four_words, keyword, limited, number_below, number_in, one, one_and_more, one_word, or_fault, signed_number, three_and_more, three_words, values}
+use Rattle.cm_base.specs.declared.faults.Fault.{Fault}
+use Rattle.cm_base.specs.declared.faults.Fault.TheVariants.{Bad, BadLine, BadNumber, Double, Limit}
+use Rattle.cm_base.specs.declared.faults.Refused.{Refused}
+use Rattle.cm_board.specs.Board.{BoardText, SubText}
+use Rattle.cm_board.specs.declared.board.Kind.{Kind}
+use Rattle.cm_board.specs.declared.board.Kind.TheVariants as kinds
+use Rattle.cm_signal.specs.Signals.{SignalsText, edge_count, edges_at, is_at}
+use Rattle.cm_signal.specs.declared.said.Said.{Said}
+use Rattle.cm_signal.specs.declared.said.Said.TheVariants as said
+use Rattle.cm_signal.specs.declared.wave.Wave.{Wave}
+use Rattle.cm_signal.specs.declared.wave.Wave.TheVariants as waves
+use Rattle.cm_signal.specs.declared.wave.WaveAt.{WaveAt}
+
+-- the kinds whose channels have levels from outside
+abbrev pub has_levels : Kind → Bool
+has_levels kinds.Ai = true
+has_levels kinds.Di = true
+has_levels kinds.Dio = true
+has_levels kind = false
+
+-- how many channels with levels a subdevice has
+abbrev pub level_channels : Option SubText → ℕ
+level_channels None = 0
+level_channels (Some sub) = if has_levels sub.kind then sub.channels else 0
+
+-- the place of a subdevice with levels
+abbrev pub input_word : List SubText → List ℕ → Result ℕ Fault
+input_word subs word = number_below (length subs) word >>= λ sub. limited (nat_lt 0 (level_channels (slice_get subs sub))) sub
+
+-- a channel with levels, by the subdevice's place and its own number
+abbrev pub channel_words : List SubText → List ℕ → List ℕ → Result (ℕ × ℕ) Fault
+channel_words subs sub chan = input_word subs sub >>= λ s. number_below (level_channels (slice_get subs s)) chan >>= λ c. Ok (s, c)
+
+abbrev pub wave_said : ℕ × ℕ → Wave → Said
+wave_said at wave = said.Wave (record { sub = at.0; chan = at.1; wave = wave })
+
+abbrev pub period_word : List ℕ → Result ℕ Fault
+period_word = number_in 1 1000000000000
+
+-- the forms of `wave SUB CHAN KIND ..`, by the words behind the kind
+abbrev pub const_words : List SubText → List ℕ → List ℕ → Form Said
+const_words subs sub chan words = one_word words >>= λ w. channel_words subs sub chan >>= λ at. signed_number w >>= λ v. Ok (wave_said at (waves.Const v))
+
+abbrev pub square_words : List SubText → List ℕ → List ℕ → Form Said
+square_words subs sub chan words =
+    three_words words >>= λ w. channel_words subs sub chan >>= λ at.
+    signed_number w.0 >>= λ low. signed_number w.1 >>= λ high. period_word w.2 >>= λ period.
+    Ok (wave_said at (waves.Square low high period))
+
+abbrev pub saw_words : List SubText → List ℕ → List ℕ → Form Said
+saw_words subs sub chan words =
+    three_words words >>= λ w. channel_words subs sub chan >>= λ at.
+    signed_number w.0 >>= λ low. signed_number w.1 >>= λ high. period_word w.2 >>= λ period.
+    Ok (wave_said at (waves.Saw low high period))
+
+abbrev pub table_words : List SubText → List ℕ → List ℕ → Form Said
+table_words subs sub chan words =
+    one_and_more words >>= λ w. channel_words subs sub chan >>= λ at.
+    period_word w.0 >>= λ period. values 64 signed_number [] w.1 >>= λ levels.
+    Ok (wave_said at (waves.Table period levels))
+
+abbrev pub wave_forms : List SubText → List (List ℕ × (List ℕ → List ℕ → Form Said))
+wave_forms subs = (codes "const", const_words subs) ∷ (codes "square", square_words subs) ∷ (codes "saw", saw_words subs) ∷ (codes "table", table_words subs) ∷ []
+
+-- `wave SUB CHAN KIND ..`
+abbrev pub wave_words : List SubText → Form Said
+wave_words subs words = three_and_more words >>= λ w. keyword (wave_forms subs) w.2 >>= λ form. form w.0 w.1 w.3
+
+-- the number of an external line
+abbrev pub line_word : List ℕ → Result ℕ Fault
+line_word = number_in 0 15
+
+-- `edges LINE T..`
+abbrev pub edges_words : ℕ → Form Said
+edges_words horizon words = one_and_more words >>= λ w. line_word w.0 >>= λ line. each_word (number_in 0 horizon) [] w.1 >>= λ times. Ok (said.Edges line times)
+
+-- so many times, each a period behind the one before
+abbrev pub progression : ℕ → ℕ → ℕ → List ℕ
+progression first period zero = []
+progression first period (suc count) = first ∷ progression (first + period) period count
+
+-- the numbers of `every LINE FIRST PERIOD COUNT`
+abbrev pub every_numbers : Form (ℕ × ℕ × ℕ × ℕ)
+every_numbers words =
+    four_words words >>= λ w. line_word w.0 >>= λ line. or_fault BadNumber (number_of w.1) >>= λ first.
+    period_word w.2 >>= λ period. number_in 1 100000 w.3 >>= λ count. Ok (line, first, period, count)
+
+abbrev pub every_words : Form Said
+every_words words = every_numbers words >>= λ n. Ok (said.Edges n.0 (progression n.1 n.2 n.3))
+
+-- `int SUB T ARG`
+abbrev pub int_words : List SubText → ℕ → Form Said
+int_words subs horizon words =
+    three_words words >>= λ w. number_below (length subs) w.0 >>= λ sub. number_in 0 horizon w.1 >>= λ time. number_in 0 4294967295 w.2 >>= λ arg.
+    Ok (said.Int (record { sub = sub; time = time; arg = arg }))
+
+-- the lines of the part, by their first word
+abbrev pub signal_forms : List SubText → ℕ → List (List ℕ × Form Said)
+signal_forms subs horizon =
+    (codes "wave", wave_words subs) ∷ (codes "edges", edges_words horizon) ∷ (codes "every", every_words) ∷ (codes "int", int_words subs horizon) ∷ []
+
+abbrev pub said_words : List SubText → ℕ → List (List ℕ) → Result Said Fault
+said_words subs horizon [] = Err BadLine
+said_words subs horizon (key ∷ words) = keyword (signal_forms subs horizon) key >>= λ form. form words
+
+-- what a line of the part says by itself
+abbrev pub said_line : List SubText → ℕ → LineText → Result Said Fault
+said_line subs horizon line = if line.bad then Err BadLine else said_words subs horizon line.words
+
+-- a saw does not fall
+abbrev pub is_fine : Wave → Bool
+is_fine (waves.Saw low high period) = int_le low high
+is_fine wave = true
+
+-- times that rise strictly, none below `least`
+abbrev pub rises_from : ℕ → List ℕ → Bool
+rises_from least [] = true
+rises_from least (time ∷ times) = nat_le least time && rises_from (time + 1) times
+
+-- none of these edges is above the horizon, and all edges together aren't too many
+abbrev pub has_room : SignalsText → List ℕ → Bool
+has_room s times = list_all (λ time. nat_le time s.horizon) times && nat_le (edge_count s.edges + length times) 100000
+
+-- whether a line's wave may stand behind those before it
+abbrev pub checked_wave : SignalsText → WaveAt → Result (Unit {0}) Fault
+checked_wave s w = if list_any (is_at w.sub w.chan) s.waves then Err Double else (if is_fine w.wave then Ok tt else Err Bad)
+
+-- whether a line's edges may stand behind those before them
+abbrev pub checked_edges : SignalsText → ℕ → List ℕ → Result (Unit {0}) Fault
+checked_edges s line times = if has_room s times then (if rises_from 0 (edges_at s line ++ times) then Ok tt else Err Bad) else Err Limit
+
+-- whether a line's trigger may stand behind those before it
+abbrev pub checked_int : SignalsText → Result (Unit {0}) Fault
+checked_int s = limited (nat_lt (length s.ints) 1000) tt
+
+-- whether a line may stand behind those before it
+abbrev pub checked : SignalsText → Said → Result (Unit {0}) Fault
+checked s (said.Wave w) = checked_wave s w
+checked s (said.Edges line times) = checked_edges s line times
+checked s (said.Int int) = checked_int s
+
+-- the signals with one line more
+abbrev pub with_said : SignalsText → Said → SignalsText
+with_said s (said.Wave w) = record s { waves = s.waves ++ w ∷ [] }
+with_said s (said.Edges line times) = record s { edges = slice_set s.edges line (edges_at s line ++ times) }
+with_said s (said.Int int) = record s { ints = s.ints ++ int ∷ [] }
+
+-- what a line adds to the signals of the lines before it
+abbrev pub said_behind : List SubText → SignalsText → LineText → Result SignalsText Fault
+said_behind subs s line = said_line subs s.horizon line >>= λ what. checked s what >>= λ fits. Ok (with_said s what)
+
+-- no wave, no edge and no trigger
+abbrev pub silent : ℕ → SignalsText
+silent horizon = record { horizon = horizon; waves = []; edges = replicate 16 []; ints = [] }
+
+abbrev pub is_session : LineText → Bool
+is_session = begins (codes "session")
+
+abbrev pub horizon_words : Form ℕ
+horizon_words = one (λ horizon. horizon) (number_in 0 1000000000000)
+
+-- the lines up to the `session` line, and those from it on
+abbrev pub lines_inside : List LineText → List LineText
+lines_inside = before_first is_session
+
+abbrev pub lines_behind : List LineText → List LineText
+lines_behind lines = drop (position_or_len is_session lines) lines
+
+-- the signals that these lines describe, from the `signals` line to the `session` line, and how many they are
+abbrev pub signals_of : BoardText → ℕ → List LineText → Result (SignalsText × ℕ) Refused
+signals_of board end lines =
+    fixed end (codes "signals") horizon_words lines >>= λ horizon.
+    read_on (said_behind board.subs) (silent horizon) (lines_inside (drop 1 lines)) >>= λ signals.
+    fixed end (codes "session") (alone true) (lines_behind (drop 1 lines)) >>= λ closed.
+    Ok (signals, 2 + position_or_len is_session (drop 1 lines))
+
+-- the same from a place on, with the place of the line behind the `session` line
+abbrev pub signals_at : BoardText → ℕ → ℕ → List LineText → Result (SignalsText × ℕ) Refused
+signals_at board end at lines = signals_of board end (drop at lines) >>= λ r. Ok (r.0, at + r.1)

@@ -1,0 +1,11 @@
+-- How contracts see signals.
+use Rattle.cm_signal.specs.Signals.{SignalsText}
+use Rattle.cm_signal.specs.declared.signals.Signals.TheInside.{Inside}
+
+abbrev pub signals_text : Inside → SignalsText
+signals_text s = record {
+  horizon = s.horizon;
+  waves = s.waves.items;
+  edges = s.edges.items;
+  ints = s.ints.items;
+}

@@ -1,0 +1,209 @@
+// The signals of several lines, one line after another.
+ghost use Rattle.std.specs.Prelude.{◌≡◌, ℕ, ◌<◌, ◌≤◌, ◌^◌, ◌++◌, [], length, nat_le, replicate, slice_index, IfOk};
+ghost use Rattle.std.specs.List.{list_all};
+ghost use Rattle.std.specs.List.Sorted.{IsStrictlyIncreasing};
+ghost use Rattle.cm_signal.specs.Signals as spec;
+ghost use Rattle.cm_signal.specs.SignalsPart as part;
+
+use crate::said::Said;
+use crate::signals::{IntAt, Signals};
+use crate::wave::{Wave, WaveAt};
+use cm_base::faults::Fault;
+use cm_base::lists::Times;
+use std::alloc::{AllocError, Global};
+
+impl Signals {
+    ghost use Rattle.std.specs.Prelude.{◌≡◌, ◌≤◌, ◌<◌, ◌+◌, ◌^◌, ◌++◌, ◌∷◌, true, false, Ok, IfOk, OnOk, length, slice_set};
+    ghost use Rattle.std.specs.List.{list_any};
+    ghost use Rattle.cm_base.specs.Reading.{seen};
+    ghost use Rattle.cm_signal.specs.Said.{HasPeriod, IsSaid};
+    ghost use Rattle.cm_signal.specs.Signals.{SignalsText, edge_count, edges_at, is_at};
+    ghost use Rattle.cm_signal.specs.SignalsPart.{checked, has_room, is_fine, rises_from, silent, with_said};
+
+    /// No wave, no edge and no trigger up to a horizon.
+    pub fn silent(alloc: Global, horizon: u64) -> Result<Signals, AllocError>
+        requires { horizon ≤ 10 ^ 12 }
+        ensures { IfOk result (λ s. s ≡ silent horizon) }
+    {
+        Ok(Signals {
+            horizon,
+            waves: Vec::new(alloc),
+            edges: no_edges(alloc)?,
+            ints: Vec::new(alloc),
+        })
+    }
+
+    /// Whether a line may stand behind those so far.
+    pub fn check(&self, said: &Said) -> Result<(), Fault>
+        requires { IsSaid self.now.horizon said.now }
+        ensures { seen (λ u. tt) result ≡ checked self.now said.now }
+    {
+        match said {
+            Said::Wave(wave) => self.check_wave(wave),
+            Said::Edges(line, times) => self.check_edges(*line, times.as_slice()),
+            Said::Int(_) => self.check_int(),
+        }
+    }
+
+    fn check_wave(&self, wave: &WaveAt) -> Result<(), Fault>
+        ensures { seen (λ u. tt) result ≡ part.checked_wave self.now wave.now }
+    {
+        if self.has_wave(wave.sub, wave.chan) {
+            Err(Fault::Double)
+        } else if is_fine(&wave.wave) {
+            Ok(())
+        } else {
+            Err(Fault::Bad)
+        }
+    }
+
+    // Whether a channel has its wave.
+    fn has_wave(&self, sub: u32, chan: u32) -> bool
+        ensures { result ≡ list_any (is_at sub chan) self.now.waves }
+    {
+        self.waves
+            .iter()
+            .any(|wave| wave.sub == sub && wave.chan == chan)
+    }
+
+    fn check_edges(&self, line: u32, times: &[u64]) -> Result<(), Fault>
+        requires { line < 16 }
+        ensures { seen (λ u. tt) result ≡ part.checked_edges self.now line times.now }
+    {
+        let _horizon = self.horizon;
+        if !self.has_room(times) {
+            Err(Fault::Limit)
+        } else if rises_behind(self.line(line), times) {
+            Ok(())
+        } else {
+            Err(Fault::Bad)
+        }
+    }
+
+    // Whether these edges are within the horizon, and not too many with all others.
+    fn has_room(&self, times: &[u64]) -> bool
+        ensures { result ≡ has_room self.now times.now }
+    {
+        are_up_to(times, self.horizon) && self.edge_count() + times.len() <= 100_000
+    }
+
+    // How many edges all lines have.
+    fn edge_count(&self) -> usize
+        ensures count { result ≡ edge_count self.now.edges }
+        ensures few { result ≤ 100000 }
+    {
+        let mut count = 0;
+        for times in &self.edges {
+            count += times.as_slice().len();
+        }
+        count
+    }
+
+    fn check_int(&self) -> Result<(), Fault>
+        ensures { seen (λ u. tt) result ≡ part.checked_int self.now }
+    {
+        if self.ints.len() < 1000 {
+            Ok(())
+        } else {
+            Err(Fault::Limit)
+        }
+    }
+
+    /// Adds what a line says.
+    pub fn put(&mut self, said: Said) -> Result<(), AllocError>
+        requires said { IsSaid self.old.horizon said }
+        requires fits { checked self.old said ≡ Ok tt }
+        ensures { OnOk result (self.new ≡ with_said self.old said) }
+    {
+        match said {
+            Said::Wave(wave) => self.put_wave(wave),
+            Said::Edges(line, times) => self.put_edges(line, &times),
+            Said::Int(int) => self.put_int(int),
+        }
+    }
+
+    fn put_wave(&mut self, wave: WaveAt) -> Result<(), AllocError>
+        requires period { HasPeriod wave.wave }
+        requires own { list_any (is_at wave.sub wave.chan) self.old.waves ≡ false }
+        requires fine { is_fine wave.wave ≡ true }
+        ensures { OnOk result (self.new ≡ record self.old { waves = self.old.waves ++ wave ∷ [] }) }
+    {
+        self.waves.push(wave)?;
+        Ok(())
+    }
+
+    fn put_edges(&mut self, line: u32, times: &Times) -> Result<(), AllocError>
+        requires line { line < 16 }
+        requires room { has_room self.old times.now ≡ true }
+        requires rise { rises_from 0 (edges_at self.old line ++ times.now) ≡ true }
+        ensures { OnOk result (self.new ≡ record self.old { edges = slice_set self.old.edges line (edges_at self.old line ++ times.now) }) }
+    {
+        let edges = &mut self.edges[line as usize];
+        edges.extend(times.as_slice())
+    }
+
+    fn put_int(&mut self, int: IntAt) -> Result<(), AllocError>
+        requires time { int.time ≤ self.old.horizon }
+        requires few { length self.old.ints < 1000 }
+        ensures { OnOk result (self.new ≡ record self.old { ints = self.old.ints ++ int ∷ [] }) }
+    {
+        self.ints.push(int)?;
+        Ok(())
+    }
+}
+
+// No edge on any of the 16 lines.
+fn no_edges(alloc: Global) -> Result<Vec<Times>, AllocError>
+    ensures { IfOk result (λ lines. lines.items ≡ replicate 16 []) }
+{
+    let mut lines = Vec::new(alloc);
+    while lines.len() < 16 {
+        lines.push(Times::new(Vec::new(alloc)))?;
+    }
+    Ok(lines)
+}
+
+// A saw does not fall.
+fn is_fine(wave: &Wave) -> bool
+    ensures { result ≡ part.is_fine wave.now }
+{
+    match wave {
+        Wave::Saw(low, high, _) => low <= high,
+        _ => true,
+    }
+}
+
+// Whether no time is above a limit.
+fn are_up_to(times: &[u64], most: u64) -> bool
+    ensures { result ≡ list_all (λ time. nat_le time most) times.now }
+{
+    times.iter().all(|time| *time <= most)
+}
+
+// Whether times rise strictly behind others that do.
+fn rises_behind(before: &[u64], times: &[u64]) -> bool
+    requires rise { IsStrictlyIncreasing before.now }
+    requires low { (k : ℕ) → k < length before.now → slice_index before.now k ≤ 10 ^ 12 }
+    requires within { (k : ℕ) → k < length times.now → slice_index times.now k ≤ 10 ^ 12 }
+    ensures { result ≡ part.rises_from 0 (before.now ++ times.now) }
+{
+    match before.last() {
+        None => rises_from(0, times),
+        Some(last) => rises_from(*last + 1, times),
+    }
+}
+
+// Whether times rise strictly, none below `least`.
+fn rises_from(least: u64, times: &[u64]) -> bool
+    requires { (k : ℕ) → k < length times.now → slice_index times.now k ≤ 10 ^ 12 }
+    ensures { result ≡ part.rises_from least times.now }
+{
+    let mut least = least;
+    for time in times {
+        if *time < least {
+            return false;
+        }
+        least = *time + 1;
+    }
+    true
+}

@@ -1,0 +1,296 @@
+// What a line of the signals part says by itself.
+ghost use Rattle.std.specs.Prelude.{◌≡◌, ◌<◌, ◌≤◌, ◌∷◌, ◌^◌, [], IfOk, length, map, slice_get};
+ghost use Rattle.cm_base.specs.Numbers.{number_of};
+ghost use Rattle.cm_base.specs.Words.{or_fault};
+ghost use Rattle.cm_base.specs.declared.faults.Fault.TheVariants as faults;
+ghost use Rattle.cm_base.specs.LineView.{line_view};
+ghost use Rattle.cm_base.specs.ReadStop.{Gives};
+ghost use Rattle.cm_base.specs.Reading.{at_line};
+ghost use Rattle.cm_signal.specs.Said.{IsSaid};
+ghost use Rattle.cm_signal.specs.SignalsPart as spec;
+
+use crate::signals::IntAt;
+use crate::wave::{Wave, WaveAt};
+use cm_base::faults::{Fault, ReadStop};
+use cm_base::lines::Line;
+use cm_base::lists::{Ints, Times};
+use cm_base::numbers::read_u64;
+use cm_base::parts::refused;
+use cm_base::words::{
+    at_line, four, number_below, number_in, one, one_and_more, signed_number, signed_numbers,
+    three, three_and_more, time_in, times_in,
+};
+use cm_board::board::{Kind, Sub};
+use std::alloc::{AllocError, Global};
+
+/// What a line of the signals part says.
+#[derive(Drop)]
+pub enum Said {
+    /// The wave of a channel.
+    Wave(WaveAt),
+    /// Edges of an external line.
+    Edges(u32, Times),
+    /// An internal trigger.
+    Int(IntAt),
+}
+
+/// What a line says by itself, over a board with these subdevices and up to a horizon.
+pub fn read_line(
+    alloc: Global,
+    subs: &[Sub],
+    horizon: u64,
+    line: &Line<'_>,
+) -> Result<Said, ReadStop>
+    requires { length subs.now < 2 ^ 32 }
+    ensures value { Gives (λ said. said) result (at_line line.now.number (spec.said_line subs.now horizon (line_view line.now))) }
+    ensures limits { IfOk result (IsSaid horizon) }
+{
+    let number = line.number;
+    if line.bad {
+        return Err(refused(number, Fault::BadLine));
+    }
+    match line.words.as_slice() {
+        [] => Err(refused(number, Fault::BadLine)),
+        [key, words @ ..] => read_words(alloc, number, subs, horizon, key, words),
+    }
+}
+
+// What the words behind a key say.
+fn read_words(
+    alloc: Global,
+    number: u32,
+    subs: &[Sub],
+    horizon: u64,
+    key: &[u8],
+    words: &[&[u8]],
+) -> Result<Said, ReadStop>
+    requires { length subs.now < 2 ^ 32 }
+    ensures value { Gives (λ said. said) result (at_line number (spec.said_words subs.now horizon (key.now ∷ map (λ word. word.now) words.now))) }
+    ensures limits { IfOk result (IsSaid horizon) }
+{
+    if key == b"wave".as_slice() {
+        read_wave(alloc, number, subs, words)
+    } else if key == b"edges".as_slice() {
+        read_edges(alloc, number, horizon, words)
+    } else if key == b"every".as_slice() {
+        read_every(alloc, number, words)
+    } else if key == b"int".as_slice() {
+        at_line(number, read_int(subs, horizon, words))
+    } else {
+        Err(refused(number, Fault::Unknown))
+    }
+}
+
+// `wave SUB CHAN KIND ..`
+fn read_wave(alloc: Global, number: u32, subs: &[Sub], words: &[&[u8]]) -> Result<Said, ReadStop>
+    requires { length subs.now < 2 ^ 32 }
+    ensures value { Gives (λ said. said) result (at_line number (spec.wave_words subs.now (map (λ word. word.now) words.now))) }
+    ensures limits { IfOk result (IsSaid 0) }
+{
+    let (sub, chan, kind, words) = at_line(number, three_and_more(words))?;
+    if kind == b"const".as_slice() {
+        at_line(number, read_const(subs, sub, chan, words))
+    } else if kind == b"square".as_slice() {
+        at_line(number, read_square(subs, sub, chan, words))
+    } else if kind == b"saw".as_slice() {
+        at_line(number, read_saw(subs, sub, chan, words))
+    } else if kind == b"table".as_slice() {
+        read_table(alloc, number, subs, sub, chan, words)
+    } else {
+        Err(refused(number, Fault::Unknown))
+    }
+}
+
+// `wave SUB CHAN const V`
+fn read_const(subs: &[Sub], sub: &[u8], chan: &[u8], words: &[&[u8]]) -> Result<Said, Fault>
+    requires { length subs.now < 2 ^ 32 }
+    ensures value { result ≡ spec.const_words subs.now sub.now chan.now (map (λ word. word.now) words.now) }
+    ensures limits { IfOk result (IsSaid 0) }
+{
+    let level = one(words)?;
+    let (sub, chan) = read_channel(subs, sub, chan)?;
+    let wave = Wave::Const(signed_number(level)?);
+    Ok(Said::Wave(WaveAt { sub, chan, wave }))
+}
+
+// `wave SUB CHAN square LOW HIGH PERIOD`
+fn read_square(subs: &[Sub], sub: &[u8], chan: &[u8], words: &[&[u8]]) -> Result<Said, Fault>
+    requires { length subs.now < 2 ^ 32 }
+    ensures value { result ≡ spec.square_words subs.now sub.now chan.now (map (λ word. word.now) words.now) }
+    ensures limits { IfOk result (IsSaid 0) }
+{
+    let (low, high, period) = three(words)?;
+    let (sub, chan) = read_channel(subs, sub, chan)?;
+    let low = signed_number(low)?;
+    let high = signed_number(high)?;
+    let wave = Wave::Square(low, high, read_period(period)?);
+    Ok(Said::Wave(WaveAt { sub, chan, wave }))
+}
+
+// `wave SUB CHAN saw LOW HIGH PERIOD`
+fn read_saw(subs: &[Sub], sub: &[u8], chan: &[u8], words: &[&[u8]]) -> Result<Said, Fault>
+    requires { length subs.now < 2 ^ 32 }
+    ensures value { result ≡ spec.saw_words subs.now sub.now chan.now (map (λ word. word.now) words.now) }
+    ensures limits { IfOk result (IsSaid 0) }
+{
+    let (low, high, period) = three(words)?;
+    let (sub, chan) = read_channel(subs, sub, chan)?;
+    let low = signed_number(low)?;
+    let high = signed_number(high)?;
+    let wave = Wave::Saw(low, high, read_period(period)?);
+    Ok(Said::Wave(WaveAt { sub, chan, wave }))
+}
+
+// `wave SUB CHAN table PERIOD V..`
+fn read_table(
+    alloc: Global,
+    number: u32,
+    subs: &[Sub],
+    sub: &[u8],
+    chan: &[u8],
+    words: &[&[u8]],
+) -> Result<Said, ReadStop>
+    requires { length subs.now < 2 ^ 32 }
+    ensures value { Gives (λ said. said) result (at_line number (spec.table_words subs.now sub.now chan.now (map (λ word. word.now) words.now))) }
+    ensures limits { IfOk result (IsSaid 0) }
+{
+    let (period, levels) = at_line(number, one_and_more(words))?;
+    let (sub, chan) = at_line(number, read_channel(subs, sub, chan))?;
+    let period = at_line(number, read_period(period))?;
+    let levels = Ints::new(signed_numbers(alloc, number, levels, 64)?);
+    let wave = Wave::Table(period, levels);
+    Ok(Said::Wave(WaveAt { sub, chan, wave }))
+}
+
+// `edges LINE T..`
+fn read_edges(alloc: Global, number: u32, horizon: u64, words: &[&[u8]]) -> Result<Said, ReadStop>
+    ensures value { Gives (λ said. said) result (at_line number (spec.edges_words horizon (map (λ word. word.now) words.now))) }
+    ensures limits { IfOk result (IsSaid 0) }
+{
+    let (line, times) = at_line(number, one_and_more(words))?;
+    let line = at_line(number, read_line_number(line))?;
+    let times = times_in(alloc, number, times, horizon)?;
+    Ok(Said::Edges(line, Times::new(times)))
+}
+
+// `every LINE FIRST PERIOD COUNT`
+fn read_every(alloc: Global, number: u32, words: &[&[u8]]) -> Result<Said, ReadStop>
+    ensures value { Gives (λ said. said) result (at_line number (spec.every_words (map (λ word. word.now) words.now))) }
+    ensures limits { IfOk result (IsSaid 0) }
+{
+    let (line, first, period, count) = at_line(number, read_numbers(words))?;
+    let times = progression(alloc, first, period, count)?;
+    Ok(Said::Edges(line, Times::new(times)))
+}
+
+// The numbers of `every LINE FIRST PERIOD COUNT`.
+fn read_numbers(words: &[&[u8]]) -> Result<(u32, u64, u64, u32), Fault>
+    ensures value { result ≡ spec.every_numbers (map (λ word. word.now) words.now) }
+    ensures limits { IfOk result (λ n. (n.0 < 16) × (n.1 < 10 ^ 18) × (n.2 ≤ 10 ^ 12) × (n.3 ≤ 100000)) }
+{
+    let (line, first, period, count) = four(words)?;
+    let line = read_line_number(line)?;
+    let first = read_first(first)?;
+    let period = read_period(period)?;
+    let count = number_in(count, 1, 100_000)?;
+    Ok((line, first, period, count))
+}
+
+// Times that are a period apart.
+fn progression(alloc: Global, first: u64, period: u64, count: u32) -> Result<Vec<u64>, AllocError>
+    requires first { first < 10 ^ 18 }
+    requires period { period ≤ 10 ^ 12 }
+    requires count { count ≤ 100000 }
+    ensures { IfOk result (λ times. times.items ≡ spec.progression first period count) }
+{
+    let mut times = Vec::new(alloc);
+    for index in 0..u64::from(count) {
+        times.push(first + index * period)?;
+    }
+    Ok(times)
+}
+
+// `int SUB T ARG`
+fn read_int(subs: &[Sub], horizon: u64, words: &[&[u8]]) -> Result<Said, Fault>
+    requires { length subs.now < 2 ^ 32 }
+    ensures value { result ≡ spec.int_words subs.now horizon (map (λ word. word.now) words.now) }
+    ensures limits { IfOk result (IsSaid horizon) }
+{
+    let (sub, time, arg) = three(words)?;
+    let sub = number_below(sub, subs.len() as u32)?;
+    let time = time_in(time, 0, horizon)?;
+    let arg = number_in(arg, 0, 4_294_967_295)?;
+    Ok(Said::Int(IntAt { sub, time, arg }))
+}
+
+// A channel with levels.
+fn read_channel(subs: &[Sub], sub: &[u8], chan: &[u8]) -> Result<(u32, u32), Fault>
+    requires { length subs.now < 2 ^ 32 }
+    ensures { result ≡ spec.channel_words subs.now sub.now chan.now }
+{
+    let sub = read_input(subs, sub)?;
+    let chan = number_below(chan, level_channels(subs, sub))?;
+    Ok((sub, chan))
+}
+
+// The place of a subdevice with levels.
+fn read_input(subs: &[Sub], word: &[u8]) -> Result<u32, Fault>
+    requires { length subs.now < 2 ^ 32 }
+    ensures { result ≡ spec.input_word subs.now word.now }
+{
+    let sub = number_below(word, subs.len() as u32)?;
+    if 0 < level_channels(subs, sub) {
+        Ok(sub)
+    } else {
+        Err(Fault::Limit)
+    }
+}
+
+// How many channels with levels the subdevice at a place has.
+fn level_channels(subs: &[Sub], place: u32) -> u32
+    ensures { result ≡ spec.level_channels (slice_get subs.now place) }
+{
+    match subs.get(place as usize) {
+        None => 0,
+        Some(sub) => {
+            if has_levels(sub.kind) {
+                sub.channels
+            } else {
+                0
+            }
+        }
+    }
+}
+
+fn has_levels(kind: Kind) -> bool
+    ensures { result ≡ spec.has_levels kind }
+{
+    matches!(kind, Kind::Ai | Kind::Di | Kind::Dio)
+}
+
+// A period in nanoseconds.
+fn read_period(word: &[u8]) -> Result<u64, Fault>
+    ensures value { result ≡ spec.period_word word.now }
+    ensures limits { IfOk result (λ period. (1 ≤ period) × (period ≤ 10 ^ 12)) }
+{
+    time_in(word, 1, 1_000_000_000_000)
+}
+
+// The number of an external line.
+fn read_line_number(word: &[u8]) -> Result<u32, Fault>
+    ensures value { result ≡ spec.line_word word.now }
+    ensures limits { IfOk result (λ line. line < 16) }
+{
+    number_in(word, 0, 15)
+}
+
+// The time of a first edge, which has no limit of its own.
+fn read_first(word: &[u8]) -> Result<u64, Fault>
+    ensures value { result ≡ or_fault faults.BadNumber (number_of word.now) }
+    ensures limits { IfOk result (λ first. first < 10 ^ 18) }
+{
+    match read_u64(word) {
+        None => Err(Fault::BadNumber),
+        Some(first) => Ok(first),
+    }
+}
