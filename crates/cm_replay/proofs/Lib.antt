@@ -1,0 +1,11 @@
+pub mod Ahead
+pub mod Bringing
+pub mod Come
+pub mod Commands
+pub mod Fillings
+pub mod Folds
+pub mod Fronts
+pub mod Laws
+pub mod Mapped
+pub mod Plans
+pub mod Texts

@@ -1,0 +1,15 @@
+pub mod Coming
+pub mod CommandView
+pub mod Conversions
+pub mod Filling
+pub mod Format
+pub mod Job
+pub mod JobView
+pub mod Law
+pub mod Planned
+pub mod Replies
+pub mod Reply
+pub mod Running
+pub mod Schedules
+pub mod Session
+pub mod ToCome
