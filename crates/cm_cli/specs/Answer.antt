@@ -1,0 +1,53 @@
+-- What comes of the words and the bytes of the input, and its text.
+use Rattle.std.specs.Prelude.{ℕ, nat_lt, List, [], ◌∷◌, ◌++◌, length, codes, Option, Some, None, Result, Ok, Err, String, if◌then◌else◌}
+use Rattle.std.specs.Fmt.{decimal}
+use Rattle.std.specs.declared.alloc.Global.{Global}
+use Rattle.cm_base.specs.declared.faults.Fault.{Fault}
+use Rattle.cm_base.specs.declared.faults.Fault.TheVariants.{TooLong, BadLine, BadNumber, Unknown, Missing, Double, Limit, Bad}
+use Rattle.cm_base.specs.declared.faults.Refused.{Refused}
+use Rattle.cm_cli.specs.Commands.{command_of}
+use Rattle.cm_cli.specs.Said.{said}
+use Rattle.cm_cli.specs.declared.command.Command.{Command}
+
+-- what comes of the input: an answer, a refusal, or nothing that the words ask
+pub data Outcome : Type 0 where
+  Answered : List ℕ → Outcome
+  Declined : Refused → Outcome
+  Misused : Outcome
+
+abbrev pub fault_name : Fault → List ℕ
+fault_name TooLong = codes "TooLong"
+fault_name BadLine = codes "BadLine"
+fault_name BadNumber = codes "BadNumber"
+fault_name Unknown = codes "Unknown"
+fault_name Missing = codes "Missing"
+fault_name Double = codes "Double"
+fault_name Limit = codes "Limit"
+fault_name Bad = codes "Bad"
+
+abbrev pub refused_text : Refused → List ℕ
+refused_text r = codes "refused " ++ decimal r.line ++ codes " " ++ fault_name r.cause ++ codes "\n"
+
+abbrev pub text_of : Outcome → List ℕ
+text_of (Answered text) = text
+text_of (Declined r) = refused_text r
+text_of Misused = codes "usage\n"
+
+abbrev pub as_outcome : Result (List ℕ) Refused → Outcome
+as_outcome (Ok text) = Answered text
+as_outcome (Err r) = Declined r
+
+abbrev pub byte_limit : ℕ
+byte_limit = 1048576
+
+-- what comes of the bytes of the input, of which a million and some are read
+abbrev pub outcome_of_bytes : Command → List ℕ → Outcome
+outcome_of_bytes command bytes = if nat_lt byte_limit (length bytes) then Declined (record { line = 0; cause = TooLong }) else as_outcome (said command bytes)
+
+abbrev pub outcome_if : Option Command → List ℕ → Outcome
+outcome_if None bytes = Misused
+outcome_if (Some command) bytes = outcome_of_bytes command bytes
+
+-- what comes of the words and the bytes of the input
+abbrev pub outcome_of : List (String Global) → List ℕ → Outcome
+outcome_of words bytes = outcome_if (command_of words) bytes

@@ -1,0 +1,10 @@
+pub mod Answer
+pub mod Commands
+pub mod ExpandSession
+pub mod FirstSession
+pub mod Said
+pub mod Serving
+pub mod Sessions
+pub mod Stopped
+pub mod TestSession
+pub mod Top

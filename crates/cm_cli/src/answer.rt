@@ -1,0 +1,152 @@
+// The top call.
+ghost use Rattle.std.specs.Prelude.{◌≡◌, ◌≢◌, ◌⊎◌, ◌≤◌, ◌++◌, None, IsSome, IfSome, IfOk, length};
+ghost use Rattle.std.specs.Fmt.{decimal};
+ghost use Rattle.std.specs.Io.KnownBytes.{Appends, IsAtEnd};
+ghost use Rattle.cm_base.specs.Causes.{Rose};
+ghost use Rattle.cm_base.specs.Transfer.{AppendsFront};
+ghost use Rattle.cm_cli.specs.Answer.{Declined, as_outcome, fault_name, outcome_of, outcome_of_bytes, refused_text};
+ghost use Rattle.cm_cli.specs.Commands.{command_of};
+ghost use Rattle.cm_cli.specs.Said.{said};
+ghost use Rattle.cm_cli.specs.Top.{Concludes};
+
+use crate::command::{Command, command_of};
+use crate::serving::serve;
+use crate::status::Status;
+use crate::stop::Stop;
+use cm_base::faults::{Fault, Refused};
+use cm_base::numbers::put_u64;
+use cm_base::outside::{Sink, Source};
+use cm_base::transfer::{NoMemory, ReadError, WriteFault, read_all, write_all};
+use std::alloc::Global;
+
+/// The most bytes that are read.
+const BYTE_LIMIT: u32 = 1_048_576;
+
+/// Does what the words ask with the input, and writes the answer.
+///
+/// Whatever the input says, status 0 comes with exactly the text of the definitions for the bytes
+/// that the source had left, each sample in it once and munged once, in trigger order, with an
+/// overrun at its exact sample.
+pub fn answer<S: Source, K: Sink>(
+    alloc: Global,
+    words: &[String],
+    source: &mut S,
+    sink: &mut K,
+) -> Status
+    // The status is that of the input's outcome, with exactly its text, unless the run was cut short.
+    ensures outcome { IfSome (S.left source.old) (λ bytes.
+        Concludes result (outcome_of words.now bytes) (K.text sink.old) (K.text sink.new)) }
+    ensures at_end { result ≡ Status.Done → IsAtEnd (S.left source.new) }
+
+    // The words that ask for nothing, also over a source that tells nothing.
+    ensures usage { result ≡ Status.Usage → command_of words.now ≡ None }
+    ensures misused { command_of words.now ≡ None → (result ≡ Status.Usage) ⊎ (result ≡ Status.WriteFault) }
+
+    // What cuts a run short.
+    ensures read_fault { result ≡ Status.ReadFault → Rose (S.faults source.old) (S.faults source.new) }
+    ensures write_fault { result ≡ Status.WriteFault → Rose (K.faults sink.old) (K.faults sink.new) }
+    ensures no_memory { result ≡ Status.NoMemory → IsSome (command_of words.now) }
+{
+    match command_of(words) {
+        None => conclude(sink, b"usage\n", Status::Usage),
+        Some(command) => perform(alloc, command, source, sink),
+    }
+}
+
+// Does a command with the input.
+fn perform<S: Source, K: Sink>(
+    alloc: Global,
+    command: Command,
+    source: &mut S,
+    sink: &mut K,
+) -> Status
+    ensures outcome { IfSome (S.left source.old) (λ bytes.
+        Concludes result (outcome_of_bytes command bytes) (K.text sink.old) (K.text sink.new)) }
+    ensures at_end { result ≡ Status.Done → IsAtEnd (S.left source.new) }
+    ensures usage { result ≢ Status.Usage }
+    ensures read_fault { result ≡ Status.ReadFault → Rose (S.faults source.old) (S.faults source.new) }
+    ensures write_fault { result ≡ Status.WriteFault → Rose (K.faults sink.old) (K.faults sink.new) }
+{
+    match read_all(alloc, source, BYTE_LIMIT) {
+        Ok(bytes) => respond(alloc, command, &bytes, sink),
+        Err(ReadError::NoMemory) => Status::NoMemory,
+        Err(ReadError::ReadFault) => Status::ReadFault,
+        Err(ReadError::TooLong) => decline(
+            alloc,
+            Refused {
+                line: 0,
+                cause: Fault::TooLong,
+            },
+            sink,
+        ),
+    }
+}
+
+// Does a command with a text that was read whole.
+fn respond<K: Sink>(alloc: Global, command: Command, bytes: &[u8], sink: &mut K) -> Status
+    requires { length bytes.now ≤ 1048576 }
+    ensures outcome { Concludes result (as_outcome (said command bytes.now)) (K.text sink.old) (K.text sink.new) }
+    ensures usage { result ≢ Status.Usage }
+    ensures read_fault { result ≢ Status.ReadFault }
+    ensures write_fault { result ≡ Status.WriteFault → Rose (K.faults sink.old) (K.faults sink.new) }
+{
+    match serve(alloc, command, bytes, sink) {
+        Ok(()) => Status::Done,
+        Err(Stop::NoMemory) => Status::NoMemory,
+        Err(Stop::WriteFault) => Status::WriteFault,
+        Err(Stop::Refused(refused)) => decline(alloc, refused, sink),
+    }
+}
+
+// Tells why the input is refused.
+fn decline<K: Sink>(alloc: Global, refused: Refused, sink: &mut K) -> Status
+    ensures outcome { Concludes result (Declined refused) (K.text sink.old) (K.text sink.new) }
+    ensures usage { result ≢ Status.Usage }
+    ensures done { result ≢ Status.Done }
+    ensures read_fault { result ≢ Status.ReadFault }
+    ensures write_fault { result ≡ Status.WriteFault → Rose (K.faults sink.old) (K.faults sink.new) }
+{
+    match refusal(alloc, refused) {
+        Ok(text) => conclude(sink, &text, Status::Refused),
+        Err(NoMemory) => Status::NoMemory,
+    }
+}
+
+// Writes a text, and gives the status unless the sink fails.
+fn conclude<K: Sink>(sink: &mut K, text: &[u8], status: Status) -> Status
+    ensures { ((result ≡ status) × Appends (K.text sink.old) (K.text sink.new) text.now)
+        ⊎ ((result ≡ Status.WriteFault) × AppendsFront (K.text sink.old) (K.text sink.new) text.now
+        × Rose (K.faults sink.old) (K.faults sink.new)) }
+{
+    match write_all(sink, text) {
+        Ok(()) => status,
+        Err(WriteFault) => Status::WriteFault,
+    }
+}
+
+// The text of a refusal.
+fn refusal(alloc: Global, refused: Refused) -> Result<Vec<u8>, NoMemory>
+    ensures { IfOk result (λ text. text.items ≡ refused_text refused) }
+{
+    let mut text = Vec::from_slice(alloc, b"refused ")?;
+    put_u64(&mut text, u64::from(refused.line))?;
+    text.extend_from_slice(b" ")?;
+    text.extend_from_slice(name_of(refused.cause))?;
+    text.extend_from_slice(b"\n")?;
+    Ok(text)
+}
+
+fn name_of(cause: Fault) -> &'static [u8]
+    ensures { result.now ≡ fault_name cause }
+{
+    match cause {
+        Fault::TooLong => b"TooLong",
+        Fault::BadLine => b"BadLine",
+        Fault::BadNumber => b"BadNumber",
+        Fault::Unknown => b"Unknown",
+        Fault::Missing => b"Missing",
+        Fault::Double => b"Double",
+        Fault::Limit => b"Limit",
+        Fault::Bad => b"Bad",
+    }
+}

@@ -1,0 +1,11 @@
+// The top call: the program's commands over a source and a sink.
+#![tactic(auto)]
+
+pub mod answer;
+pub mod command;
+pub mod expanding;
+pub mod first_session;
+pub mod serving;
+pub mod status;
+pub mod stop;
+pub mod testing;

@@ -1,0 +1,11 @@
+// Tests of the top call and of real boards: whole texts and their whole answers.
+#![tactic(auto)]
+
+#[cfg(test)]
+mod board_tests;
+#[cfg(test)]
+mod boards;
+#[cfg(test)]
+mod real_boards;
+#[cfg(test)]
+mod tests;
