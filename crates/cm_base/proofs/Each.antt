@@ -8,7 +8,7 @@ use Rattle.cm_base.specs.declared.faults.ReadStop.{ReadStop}
 use Rattle.cm_base.specs.declared.faults.ReadStop.TheVariants as stops
 use Rattle.cm_base.specs.declared.faults.Refused.{Refused}
 
--- a line that says something, and then the lines behind it
+-- a line that says something, and then the lines after it
 pub each-more : {X : Type 0} (read : List X → LineText → Result X Fault) (before : List X) (line : LineText) (rest : List LineText) (x : X) →
     at_line line.number (read before line) ≡ Ok x → read_each read before (line ∷ rest) ≡ read_each read (before ++ x ∷ []) rest
 each-more {X} read before line rest x e = ap (λ (r : Result X Refused). r >>= λ y. read_each read (before ++ y ∷ []) rest) e

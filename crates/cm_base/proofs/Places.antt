@@ -1,16 +1,35 @@
 -- The lines of a text by their places.
-use Rattle.std.proofs.Common.{◌≡◌, ℕ, ◌-◌, ◌<◌, ◌+◌, suc, List, ◌∷◌, length, map, drop, take, get_or, ap, sym, ◌∙◌, arith, add-one, drop-cons, length-drop}
-use Rattle.std.proofs.lemmas.List.{drop-map, take_all}
+use Rattle.std.proofs.Common.{◌≡◌, ℕ, ◌-◌, ◌<◌, ◌+◌, suc, Bool, true, List, [], ◌∷◌, ◌++◌, append_assoc, length, map, drop, take, get_or, ap, sym, ◌∙◌, arith, add-one, drop-cons, length-drop}
+use Rattle.std.specs.Prelude.{if◌then◌else◌}
+use Rattle.std.proofs.lemmas.List.{drop-map, map-append, take_all}
 use Rattle.cm_base.specs.LineView.{line_view}
+use Rattle.cm_base.specs.Lines.{LineText}
 use Rattle.cm_base.specs.declared.lines.Line.{Line}
 
 -- the lines from a place on, as lists and as slices
 pub views_from : (lines : List Line) (at : ℕ) → map line_view (take (length lines - at) (drop at lines)) ≡ drop at (map line_view lines)
 views_from lines at = ap (map line_view) (take_all (length lines - at) (drop at lines) (omega (arith, length-drop at lines))) ∙ sym (drop-map line_view at lines)
 
--- what is left is the next line and the lines behind it
+-- what is left is the next line and the lines after it
 pub next_line : (lines : List Line) (i : ℕ) (line : Line) → i < length lines → line ≡ get_or lines i line → map line_view (drop i lines) ≡ line_view line ∷ map line_view (drop (i + 1) lines)
 next_line lines i line h e =
     ap (map line_view) (drop-cons lines i line h)
     ∙ ap (λ (x : Line). line_view x ∷ map line_view (drop (suc i) lines)) (sym e)
     ∙ ap (λ (n : ℕ). line_view line ∷ map line_view (drop n lines)) (sym (add-one i))
+
+-- one line more of the first lines
+pub line_more : (lines reported : List Line) (line : Line) (old new : List LineText) (m n : ℕ) → reported ≡ lines ++ line ∷ [] → old ≡ line_view line ∷ new → n ≡ suc m →
+    map line_view reported ++ take m new ≡ map line_view lines ++ take n old
+line_more lines reported line old new m n t e s =
+    ap (λ (ls : List Line). map line_view ls ++ take m new) t
+    ∙ ap (λ (ls : List LineText). ls ++ take m new) (map-append line_view lines (line ∷ []))
+    ∙ append_assoc (map line_view lines) (line_view line ∷ []) (take m new)
+    ∙ ap (λ (ls : List LineText). map line_view lines ++ take (suc m) ls) (sym e)
+    ∙ ap (λ (k : ℕ). map line_view lines ++ take k old) (sym s)
+
+-- the next of the lines that are left
+abbrev pub taken : Bool → LineText → List LineText → List LineText
+taken more line rest = if more then line ∷ rest else []
+
+pub line_taken : (more : Bool) (line : LineText) (now rest : List LineText) → now ≡ taken more line rest → more ≡ true → now ≡ line ∷ rest
+line_taken more line now rest e h = e ∙ ap (λ (b : Bool). taken b line rest) h

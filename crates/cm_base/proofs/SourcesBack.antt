@@ -2,15 +2,25 @@
 use Rattle.std.proofs.Common.{◌≡◌, ℕ, zero, suc, ◌<◌, ◌≤◌, Bool, true, refl, ap, sym, ◌∙◌, arith, Result, Ok, Err, ◌⊎◌, inl, inr}
 use Rattle.std.proofs.lemmas.Bool.Decides.{nat_tests}
 use Rattle.std.proofs.lemmas.Bool.{cases_lt}
-use Rattle.std.proofs.Common.{subst, get_or}
+use Rattle.std.proofs.Common.{false, ◌==◌, ◌&&◌, subst, get_or}
 use Rattle.std.specs.List.{list_all, range_with_len}
 use Rattle.std.proofs.lemmas.List.Sums.{AllPass-from_list_all}
 use Rattle.std.proofs.lemmas.List.FromFn.{get_or-range_with_len, length-range_with_len}
 use Rattle.cm_base.specs.Lines.{is_word}
-use Rattle.cm_base.specs.SourceText.{all_read, reads_as, source_text}
+use Rattle.cm_base.specs.SourceText.{source_text}
 use Rattle.cm_base.specs.Words.{source_of}
 use Rattle.cm_base.specs.declared.faults.Fault.{Fault}
 use Rattle.cm_base.proofs.Bools.{both}
+
+-- whether a number is read as itself
+abbrev pub reads_as : ℕ → Result ℕ Fault → Bool
+reads_as mask (Ok bits) = bits == mask
+reads_as mask (Err fault) = false
+
+-- each mask below `count` is read back
+abbrev all_read : ℕ → Bool
+all_read zero = true
+all_read (suc mask) = reads_as mask (source_of (source_text mask)) && all_read mask
 
 every_mask : all_read 512 ≡ true
 every_mask = refl

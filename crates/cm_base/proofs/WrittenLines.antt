@@ -44,7 +44,7 @@ counts number (word ∷ words) h = and_true _ _ (some word words) (both (not (is
     some : (word : List ℕ) (words : List (List ℕ)) → not (length (word ∷ words) == 0) ≡ true
     some word words = grind (arith, nat_tests)
 
--- written lines are read as their words, and the text behind them is read on
+-- written lines are read as their words, and the text after them is read on
 pub lines_from-written : (number : ℕ) (lines : List (List (List ℕ))) (rest : List ℕ) → list_all is_line lines ≡ true → lines_from number (raw_lines (text_of lines ++ rest)) ≡ numbered number lines ++ lines_from (number + length lines) (raw_lines rest)
 lines_from-written number [] rest h = ap (λ (n : ℕ). lines_from n (raw_lines rest)) (omega arith)
 lines_from-written number (words ∷ lines) rest h =

@@ -1,9 +1,12 @@
 pub mod Causes
 pub mod Lines
 pub mod LineView
+pub mod LinesView
 pub mod Memory
 pub mod Numbers
 pub mod Reading
+pub mod Refusal
+pub mod Source
 pub mod SourceText
 pub mod ReadStop
 pub mod Transfer

@@ -14,9 +14,11 @@ is_printable c = nat_le 33 c && nat_le c 126
 abbrev pub is_allowed : ℕ → Bool
 is_allowed c = is_blank c || is_printable c
 
+-- the byte that ends a line
 abbrev pub is_line_feed : ℕ → Bool
 is_line_feed c = c == 10
 
+-- whether a part of a line holds a byte
 abbrev pub is_not_empty : List ℕ → Bool
 is_not_empty line = not (length line == 0)
 
@@ -53,6 +55,7 @@ pub record LineText : Type 0 where
   pub words : List (List ℕ)
   pub bad : Bool
 
+-- a line with its number, cut into words
 abbrev pub line_text : ℕ × List ℕ → LineText
 line_text line = record { number = line.0; words = words_of line.1; bad = is_bad line.1 }
 

@@ -16,7 +16,7 @@ begins_words key (word ∷ words) = bytes_eq word key
 abbrev pub begins : List ℕ → LineText → Bool
 begins key line = not line.bad && begins_words key line.words
 
--- the words behind the one fixed word that may begin the line at this place, and the line's number
+-- the words after the one fixed word that may begin the line at this place, and the line's number
 abbrev pub fixed_words : ℕ → List ℕ → List LineText → Result (ℕ × List (List ℕ)) Refused
 fixed_words end key [] = Err (record { line = end; cause = Missing })
 fixed_words end key (line ∷ lines) =

@@ -1,4 +1,4 @@
--- What whole reads and whole writes leave of the bytes that are told.
+-- What whole reads and whole writes leave of the bytes that are reported.
 use Rattle.std.specs.Prelude.{ℕ, ◌+◌, ◌≤◌, ◌≡◌, List, ◌++◌, length, take, Option}
 use Rattle.std.specs.Io.KnownBytes.{Appends, Consumes, IsAtEnd}
 
@@ -11,14 +11,14 @@ pub record ReadsAll (old new : Option (List ℕ)) (bytes : List ℕ) : Type 0 wh
 abbrev pub ReadsPast : Option (List ℕ) → Option (List ℕ) → ℕ → Type 0
 ReadsPast old new limit = (bytes : List ℕ) × (length bytes ≡ limit + 1) × Consumes old new bytes
 
--- the text so far grew by a front of the text
-abbrev pub AppendsFront : Option (List ℕ) → Option (List ℕ) → List ℕ → Type 0
-AppendsFront old new text = (count : ℕ) × (count ≤ length text) × Appends old new (take count text)
+-- the text so far grew by a prefix of the text
+abbrev pub AppendsPrefix : Option (List ℕ) → Option (List ℕ) → List ℕ → Type 0
+AppendsPrefix old new text = (count : ℕ) × (count ≤ length text) × Appends old new (take count text)
 
--- a front of the gathered text was written, and the rest is still gathered
+-- a prefix of the gathered text was written, and the rest is still gathered
 abbrev pub Moves : Option (List ℕ) → Option (List ℕ) → List ℕ → List ℕ → Type 0
 Moves old new before after = (written : List ℕ) × Appends old new written × (before ≡ written ++ after)
 
--- of the whole text a front was written, the next part is gathered, and the rest is still to be made
+-- of the whole text a prefix was written, the next part is gathered, and the rest is still to be made
 abbrev pub IsUnderWay : Option (List ℕ) → Option (List ℕ) → List ℕ → List ℕ → List ℕ → Type 0
 IsUnderWay old now gathered rest whole = (written : List ℕ) × Appends old now written × (written ++ (gathered ++ rest) ≡ whole)

@@ -3,10 +3,11 @@ use Rattle.std.specs.Prelude.{ℕ, ◌+◌, Bool, false, not, ◌&&◌, List, []
 use Rattle.std.specs.List.{join_with_byte, list_all}
 use Rattle.cm_base.specs.Lines.{LineText, is_comment, is_word}
 
--- the words with a space between two, and a line feed behind them
+-- the words with a space between two, and a line feed after them
 abbrev pub line_of : List (List ℕ) → List ℕ
 line_of words = join_with_byte 32 words ++ 10 ∷ []
 
+-- lines of words as a text
 abbrev pub text_of : List (List (List ℕ)) → List ℕ
 text_of lines = flat_map line_of lines
 

@@ -2,36 +2,6 @@
 use std::alloc::AllocError;
 use std::marker::Model;
 
-/// Unsigned numbers, seen by contracts as their list.
-#[derive(Drop)]
-pub struct Nums {
-    items: Vec<u32>,
-}
-
-impl Model for Nums {
-    ghost use Rattle.std.specs.Prelude.{List, ℕ};
-
-    ghost Value = { List ℕ };
-
-    ghost view = { λ n. n.items.items };
-}
-
-impl Nums {
-    ghost use Rattle.std.specs.Prelude.{◌≡◌};
-
-    pub fn new(items: Vec<u32>) -> Nums
-        ensures { result ≡ items.items }
-    {
-        Nums { items }
-    }
-
-    pub fn as_slice(&self) -> &[u32]
-        ensures { result.now ≡ self.now }
-    {
-        &self.items
-    }
-}
-
 /// Signed numbers, seen by contracts as their list.
 #[derive(Drop)]
 pub struct Ints {
@@ -91,7 +61,7 @@ impl Times {
         &self.items
     }
 
-    /// Adds times behind the others. Where memory runs out nothing changes.
+    /// Adds times after the others. Where memory runs out nothing changes.
     pub fn extend(&mut self, times: &[u64]) -> Result<(), AllocError>
         ensures { self.new ≡ (if is_ok result then self.old ++ times.now else self.old) }
     {

@@ -55,8 +55,8 @@ fn value_of(digits: &[u8]) -> u64
     value
 }
 
-/// The number that the word writes, maybe behind a minus sign.
-pub fn read_i64(word: &[u8]) -> Option<i64>
+/// The number that the word writes, maybe after a minus sign.
+pub(crate) fn read_i64(word: &[u8]) -> Option<i64>
     ensures { result ≡ signed_of word.now }
 {
     match word {

@@ -1,6 +1,8 @@
 // The lines of a part of a text.
-ghost use Rattle.std.specs.Prelude.{◌≡◌, drop, map};
+ghost use Rattle.std.specs.Prelude.{◌≡◌, [], ◌∷◌, drop, map, IfOk, IsTrue};
+ghost use Rattle.std.specs.List.{list_all};
 ghost use Rattle.cm_base.specs.LineView.{line_view};
+ghost use Rattle.cm_base.specs.Lines.{is_word};
 ghost use Rattle.cm_base.specs.Parts.{begins, fixed_words};
 ghost use Rattle.cm_base.specs.ReadStop.{Gives};
 ghost use Rattle.cm_base.specs.declared.faults.ReadStop.TheVariants as stops;
@@ -21,9 +23,10 @@ pub fn begins(key: &[u8], line: &Line<'_>) -> bool
     }
 }
 
-/// The words behind the first one.
-pub fn behind_key<'a, 'b>(words: &'b [&'a [u8]]) -> &'b [&'a [u8]]
-    ensures { map (λ word. word.now) result.now ≡ drop 1 (map (λ word. word.now) words.now) }
+/// The words after the first one.
+pub fn after_key<'a, 'b>(words: &'b [&'a [u8]]) -> &'b [&'a [u8]]
+    ensures value { map (λ word. word.now) result.now ≡ drop 1 (map (λ word. word.now) words.now) }
+    ensures words { IsTrue (list_all (λ word. is_word word.now) words.now) → IsTrue (list_all (λ word. is_word word.now) result.now) }
 {
     match words {
         [] => &[],
@@ -31,25 +34,17 @@ pub fn behind_key<'a, 'b>(words: &'b [&'a [u8]]) -> &'b [&'a [u8]]
     }
 }
 
-/// The words behind the one fixed word that may begin the first of these lines, and its number.
-pub fn fixed<'a, 'b>(
-    lines: &'a [Line<'b>],
-    key: &[u8],
-    end: u32,
-) -> Result<(u32, &'a [&'b [u8]]), ReadStop>
-    ensures { Gives (λ r. (r.0, map (λ word. word.now) r.1.now)) result (fixed_words end key.now (map line_view lines.now)) }
+/// The words after the one fixed word that may begin the line, and its number.
+pub fn fixed<'a, 'b>(line: &'a Line<'b>, key: &[u8]) -> Result<(u32, &'a [&'b [u8]]), ReadStop>
+    ensures value { Gives (λ r. (r.0, map (λ word. word.now) r.1.now)) result (fixed_words 0 key.now (line_view line.now ∷ [])) }
+    ensures words { IfOk result (λ r. IsTrue (list_all (λ word. is_word word.now) r.1.now)) }
 {
-    match lines {
-        [] => Err(refused(end, Fault::Missing)),
-        [line, ..] => {
-            if line.bad {
-                Err(refused(line.number, Fault::BadLine))
-            } else if begins(key, line) {
-                Ok((line.number, behind_key(line.words.as_slice())))
-            } else {
-                Err(refused(line.number, Fault::Missing))
-            }
-        }
+    if line.bad {
+        Err(refused(line.number, Fault::BadLine))
+    } else if begins(key, line) {
+        Ok((line.number, after_key(line.words.as_slice())))
+    } else {
+        Err(refused(line.number, Fault::Missing))
     }
 }
 
@@ -58,12 +53,4 @@ pub fn refused(line: u32, cause: Fault) -> ReadStop
     ensures { result ≡ stops.Refused (record { line = line; cause = cause }) }
 {
     ReadStop::Refused(Refused { line, cause })
-}
-
-/// The lines from a place on.
-pub fn lines_from<'a, 'b>(lines: &'a [Line<'b>], at: usize) -> &'a [Line<'b>]
-    ensures lines { result.now ≡ drop at lines.now }
-    ensures views { map line_view result.now ≡ drop at (map line_view lines.now) }
-{
-    if at <= lines.len() { &lines[at..] } else { &[] }
 }

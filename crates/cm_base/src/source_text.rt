@@ -2,6 +2,7 @@
 ghost use Rattle.std.specs.Prelude.{◌≡◌, ◌++◌, ◌||◌, not, ◌==◌, bit_and, OnOk, IfOk};
 ghost use Rattle.cm_base.specs.SourceText.{named_part, source_text};
 
+use crate::source::{COUNT, EXT, FOLLOW, INT, NONE, NOW, OTHER, TIME, TIMER};
 use crate::transfer::NoMemory;
 
 /// Appends the names of a mask's sources, in rising order of their bits and with bars between
@@ -10,23 +11,23 @@ use crate::transfer::NoMemory;
 pub fn put_sources(out: &mut Vec<u8>, mask: u32) -> Result<(), NoMemory>
     ensures { OnOk result (out.new.items ≡ out.old.items ++ source_text mask) }
 {
-    let some = put_source(out, mask, false, 1, b"none")?;
-    let some = put_source(out, mask, some, 2, b"now")?;
-    let some = put_source(out, mask, some, 4, b"follow")?;
-    let some = put_source(out, mask, some, 8, b"time")?;
-    let some = put_source(out, mask, some, 16, b"timer")?;
-    let some = put_source(out, mask, some, 32, b"count")?;
-    let some = put_source(out, mask, some, 64, b"ext")?;
-    let some = put_source(out, mask, some, 128, b"int")?;
-    let some = put_source(out, mask, some, 256, b"other")?;
+    let some = put_source(out, mask, false, NONE, b"none")?;
+    let some = put_source(out, mask, some, NOW, b"now")?;
+    let some = put_source(out, mask, some, FOLLOW, b"follow")?;
+    let some = put_source(out, mask, some, TIME, b"time")?;
+    let some = put_source(out, mask, some, TIMER, b"timer")?;
+    let some = put_source(out, mask, some, COUNT, b"count")?;
+    let some = put_source(out, mask, some, EXT, b"ext")?;
+    let some = put_source(out, mask, some, INT, b"int")?;
+    let some = put_source(out, mask, some, OTHER, b"other")?;
     if !some {
         out.extend_from_slice(b"invalid")?;
     }
     Ok(())
 }
 
-// Appends a name where the mask has its bit, behind a bar where another name stands there, and
-// tells whether now a name stands there.
+// Appends a name where the mask has its bit, after a bar where another name stands there, and
+// reports whether now a name stands there.
 fn put_source(
     out: &mut Vec<u8>,
     mask: u32,
@@ -35,7 +36,7 @@ fn put_source(
     name: &[u8],
 ) -> Result<bool, NoMemory>
     ensures text { OnOk result (out.new.items ≡ out.old.items ++ named_part mask some (bit, name.now)) }
-    ensures some { IfOk result (λ told. told ≡ (some || not (bit_and mask bit == 0))) }
+    ensures some { IfOk result (λ reported. reported ≡ (some || not (bit_and mask bit == 0))) }
 {
     if mask & bit == 0 {
         return Ok(some);

@@ -1,9 +1,10 @@
 // Reads to the end, and writes of a whole text.
-ghost use Rattle.std.specs.Prelude.{◌≡◌, ◌≤◌, [], length, IfOk, OnOk, OnErr, IsErrOf};
+ghost use Rattle.std.specs.Prelude.{◌≡◌, ◌<◌, ◌≤◌, [], length, IfOk, OnOk, OnErr, IsErrOf};
 ghost use Rattle.std.specs.Io.KnownBytes.{Appends};
 ghost use Rattle.cm_base.specs.Causes.{Rose};
-ghost use Rattle.cm_base.specs.Transfer.{AppendsFront, Moves, ReadsAll, ReadsPast};
+ghost use Rattle.cm_base.specs.Transfer.{AppendsPrefix, Moves, ReadsAll, ReadsPast};
 ghost use Rattle.cm_base.specs.declared.transfer.ReadError.TheVariants.{NoMemory};
+ghost use Rattle.cm_base.specs.declared.transfer.TextStop.TheVariants as text_stops;
 
 use crate::outside::{Failed, Sink, Source};
 use std::alloc::{AllocError, AllocFailed, Global};
@@ -27,6 +28,29 @@ impl<T: Drop> From<AllocFailed<T>> for NoMemory {
 /// The sink failed.
 #[derive(Clone, Copy, Debug, PartialEq, Eq)]
 pub struct WriteFault;
+
+/// Why a text isn't written whole.
+#[derive(Clone, Copy, Debug, PartialEq, Eq)]
+pub enum TextStop {
+    NoMemory,
+    WriteFault,
+}
+
+impl From<NoMemory> for TextStop {
+    ghost from_gives = { λ _ e. e ≡ text_stops.NoMemory };
+
+    fn from(_: NoMemory) -> TextStop {
+        TextStop::NoMemory
+    }
+}
+
+impl From<WriteFault> for TextStop {
+    ghost from_gives = { λ _ e. e ≡ text_stops.WriteFault };
+
+    fn from(_: WriteFault) -> TextStop {
+        TextStop::WriteFault
+    }
+}
 
 /// Why a read to the end gave nothing.
 #[derive(Clone, Copy, Debug, PartialEq, Eq)]
@@ -71,7 +95,7 @@ pub fn read_all<S: Source>(alloc: Global, source: &mut S, limit: u32) -> Result<
 /// Writes the whole text, up to the first fault.
 pub fn write_all<K: Sink>(sink: &mut K, text: &[u8]) -> Result<(), WriteFault>
     ensures ok { OnOk result (Appends (K.text sink.old) (K.text sink.new) text.now) }
-    ensures front { OnErr result (AppendsFront (K.text sink.old) (K.text sink.new) text.now) }
+    ensures prefix { OnErr result (AppendsPrefix (K.text sink.old) (K.text sink.new) text.now) }
     ensures fault { OnErr result (Rose (K.faults sink.old) (K.faults sink.new)) }
     ensures later { K.faults sink.old ≤ K.faults sink.new }
 {
@@ -89,7 +113,7 @@ pub fn write_all<K: Sink>(sink: &mut K, text: &[u8]) -> Result<(), WriteFault>
 pub fn flush<K: Sink>(sink: &mut K, text: &mut Vec<u8>) -> Result<(), WriteFault>
     ensures ok { OnOk result (Appends (K.text sink.old) (K.text sink.new) text.old.items) }
     ensures empty { OnOk result (text.new.items ≡ []) }
-    ensures front { OnErr result (AppendsFront (K.text sink.old) (K.text sink.new) text.old.items) }
+    ensures prefix { OnErr result (AppendsPrefix (K.text sink.old) (K.text sink.new) text.old.items) }
     ensures fault { OnErr result (Rose (K.faults sink.old) (K.faults sink.new)) }
     ensures later { K.faults sink.old ≤ K.faults sink.new }
 {
@@ -101,7 +125,8 @@ pub fn flush<K: Sink>(sink: &mut K, text: &mut Vec<u8>) -> Result<(), WriteFault
 /// Writes what has gathered where it is a piece of 64 KiB or more.
 pub fn flush_full<K: Sink>(sink: &mut K, text: &mut Vec<u8>) -> Result<(), WriteFault>
     ensures ok { OnOk result (Moves (K.text sink.old) (K.text sink.new) text.old.items text.new.items) }
-    ensures front { OnErr result (AppendsFront (K.text sink.old) (K.text sink.new) text.old.items) }
+    ensures small { OnOk result (length text.new.items < 65536) }
+    ensures prefix { OnErr result (AppendsPrefix (K.text sink.old) (K.text sink.new) text.old.items) }
     ensures fault { OnErr result (Rose (K.faults sink.old) (K.faults sink.new)) }
     ensures later { K.faults sink.old ≤ K.faults sink.new }
 {

@@ -1,12 +1,14 @@
 // What the words of a line say, each in its place.
 ghost use Rattle.std.specs.Prelude.{[], map, ◌≡◌, ◌<◌, ◌≤◌, ◌^◌, ◌+◌, length, drop, IfOk, IfSome};
 ghost use Rattle.std.specs.List.{position, slice_split};
-ghost use Rattle.cm_base.specs.Words.{each_word, up_to, values, number_below, number_in, one_and_more, three_and_more, signed_number, bit_of, bit_from, bits_of, is_bar, source_of, source_in, sources_in, no_words, one_word, two_words, three_words, four_words, five_words};
+ghost use Rattle.cm_base.specs.Source.{bit_of};
+ghost use Rattle.cm_base.specs.Words.{each_word, up_to, values, number_below, number_in, one_and_more, three_and_more, signed_number, bit_from, bits_of, is_bar, source_of, source_in, sources_in, no_words, one_word, two_words, three_words, four_words, five_words};
 ghost use Rattle.cm_base.specs.ReadStop.{Gives};
 ghost use Rattle.cm_base.specs.Reading.{at_line, seen};
 
 use crate::faults::{Fault, ReadStop, Refused};
 use crate::numbers::{read_i64, read_u64};
+use crate::source::{COUNT, EXT, FOLLOW, INT, NONE, NOW, OTHER, TIME, TIMER};
 use std::alloc::Global;
 
 /// A number from `least` to `most`.
@@ -125,7 +127,7 @@ fn bits_of(word: &[u8], least: u32) -> Result<u32, Fault>
     }
 }
 
-// What stands behind a place.
+// What stands after a place.
 fn after(word: &[u8], at: usize) -> &[u8]
     requires { at < length word.now }
     ensures { result.now ≡ drop (at + 1) word.now }
@@ -157,26 +159,17 @@ fn bit_of(name: &[u8]) -> Option<u32>
     ensures bit { result ≡ bit_of name.now }
     ensures low { IfSome result (λ bit. bit ≤ 256) }
 {
-    if name == b"none".as_slice() {
-        Some(1)
-    } else if name == b"now".as_slice() {
-        Some(2)
-    } else if name == b"follow".as_slice() {
-        Some(4)
-    } else if name == b"time".as_slice() {
-        Some(8)
-    } else if name == b"timer".as_slice() {
-        Some(16)
-    } else if name == b"count".as_slice() {
-        Some(32)
-    } else if name == b"ext".as_slice() {
-        Some(64)
-    } else if name == b"int".as_slice() {
-        Some(128)
-    } else if name == b"other".as_slice() {
-        Some(256)
-    } else {
-        None
+    match name {
+        [b'n', b'o', b'n', b'e'] => Some(NONE),
+        [b'n', b'o', b'w'] => Some(NOW),
+        [b'f', ..] if name == b"follow".as_slice() => Some(FOLLOW),
+        [b't', b'i', b'm', b'e'] => Some(TIME),
+        [b't', b'i', b'm', b'e', b'r'] => Some(TIMER),
+        [b'c', b'o', b'u', b'n', b't'] => Some(COUNT),
+        [b'e', b'x', b't'] => Some(EXT),
+        [b'i', b'n', b't'] => Some(INT),
+        [b'o', b't', b'h', b'e', b'r'] => Some(OTHER),
+        _ => None,
     }
 }
 
@@ -242,7 +235,7 @@ pub fn five<'a>(
     }
 }
 
-/// The first word, and at least one behind it.
+/// The first word, and at least one after it.
 pub fn one_and_more<'a, 'b>(words: &'b [&'a [u8]]) -> Result<(&'a [u8], &'b [&'a [u8]]), Fault>
     ensures value { seen (λ w. (w.0.now, map (λ word. word.now) w.1.now)) result ≡ one_and_more (map (λ word. word.now) words.now) }
     ensures some { IfOk result (λ w. 1 ≤ length w.1.now) }
@@ -259,7 +252,7 @@ pub fn one_and_more<'a, 'b>(words: &'b [&'a [u8]]) -> Result<(&'a [u8], &'b [&'a
     }
 }
 
-/// The first three words, and those behind them.
+/// The first three words, and those after them.
 pub fn three_and_more<'a, 'b>(
     words: &'b [&'a [u8]],
 ) -> Result<(&'a [u8], &'a [u8], &'a [u8], &'b [&'a [u8]]), Fault>
@@ -294,14 +287,14 @@ pub fn numbers_in(
 {
     let mut numbers = Vec::new(alloc);
     for word in words {
-        let number = at_line(line, number_behind(numbers.len(), word, count, least, most))?;
+        let number = at_line(line, number_after(numbers.len(), word, count, least, most))?;
         numbers.push(number)?;
     }
     Ok(numbers)
 }
 
-// A number behind others, of which at most `count` may stand.
-fn number_behind(
+// A number after others, of which at most `count` may stand.
+fn number_after(
     before: usize,
     word: &[u8],
     count: usize,
@@ -340,14 +333,14 @@ pub fn signed_numbers(
 {
     let mut numbers = Vec::new(alloc);
     for word in words {
-        let number = at_line(line, signed_behind(numbers.len(), word, count))?;
+        let number = at_line(line, signed_after(numbers.len(), word, count))?;
         numbers.push(number)?;
     }
     Ok(numbers)
 }
 
-// A signed number behind others, of which at most `count` may stand.
-fn signed_behind(before: usize, word: &[u8], count: usize) -> Result<i32, Fault>
+// A signed number after others, of which at most `count` may stand.
+fn signed_after(before: usize, word: &[u8], count: usize) -> Result<i32, Fault>
     ensures { result ≡ up_to count signed_number before word.now }
 {
     if before < count {

@@ -1,12 +1,15 @@
 -- One line more in a block.
 use Rattle.std.proofs.Common.{◌≡◌, ℕ, Bool, true, false, cond, nat_lt, List, [], ◌∷◌, ◌++◌, length, refl, ap, sym, ◌∙◌, Result, Ok, Err, arith, append-nil}
+use Rattle.std.specs.List.{filter_map}
 use Rattle.std.proofs.lemmas.List.Elements.{filter_map-append}
 use Rattle.std.proofs.lemmas.Bool.Decides.{nat_tests}
 use Rattle.cm_base.specs.Lines.{LineText}
 use Rattle.cm_base.specs.Reading.{◌>>=◌}
 use Rattle.cm_base.specs.declared.faults.Fault.{Fault}
 use Rattle.cm_base.specs.declared.faults.Fault.TheVariants as faults
-use Rattle.cm_board.specs.Block.{Block, behind, block_of, count_of, item_behind, most_of, is_fine, bits_in, munge_in, ranges_in, sources_in, tick_in, scan_in, convert_in, list_in, scans_in, lines_in, buffer_in, same_range_in, forbidden_in}
+use Rattle.cm_board.specs.Block.{admitted, block_of, count_of, item_after, most_of, is_fine}
+use Rattle.cm_board.specs.Rows.{Block, Row, block_by, field, said}
+use Rattle.cm_board.specs.Rows as rows
 use Rattle.cm_board.specs.Items.{item_of}
 use Rattle.cm_board.specs.DraftView.{with_item}
 use Rattle.cm_board.specs.declared.board.Kind.{Kind}
@@ -18,38 +21,14 @@ use Rattle.cm_board.specs.declared.items.Item.TheVariants as items
 
 -- two blocks, form by form
 abbrev joined : Block → Block → Block
-joined a b = record {
-  bits = a.bits ++ b.bits;
-  munge = a.munge ++ b.munge;
-  ranges = a.ranges ++ b.ranges;
-  sources = a.sources ++ b.sources;
-  tick = a.tick ++ b.tick;
-  scan = a.scan ++ b.scan;
-  convert = a.convert ++ b.convert;
-  list = a.list ++ b.list;
-  scans = a.scans ++ b.scans;
-  lines = a.lines ++ b.lines;
-  buffer = a.buffer ++ b.buffer;
-  same_range = a.same_range ++ b.same_range;
-  forbidden = a.forbidden ++ b.forbidden;
-}
+joined a b = block_by (λ row. field row a ++ field row b)
 
 block_of-append : (xs ys : List Item) → block_of (xs ++ ys) ≡ joined (block_of xs) (block_of ys)
-block_of-append xs ys = λ i. record {
-  bits = filter_map-append bits_in xs ys i;
-  munge = filter_map-append munge_in xs ys i;
-  ranges = filter_map-append ranges_in xs ys i;
-  sources = filter_map-append sources_in xs ys i;
-  tick = filter_map-append tick_in xs ys i;
-  scan = filter_map-append scan_in xs ys i;
-  convert = filter_map-append convert_in xs ys i;
-  list = filter_map-append list_in xs ys i;
-  scans = filter_map-append scans_in xs ys i;
-  lines = filter_map-append lines_in xs ys i;
-  buffer = filter_map-append buffer_in xs ys i;
-  same_range = filter_map-append same_range_in xs ys i;
-  forbidden = filter_map-append forbidden_in xs ys i;
-}
+block_of-append xs ys = λ i. block_by (λ row. each row i)
+  where
+    each : (row : Row) → filter_map (said row) (xs ++ ys) ≡ field row (block_of xs) ++ field row (block_of ys)
+    each rows.bits = filter_map-append (said rows.bits) xs ys
+    each other = filter_map-append (said other) xs ys
 
 -- the first of a form that may stand once
 only : {X : Type 0} (xs : List X) (x : X) → nat_lt (length xs) 1 ≡ true → xs ++ x ∷ [] ≡ x ∷ []
@@ -71,7 +50,7 @@ join_item b (items.Buffer n) e = simp append-nil (ap (λ (xs : List ℕ). record
 join_item b items.SameRange e = simp append-nil (ap (λ (xs : List Bool). record b { same_range = xs }) (only b.same_range true e))
 join_item b (items.Forbid f) e = simp append-nil
 
--- what stands behind a line that may stand there
+-- what stands after a line that may stand there
 pub item_added : (xs : List Item) (item : Item) → nat_lt (count_of item (block_of xs)) (most_of item) ≡ true → block_of (xs ++ item ∷ []) ≡ with_item item (block_of xs)
 item_added xs item e = block_of-append xs (item ∷ []) ∙ join_item (block_of xs) item e
 
@@ -80,11 +59,11 @@ passed true true item other fault e = (refl, cc)
 passed true false item other fault e = cc
 passed false fine item other fault e = cc
 
--- a line that says something behind others has room there
-pub has_room : (kind : Kind) (before : List Item) (line : LineText) (item : Item) → item_behind kind before line ≡ Ok item → nat_lt (count_of item (block_of before)) (most_of item) ≡ true
+-- a line that says something after others has room there
+pub has_room : (kind : Kind) (before : List Item) (line : LineText) (item : Item) → item_after kind before line ≡ Ok item → nat_lt (count_of item (block_of before)) (most_of item) ≡ true
 has_room kind before line item e = read (item_of kind line) e
   where
-    read : (said : Result Item Fault) → (said >>= behind (block_of before)) ≡ Ok item → nat_lt (count_of item (block_of before)) (most_of item) ≡ true
+    read : (said : Result Item Fault) → (said >>= admitted (block_of before)) ≡ Ok item → nat_lt (count_of item (block_of before)) (most_of item) ≡ true
     read (Err fault) e = cc
     read (Ok x) e =
         let p = passed (nat_lt (count_of x (block_of before)) (most_of x)) (is_fine x) x item _ e in

@@ -6,6 +6,7 @@ use Rattle.std.proofs.lemmas.List.Folds.{list_all-append}
 use Rattle.std.proofs.Math.Seq.{take-append_seam, drop-append_seam}
 use Rattle.std.proofs.lemmas.Grind.{flat_map-append}
 use Rattle.std.proofs.lemmas.Slice.Eq.{bytes_eq-Decides}
+use Rattle.std.proofs.lemmas.Bool.{lt-ltb}
 use Rattle.cm_base.specs.Lines.{LineText, is_comment, is_line_feed, is_not_empty, is_printable, is_word, line_text, lines_from, lines_of, raw_lines, text_counts}
 use Rattle.cm_base.specs.Reading.{◌>>=◌, at_line}
 use Rattle.cm_base.specs.Words.{limited}
@@ -14,11 +15,12 @@ use Rattle.cm_base.proofs.Bools.{and_true, both, not_true}
 use Rattle.cm_base.proofs.NumbersBack.{number_in-decimal, word-decimal}
 use Rattle.cm_base.proofs.RawLines.{lines_from-cons, raw_lines-cons}
 use Rattle.cm_base.proofs.WrittenLines.{lines_from-written}
-use Rattle.cm_board.specs.Board.{BoardText, IsSound, IsSoundBoard, SubText, has_channels}
+use Rattle.cm_board.specs.Board.{BoardText, IsSoundSub, IsSoundBoard, SubText, has_channels}
 use Rattle.cm_board.specs.Block.{block_of, finished}
-use Rattle.cm_board.specs.BoardPart.{any_words, begins, begins_words, block_at, block_lines, block_said, blocks_from, board_of, ends_block, fixed, head_behind, is_signals, is_subdevice, lines_behind, next_block, next_number}
+use Rattle.cm_base.specs.Parts.{begins, begins_words, fixed}
+use Rattle.cm_board.specs.BoardPart.{any_words, block_at, block_lines, block_said, blocks_from, board_of, ends_block, head_after, is_signals, is_subdevice, lines_after, next_block, next_number}
 use Rattle.cm_board.specs.Items.{channels_word, kind_word}
-use Rattle.cm_board.specs.Limits.{is_limited, stands}
+use Rattle.cm_board.proofs.LineLimits.{is_limited, stands}
 use Rattle.cm_board.specs.Block.{is_fine}
 use Rattle.cm_board.specs.Printed.{block_text, board_lines, head_line, item_text, items_of, kind_text, name_line, printed_board, sub_lines, version_line}
 use Rattle.cm_board.specs.PrintedReads.{BeginsSignals, PrintedReads}
@@ -39,18 +41,7 @@ use Rattle.cm_board.proofs.Written.{items_text-lines}
 
 item_inside : (number : ℕ) (item : Item) → ends_block (record { number = number; words = item_text item; bad = false }) ≡ false
 item_inside number (items.Bits k) = refl
-item_inside number (items.Munge m) = refl
-item_inside number (items.Range r) = refl
-item_inside number (items.Sources s) = refl
-item_inside number (items.Tick n) = refl
-item_inside number (items.Scan s) = refl
-item_inside number (items.Convert s) = refl
-item_inside number (items.List n) = refl
-item_inside number (items.Scans n) = refl
-item_inside number (items.Lines n) = refl
-item_inside number (items.Buffer n) = refl
-item_inside number items.SameRange = refl
-item_inside number (items.Forbid f) = refl
+item_inside number other = refl
 
 -- no line passes
 abbrev pub none_pass : (LineText → Bool) → List LineText → Bool
@@ -60,20 +51,20 @@ items_inside : (number : ℕ) (its : List Item) → none_pass ends_block (number
 items_inside number [] = refl
 items_inside number (item ∷ its) = and_true _ _ (ap not (item_inside number item)) (items_inside (number + 1) its)
 
--- the first line that passes stands behind those that don't
-position_behind : (p : LineText → Bool) (lines : List LineText) (line : LineText) (rest : List LineText) → none_pass p lines ≡ true → p line ≡ true → position_or_len p (lines ++ line ∷ rest) ≡ length lines
-position_behind p [] line rest h e = ap (λ b. cond (not b) (1 + position_or_len p rest) 0) e
-position_behind p (first ∷ lines) line rest h e =
+-- the first line that passes stands after those that don't
+position_after : (p : LineText → Bool) (lines : List LineText) (line : LineText) (rest : List LineText) → none_pass p lines ≡ true → p line ≡ true → position_or_len p (lines ++ line ∷ rest) ≡ length lines
+position_after p [] line rest h e = ap (λ b. cond (not b) (1 + position_or_len p rest) 0) e
+position_after p (first ∷ lines) line rest h e =
     let b = both (not (p first)) (none_pass p lines) h in
     ap (λ t. cond (not t) (1 + position_or_len p (lines ++ line ∷ rest)) 0) (not_true (p first) b.0)
-    ∙ ap (λ (n : ℕ). 1 + n) (position_behind p lines line rest b.1 e) ∙ omega arith
+    ∙ ap (λ (n : ℕ). 1 + n) (position_after p lines line rest b.1 e) ∙ omega arith
 
 -- a block's lines up to a line that ends it
 lines_inside : (lines : List LineText) (line : LineText) (rest : List LineText) → none_pass ends_block lines ≡ true → ends_block line ≡ true → block_lines (lines ++ line ∷ rest) ≡ lines
-lines_inside lines line rest h e = ap (λ (n : ℕ). take n (lines ++ line ∷ rest)) (position_behind ends_block lines line rest h e) ∙ take-append_seam lines (line ∷ rest)
+lines_inside lines line rest h e = ap (λ (n : ℕ). take n (lines ++ line ∷ rest)) (position_after ends_block lines line rest h e) ∙ take-append_seam lines (line ∷ rest)
 
-lines_after : (lines : List LineText) (line : LineText) (rest : List LineText) → none_pass ends_block lines ≡ true → ends_block line ≡ true → lines_behind (lines ++ line ∷ rest) ≡ line ∷ rest
-lines_after lines line rest h e = ap (λ (n : ℕ). drop n (lines ++ line ∷ rest)) (position_behind ends_block lines line rest h e) ∙ drop-append_seam lines (line ∷ rest)
+cut_lines : (lines : List LineText) (line : LineText) (rest : List LineText) → none_pass ends_block lines ≡ true → ends_block line ≡ true → lines_after (lines ++ line ∷ rest) ≡ line ∷ rest
+cut_lines lines line rest h e = ap (λ (n : ℕ). drop n (lines ++ line ∷ rest)) (position_after ends_block lines line rest h e) ∙ drop-append_seam lines (line ∷ rest)
 
 numbered-append : (number : ℕ) (xs ys : List (List (List ℕ))) → numbered number (xs ++ ys) ≡ numbered number xs ++ numbered (number + length xs) ys
 numbered-append number [] ys = ap (λ (n : ℕ). numbered n ys) (omega arith)
@@ -112,22 +103,19 @@ head_at number s = record { number = number; words = head_line s; bad = false }
 abbrev head_for : SubText → Head
 head_for s = record { kind = s.kind; channels = s.channels }
 
-head_back : (count number : ℕ) (s : SubText) → count < 16 → IsSound s → head_behind count (head_at number s) ≡ Ok (head_for s)
+head_back : (count number : ℕ) (s : SubText) → count < 16 → IsSoundSub s → head_after count (head_at number s) ≡ Ok (head_for s)
 head_back count number s few h =
     let t = text_kept s h in
     ap (λ x. (x >>= λ k. channels_word k (decimal s.channels) >>= λ n. Ok (record { kind = k; channels = n })) >>= λ (head : Head). limited (nat_lt count 16) head) (kind_back s.kind).0
     ∙ ap (λ x. (x >>= λ n. Ok (record { kind = s.kind; channels = n })) >>= λ (head : Head). limited (nat_lt count 16) head) (channels_back s.kind s.channels h.few_channels t.channels)
-    ∙ ap (λ b. limited b (head_for s)) (less count few)
-  where
-    less : (n : ℕ) → n < 16 → nat_lt n 16 ≡ true
-    less n h = grind (arith, nat_tests)
+    ∙ ap (λ b. limited b (head_for s)) (lt-ltb count 16 few)
 
 -- a block
 
 said_back : (number : ℕ) (s : SubText) → HasBlock s → block_said s.kind (numbered number (map item_text (items_of s))) ≡ Ok (block_of (items_of s))
 said_back number s b = ap (λ x. x >>= λ its. Ok (block_of its)) (items_back s.kind [] (items_of s) number b.good b.fits)
 
-block_back : (stop count number : ℕ) (s : SubText) → count < 16 → IsSound s → block_at stop count (head_at number s) (numbered (number + 1) (map item_text (items_of s))) ≡ Ok s
+block_back : (stop count number : ℕ) (s : SubText) → count < 16 → IsSoundSub s → block_at stop count (head_at number s) (numbered (number + 1) (map item_text (items_of s))) ≡ Ok s
 block_back stop count number s few h =
     let b = has_block s h in
     ap (λ x. at_line number x >>= λ (head : Head). block_said head.kind (numbered (number + 1) (map item_text (items_of s))) >>= λ block. at_line stop (finished head block)) (head_back count number s few h)
@@ -156,22 +144,22 @@ ends_after number (s ∷ subs) line rest e = record {
   ends = refl;
 }
 
-next_back : (end count number : ℕ) (s : SubText) (lines : List LineText) → Ends lines → count < 16 → IsSound s → next_block end count (head_at number s) (numbered (number + 1) (map item_text (items_of s)) ++ lines) ≡ Ok s
+next_back : (end count number : ℕ) (s : SubText) (lines : List LineText) → Ends lines → count < 16 → IsSoundSub s → next_block end count (head_at number s) (numbered (number + 1) (map item_text (items_of s)) ++ lines) ≡ Ok s
 next_back end count number s lines e few h =
     let inside : List LineText = numbered (number + 1) (map item_text (items_of s)) in
     let none = items_inside (number + 1) (items_of s) in
     ap (λ (ls : List LineText). next_block end count (head_at number s) (inside ++ ls)) e.is
-    ∙ ap (λ (ls : List LineText). block_at (next_number end (lines_behind (inside ++ e.first ∷ e.rest))) count (head_at number s) ls) (lines_inside inside e.first e.rest none e.ends)
-    ∙ block_back (next_number end (lines_behind (inside ++ e.first ∷ e.rest))) count number s few h
+    ∙ ap (λ (ls : List LineText). block_at (next_number end (lines_after (inside ++ e.first ∷ e.rest))) count (head_at number s) ls) (lines_inside inside e.first e.rest none e.ends)
+    ∙ block_back (next_number end (lines_after (inside ++ e.first ∷ e.rest))) count number s few h
 
 skipped : (end count number : ℕ) (s : SubText) (lines : List LineText) → Ends lines → blocks_from end count (numbered number (map item_text (items_of s)) ++ lines) ≡ blocks_from end count lines
 skipped end count number s lines e =
     let inside : List LineText = numbered number (map item_text (items_of s)) in
     skip_block end count (inside ++ lines)
-    ∙ ap (λ (ls : List LineText). blocks_from end count (lines_behind (inside ++ ls))) e.is
-    ∙ ap (blocks_from end count) (lines_after inside e.first e.rest (items_inside number (items_of s)) e.ends ∙ sym e.is)
+    ∙ ap (λ (ls : List LineText). blocks_from end count (lines_after (inside ++ ls))) e.is
+    ∙ ap (blocks_from end count) (cut_lines inside e.first e.rest (items_inside number (items_of s)) e.ends ∙ sym e.is)
 
-blocks_back : (end count number : ℕ) (subs : List SubText) (line : LineText) (rest : List LineText) → All IsSound subs → count + length subs ≤ 16 → is_signals line ≡ true → blocks_from end count (numbered number (flat_map sub_lines subs) ++ line ∷ rest) ≡ Ok subs
+blocks_back : (end count number : ℕ) (subs : List SubText) (line : LineText) (rest : List LineText) → All IsSoundSub subs → count + length subs ≤ 16 → is_signals line ≡ true → blocks_from end count (numbered number (flat_map sub_lines subs) ++ line ∷ rest) ≡ Ok subs
 blocks_back end count number [] line rest h few e =
     ap (λ b. cond b (Ok []) (cond (is_subdevice line) (next_block end count line rest >>= λ sub. blocks_from end (count + 1) rest >>= λ subs. Ok (sub ∷ subs)) (blocks_from end count rest))) e
 blocks_back end count number (s ∷ subs) line rest h few e =
@@ -181,7 +169,7 @@ blocks_back end count number (s ∷ subs) line rest h few e =
     let ends = ends_after after subs line rest e in
     let cut : numbered (number + 1) (map item_text (items_of s) ++ flat_map sub_lines subs) ++ line ∷ rest ≡ inside ++ lines =
     ap (λ (ls : List LineText). ls ++ line ∷ rest) (numbered-append (number + 1) (map item_text (items_of s)) (flat_map sub_lines subs)) ∙ append_assoc inside (numbered after (flat_map sub_lines subs)) (line ∷ rest) in
-    let sound : IsSound s = h 0 s (omega arith) in
+    let sound : IsSoundSub s = h 0 s (omega arith) in
     let later = blocks_back end (count + 1) after subs line rest (λ k d below. h (suc k) d (omega arith)) (omega arith) e in
     ap (λ (ls : List LineText). next_block end count (head_at number s) ls >>= λ sub. blocks_from end (count + 1) ls >>= λ more. Ok (sub ∷ more)) cut
     ∙ ap (λ x. x >>= λ sub. blocks_from end (count + 1) (inside ++ lines) >>= λ more. Ok (sub ∷ more)) (next_back end count number s lines ends (omega arith) sound)
@@ -196,16 +184,16 @@ items_lines kind (item ∷ its) h =
     let l = both (is_limited item && is_fine item) (stands kind item) b.0 in
     and_true _ _ (item_line item (both (is_limited item) (is_fine item) l.0).0) (items_lines kind its b.1)
 
-head_is_line : (s : SubText) → IsSound s → is_line (head_line s) ≡ true
+head_is_line : (s : SubText) → IsSoundSub s → is_line (head_line s) ≡ true
 head_is_line s h = and_true _ _ (kind_back s.kind).1 (and_true _ true (word-decimal s.channels (small s.channels h.few_channels)) refl)
   where
     small : (n : ℕ) → n ≤ 64 → n < 2 ^ 32
     small n h = omega arith
 
-subs_lines : (subs : List SubText) → All IsSound subs → list_all is_line (flat_map sub_lines subs) ≡ true
+subs_lines : (subs : List SubText) → All IsSoundSub subs → list_all is_line (flat_map sub_lines subs) ≡ true
 subs_lines [] h = refl
 subs_lines (s ∷ subs) h =
-    let sound : IsSound s = h 0 s (omega arith) in
+    let sound : IsSoundSub s = h 0 s (omega arith) in
     list_all-append is_line (sub_lines s) (flat_map sub_lines subs)
     ∙ and_true _ _ (and_true _ _ (head_is_line s sound) (items_lines s.kind (items_of s) (has_block s sound).good)) (subs_lines subs (λ k d below. h (suc k) d (omega arith)))
 
@@ -215,7 +203,7 @@ name_word name h p = and_true _ _ (some name h) p
     some : (xs : List ℕ) → 1 ≤ length xs → is_not_empty xs ≡ true
     some xs h = grind (arith, nat_tests)
 
-board_is_lines : (b : BoardText) → IsSoundBoard b → All IsSound b.subs → list_all is_line (board_lines b) ≡ true
+board_is_lines : (b : BoardText) → IsSoundBoard b → All IsSoundSub b.subs → list_all is_line (board_lines b) ≡ true
 board_is_lines b h subs = and_true _ _ (and_true _ true (name_word b.name h.name.low h.printable) refl) (subs_lines b.subs subs)
 
 -- the text is that of its lines
@@ -251,7 +239,7 @@ subs_no_signals number (s ∷ subs) =
 board_no_signals : (b : BoardText) → none_pass is_signals (numbered 1 (board_lines b)) ≡ true
 board_no_signals b = subs_no_signals 3 b.subs
 
--- the line behind
+-- the line after
 
 signals_words : (words : List (List ℕ)) → begins_words (codes "signals") words ≡ true → (not (length words == 0) && not (is_comment words)) ≡ true
 signals_words [] h = cc
@@ -271,9 +259,9 @@ no_signals_nowhere : (more : List ℕ) → is_signals (line_text (1, before_firs
 no_signals_nowhere [] h = cc
 no_signals_nowhere (c ∷ more) h = omega arith
 
--- the text behind begins with the line
-behind_line : (number : ℕ) (more : List ℕ) → BeginsSignals more → lines_from number (raw_lines more) ≡ line_text (number, before_first is_line_feed more) ∷ lines_from (number + 1) (raw_lines (after_first is_line_feed more))
-behind_line number more h =
+-- the text after begins with the line
+after_line : (number : ℕ) (more : List ℕ) → BeginsSignals more → lines_from number (raw_lines more) ≡ line_text (number, before_first is_line_feed more) ∷ lines_from (number + 1) (raw_lines (after_first is_line_feed more))
+after_line number more h =
     ap (lines_from number) (raw_lines-cons more (no_signals_nowhere more h))
     ∙ lines_from-cons number (before_first is_line_feed more) (raw_lines (after_first is_line_feed more))
     ∙ ap (λ b. cond b (line_text (number, before_first is_line_feed more) ∷ []) [] ++ lines_from (number + 1) (raw_lines (after_first is_line_feed more))) (signals_counts (line_text (number, before_first is_line_feed more)) h)
@@ -287,7 +275,7 @@ first_block end number (s ∷ subs) lines h = refl
 less_33 : (n : ℕ) → n ≤ 32 → nat_le n 32 ≡ true
 less_33 n h = grind (arith, nat_tests)
 
-lines_back : (b : BoardText) (end : ℕ) (line : LineText) (rest : List LineText) → IsSoundBoard b → All IsSound b.subs → is_signals line ≡ true → board_of end (numbered 1 (board_lines b) ++ line ∷ rest) ≡ Ok (b, length (board_lines b))
+lines_back : (b : BoardText) (end : ℕ) (line : LineText) (rest : List LineText) → IsSoundBoard b → All IsSoundSub b.subs → is_signals line ≡ true → board_of end (numbered 1 (board_lines b) ++ line ∷ rest) ≡ Ok (b, length (board_lines b))
 lines_back b end line rest h sound e =
     let blocks : List LineText = numbered 3 (flat_map sub_lines b.subs) ++ line ∷ rest in
     let place : ℕ = position_or_len is_signals (numbered 1 (board_lines b) ++ line ∷ rest) in
@@ -295,11 +283,11 @@ lines_back b end line rest h sound e =
     ap (λ t. at_line 2 (limited t b.name) >>= λ name. fixed end (codes "subdevice") any_words blocks >>= λ any. blocks_from end 0 blocks >>= λ subs. Ok (record { name = name; subs = subs }, place)) (less_33 (length b.name) h.name.high)
     ∙ ap (λ x. x >>= λ (any : Bool). blocks_from end 0 blocks >>= λ subs. Ok (record { name = b.name; subs = subs }, place)) (first_block end 3 b.subs (line ∷ rest) h.subs.low)
     ∙ ap (λ x. x >>= λ subs. Ok (record { name = b.name; subs = subs }, place)) (blocks_back end 0 3 b.subs line rest sound (omega arith) e)
-    ∙ ap (λ (n : ℕ). Ok (b, n)) (position_behind is_signals (numbered 1 (board_lines b)) line rest (board_no_signals b) e ∙ length-numbered 1 (board_lines b))
+    ∙ ap (λ (n : ℕ). Ok (b, n)) (position_after is_signals (numbered 1 (board_lines b)) line rest (board_no_signals b) e ∙ length-numbered 1 (board_lines b))
 
 pub printed_reads : PrintedReads
-printed_reads b more end h sound begins =
-    let behind : ℕ = 1 + length (board_lines b) in
+printed_reads b h sound more end begins =
+    let after : ℕ = 1 + length (board_lines b) in
     ap (λ (text : List ℕ). board_of end (lines_of (text ++ more))) (board_text_lines b)
-    ∙ ap (board_of end) (lines_from-written 1 (board_lines b) more (board_is_lines b h sound) ∙ ap (λ (ls : List LineText). numbered 1 (board_lines b) ++ ls) (behind_line behind more begins))
-    ∙ lines_back b end (line_text (behind, before_first is_line_feed more)) (lines_from (behind + 1) (raw_lines (after_first is_line_feed more))) h sound begins
+    ∙ ap (board_of end) (lines_from-written 1 (board_lines b) more (board_is_lines b h sound) ∙ ap (λ (ls : List LineText). numbered 1 (board_lines b) ++ ls) (after_line after more begins))
+    ∙ lines_back b end (line_text (after, before_first is_line_feed more)) (lines_from (after + 1) (raw_lines (after_first is_line_feed more))) h sound begins

@@ -1,5 +1,6 @@
 -- The lines of a block keep their limits together.
 use Rattle.std.proofs.Common.{◌≡◌, ℕ, ◌+◌, ◌≤◌, Bool, true, false, cond, not, ◌&&◌, ◌||◌, List, [], ◌∷◌, ◌++◌, length, Option, Some, None, Result, Ok, Err, refl, sym, ap, ◌∙◌, subst, IsTrue, nat_le, nat_lt, arith, length-append, drop, map}
+use Rattle.std.proofs.lemmas.Bool.{and_right, or_from}
 use Rattle.cm_base.specs.Words.{one_word}
 use Rattle.std.specs.Result.{IfOk}
 use Rattle.std.specs.List.{cons_option, filter_map, list_all}
@@ -14,12 +15,17 @@ use Rattle.cm_base.specs.Reading.{◌>>=◌, at_line, read_each}
 use Rattle.cm_base.specs.declared.faults.Fault.{Fault}
 use Rattle.cm_base.specs.declared.faults.Refused.{Refused}
 use Rattle.cm_base.specs.declared.faults.Fault.TheVariants as faults
-use Rattle.cm_base.proofs.Bools.{and_true, both}
-use Rattle.cm_board.specs.Board.{IsFrom1To, IsSoundBoard, SubText, are_full, has_channels, is_munge, is_pair, is_source, is_unused, may_command}
-use Rattle.cm_board.specs.Block.{Block, behind, block_of, count_of, has_command, is_empty, is_fine, item_behind, masks_said, most_of, bits_in, munge_in, ranges_in, sources_in, tick_in, scan_in, convert_in, list_in, scans_in, lines_in, buffer_in, same_range_in, forbidden_in}
-use Rattle.cm_board.specs.BoardPart.{block_said, blocks_from, fixed, any_words, begins, begins_words, head_behind, is_name, is_signals, is_subdevice, next_block}
+use Rattle.cm_base.proofs.Bools.{and_true, both, not_true}
+use Rattle.cm_base.proofs.Refusal.{keyed}
+use Rattle.cm_board.specs.Board.{IsFrom1To, IsSoundBoard, SubText, has_channels, is_source, is_unused, may_command}
+use Rattle.cm_board.specs.Block.{admitted, block_of, count_of, has_any, has_command, is_empty, is_fine, item_after, most_of}
+use Rattle.cm_board.specs.Rows.{Block, Row, Value, field, said, further_rows, needed_rows}
+use Rattle.cm_board.specs.Rows as rows
+use Rattle.cm_base.specs.Parts.{fixed, begins, begins_words}
+use Rattle.cm_board.specs.BoardPart.{block_said, blocks_from, any_words, head_after, is_name, is_signals, is_subdevice, next_block}
 use Rattle.cm_board.specs.Items.{head_words, item_of}
-use Rattle.cm_board.specs.Limits.{IsLimited, is_command, is_limited, is_range, is_span, is_time, is_within, stands}
+use Rattle.cm_board.specs.Limits.{IsLimited, keeps}
+use Rattle.cm_board.proofs.LineLimits.{is_command, is_command_row, is_limited, stands}
 use Rattle.cm_board.specs.declared.board.Kind.{Kind}
 use Rattle.cm_board.specs.declared.board.Kind.TheVariants as kinds
 use Rattle.cm_board.specs.declared.items.Head.{Head}
@@ -34,8 +40,8 @@ is_good kind item = is_limited item && is_fine item && stands kind item
 -- lines that are good each, and few
 pub record AreGood (kind : Kind) (items : List Item) : Type 0 where
   pub good : list_all (is_good kind) items ≡ true
-  pub few_ranges : length (filter_map ranges_in items) ≤ 16
-  pub few_pairs : length (filter_map forbidden_in items) ≤ 16
+  pub few_ranges : length (filter_map (said rows.ranges) items) ≤ 16
+  pub few_pairs : length (filter_map (said rows.forbidden) items) ≤ 16
 
 passed : (room fine : Bool) (item : Item) (fault : Fault) → IfOk (cond room (cond fine (Ok item) (Err faults.Bad)) (Err fault)) (λ x. (room ≡ true) × (fine ≡ true) × (x ≡ item))
 passed true true item fault = (refl, refl, refl)
@@ -43,23 +49,23 @@ passed true false item fault = tt
 passed false fine item fault = tt
 
 -- one line more keeps the lists of those that may stand sixteen times short
-range_more : (before : List Item) (item : Item) → length (filter_map ranges_in before) ≤ 16 → nat_lt (count_of item (block_of before)) (most_of item) ≡ true → length (filter_map ranges_in (before ++ item ∷ [])) ≤ 16
+range_more : (before : List Item) (item : Item) → length (filter_map (said rows.ranges) before) ≤ 16 → nat_lt (count_of item (block_of before)) (most_of item) ≡ true → length (filter_map (said rows.ranges) (before ++ item ∷ [])) ≤ 16
 range_more before item h room = ends (split item room)
   where
-    ends : length (filter_map ranges_in before) + length (filter_map ranges_in (item ∷ [])) ≤ 16 → length (filter_map ranges_in (before ++ item ∷ [])) ≤ 16
-    ends k = omega (arith, ap length (filter_map-append ranges_in before (item ∷ [])), length-append (filter_map ranges_in before) (filter_map ranges_in (item ∷ [])))
+    ends : length (filter_map (said rows.ranges) before) + length (filter_map (said rows.ranges) (item ∷ [])) ≤ 16 → length (filter_map (said rows.ranges) (before ++ item ∷ [])) ≤ 16
+    ends k = omega (arith, ap length (filter_map-append (said rows.ranges) before (item ∷ [])), length-append (filter_map (said rows.ranges) before) (filter_map (said rows.ranges) (item ∷ [])))
 
-    split : (i : Item) → nat_lt (count_of i (block_of before)) (most_of i) ≡ true → length (filter_map ranges_in before) + length (filter_map ranges_in (i ∷ [])) ≤ 16
+    split : (i : Item) → nat_lt (count_of i (block_of before)) (most_of i) ≡ true → length (filter_map (said rows.ranges) before) + length (filter_map (said rows.ranges) (i ∷ [])) ≤ 16
     split (items.Range r) e = grind (arith, nat_tests)
     split other e = omega arith
 
-pair_more : (before : List Item) (item : Item) → length (filter_map forbidden_in before) ≤ 16 → nat_lt (count_of item (block_of before)) (most_of item) ≡ true → length (filter_map forbidden_in (before ++ item ∷ [])) ≤ 16
+pair_more : (before : List Item) (item : Item) → length (filter_map (said rows.forbidden) before) ≤ 16 → nat_lt (count_of item (block_of before)) (most_of item) ≡ true → length (filter_map (said rows.forbidden) (before ++ item ∷ [])) ≤ 16
 pair_more before item h room = ends (split item room)
   where
-    ends : length (filter_map forbidden_in before) + length (filter_map forbidden_in (item ∷ [])) ≤ 16 → length (filter_map forbidden_in (before ++ item ∷ [])) ≤ 16
-    ends k = omega (arith, ap length (filter_map-append forbidden_in before (item ∷ [])), length-append (filter_map forbidden_in before) (filter_map forbidden_in (item ∷ [])))
+    ends : length (filter_map (said rows.forbidden) before) + length (filter_map (said rows.forbidden) (item ∷ [])) ≤ 16 → length (filter_map (said rows.forbidden) (before ++ item ∷ [])) ≤ 16
+    ends k = omega (arith, ap length (filter_map-append (said rows.forbidden) before (item ∷ [])), length-append (filter_map (said rows.forbidden) before) (filter_map (said rows.forbidden) (item ∷ [])))
 
-    split : (i : Item) → nat_lt (count_of i (block_of before)) (most_of i) ≡ true → length (filter_map forbidden_in before) + length (filter_map forbidden_in (i ∷ [])) ≤ 16
+    split : (i : Item) → nat_lt (count_of i (block_of before)) (most_of i) ≡ true → length (filter_map (said rows.forbidden) before) + length (filter_map (said rows.forbidden) (i ∷ [])) ≤ 16
     split (items.Forbid f) e = grind (arith, nat_tests)
     split other e = omega arith
 
@@ -70,24 +76,24 @@ one_good kind before item h limit stand fine room = record {
   few_pairs = pair_more before item h.few_pairs room;
 }
 
-line_good : (kind : Kind) (before : List Item) (line : LineText) → AreGood kind before → IfOk (item_behind kind before line) (λ item. AreGood kind (before ++ item ∷ []))
+line_good : (kind : Kind) (before : List Item) (line : LineText) → AreGood kind before → IfOk (item_after kind before line) (λ item. AreGood kind (before ++ item ∷ []))
 line_good kind before line h =
-    then_ok (λ item. IsTrue (is_limited item) × IsTrue (stands kind item)) (λ item. AreGood kind (before ++ item ∷ [])) (item_of kind line) (behind (block_of before)) (item_may kind line)
-    (λ item may. told item (behind (block_of before) item) may (passed (nat_lt (count_of item (block_of before)) (most_of item)) (is_fine item) item _))
+    then_ok (λ item. IsTrue (is_limited item) × IsTrue (stands kind item)) (λ item. AreGood kind (before ++ item ∷ [])) (item_of kind line) (admitted (block_of before)) (item_may kind line)
+    (λ item may. reported item (admitted (block_of before) item) may (passed (nat_lt (count_of item (block_of before)) (most_of item)) (is_fine item) item _))
   where
-    told : (item : Item) (read : Result Item Fault) → IsTrue (is_limited item) × IsTrue (stands kind item) → IfOk read (λ x. (nat_lt (count_of item (block_of before)) (most_of item) ≡ true) × (is_fine item ≡ true) × (x ≡ item)) → IfOk read (λ item. AreGood kind (before ++ item ∷ []))
-    told item (Err fault) may p = tt
-    told item (Ok x) may p = subst (λ (y : Item). AreGood kind (before ++ y ∷ [])) (sym p.2) (one_good kind before item h may.0 may.1 p.1 p.0)
+    reported : (item : Item) (read : Result Item Fault) → IsTrue (is_limited item) × IsTrue (stands kind item) → IfOk read (λ x. (nat_lt (count_of item (block_of before)) (most_of item) ≡ true) × (is_fine item ≡ true) × (x ≡ item)) → IfOk read (λ item. AreGood kind (before ++ item ∷ []))
+    reported item (Err fault) may p = tt
+    reported item (Ok x) may p = subst (λ (y : Item). AreGood kind (before ++ y ∷ [])) (sym p.2) (one_good kind before item h may.0 may.1 p.1 p.0)
 
 pub at_line_keeps : {X : Type 0} (P : X → Type 0) (number : ℕ) (read : Result X Fault) → IfOk read P → IfOk (at_line number read) P
 at_line_keeps P number (Ok x) h = h
 at_line_keeps P number (Err fault) h = tt
 
-each_good : (kind : Kind) (before : List Item) (lines : List LineText) → AreGood kind before → IfOk (read_each (item_behind kind) before lines) (AreGood kind)
+each_good : (kind : Kind) (before : List Item) (lines : List LineText) → AreGood kind before → IfOk (read_each (item_after kind) before lines) (AreGood kind)
 each_good kind before [] h = h
 each_good kind before (line ∷ rest) h =
-    then_ok (λ item. AreGood kind (before ++ item ∷ [])) (AreGood kind) (at_line line.number (item_behind kind before line)) _
-    (at_line_keeps (λ item. AreGood kind (before ++ item ∷ [])) line.number (item_behind kind before line) (line_good kind before line h))
+    then_ok (λ item. AreGood kind (before ++ item ∷ [])) (AreGood kind) (at_line line.number (item_after kind before line)) _
+    (at_line_keeps (λ item. AreGood kind (before ++ item ∷ [])) line.number (item_after kind before line) (line_good kind before line h))
     (λ item good. each_good kind (before ++ item ∷ []) rest good)
 
 -- what is kept of the items that have something to say
@@ -114,68 +120,26 @@ good_fine kind item h = (both (is_limited item) (is_fine item) (both (is_limited
 good_stands : (kind : Kind) (item : Item) → is_good kind item ≡ true → stands kind item ≡ true
 good_stands kind item h = (both (is_limited item && is_fine item) (stands kind item) h).1
 
-bits_kept : (kind : Kind) (item : Item) → is_good kind item ≡ true → passes (is_within 1 24) (bits_in item) ≡ true
+-- what a line says keeps what its form asks
+value_kept : (kind : Kind) (row : Row) (item : Item) → is_good kind item ≡ true → passes (keeps row) (said row item) ≡ true
 unfolding passes
-bits_kept kind (items.Bits k) h = good_limit kind (items.Bits k) h
-bits_kept kind other h = refl
-
-munge_kept : (kind : Kind) (item : Item) → is_good kind item ≡ true → passes is_munge (munge_in item) ≡ true
-unfolding passes
-munge_kept kind (items.Munge m) h = good_limit kind (items.Munge m) h
-munge_kept kind other h = refl
-
-range_kept : (kind : Kind) (item : Item) → is_good kind item ≡ true → passes is_range (ranges_in item) ≡ true
-unfolding passes
-range_kept kind (items.Range r) h = and_true _ _ (good_limit kind (items.Range r) h) (good_fine kind (items.Range r) h)
-range_kept kind other h = refl
-
-sources_kept : (kind : Kind) (item : Item) → is_good kind item ≡ true → passes (λ s. are_full (masks_said s)) (sources_in item) ≡ true
-unfolding passes
-sources_kept kind (items.Sources s) h = good_limit kind (items.Sources s) h
-sources_kept kind other h = refl
-
-tick_kept : (kind : Kind) (item : Item) → is_good kind item ≡ true → passes (is_within 1 1000000000) (tick_in item) ≡ true
-unfolding passes
-tick_kept kind (items.Tick n) h = good_limit kind (items.Tick n) h
-tick_kept kind other h = refl
-
-scan_kept : (kind : Kind) (item : Item) → is_good kind item ≡ true → passes is_span (scan_in item) ≡ true
-unfolding passes
-scan_kept kind (items.Scan s) h = and_true _ _ (good_limit kind (items.Scan s) h) (good_fine kind (items.Scan s) h)
-scan_kept kind other h = refl
-
-convert_kept : (kind : Kind) (item : Item) → is_good kind item ≡ true → passes is_span (convert_in item) ≡ true
-unfolding passes
-convert_kept kind (items.Convert s) h = and_true _ _ (good_limit kind (items.Convert s) h) (good_fine kind (items.Convert s) h)
-convert_kept kind other h = refl
-
-list_kept : (kind : Kind) (item : Item) → is_good kind item ≡ true → passes (is_within 1 256) (list_in item) ≡ true
-unfolding passes
-list_kept kind (items.List n) h = good_limit kind (items.List n) h
-list_kept kind other h = refl
-
-scans_kept : (kind : Kind) (item : Item) → is_good kind item ≡ true → passes is_time (scans_in item) ≡ true
-unfolding passes
-scans_kept kind (items.Scans n) h = good_limit kind (items.Scans n) h
-scans_kept kind other h = refl
-
-lines_kept : (kind : Kind) (item : Item) → is_good kind item ≡ true → passes (is_within 0 16) (lines_in item) ≡ true
-unfolding passes
-lines_kept kind (items.Lines n) h = good_limit kind (items.Lines n) h
-lines_kept kind other h = refl
-
-buffer_kept : (kind : Kind) (item : Item) → is_good kind item ≡ true → passes (is_within 1 65536) (buffer_in item) ≡ true
-unfolding passes
-buffer_kept kind (items.Buffer n) h = good_limit kind (items.Buffer n) h
-buffer_kept kind other h = refl
-
-pair_kept : (kind : Kind) (item : Item) → is_good kind item ≡ true → passes is_pair (forbidden_in item) ≡ true
-unfolding passes
-pair_kept kind (items.Forbid f) h =
+value_kept kind rows.bits (items.Bits k) h = good_limit kind (items.Bits k) h
+value_kept kind rows.munge (items.Munge m) h = good_limit kind (items.Munge m) h
+value_kept kind rows.ranges (items.Range r) h = and_true _ _ (good_limit kind (items.Range r) h) (good_fine kind (items.Range r) h)
+value_kept kind rows.sources (items.Sources s) h = good_limit kind (items.Sources s) h
+value_kept kind rows.tick (items.Tick n) h = good_limit kind (items.Tick n) h
+value_kept kind rows.scan (items.Scan s) h = and_true _ _ (good_limit kind (items.Scan s) h) (good_fine kind (items.Scan s) h)
+value_kept kind rows.convert (items.Convert s) h = and_true _ _ (good_limit kind (items.Convert s) h) (good_fine kind (items.Convert s) h)
+value_kept kind rows.list (items.List n) h = good_limit kind (items.List n) h
+value_kept kind rows.scans (items.Scans n) h = good_limit kind (items.Scans n) h
+value_kept kind rows.lines (items.Lines n) h = good_limit kind (items.Lines n) h
+value_kept kind rows.buffer (items.Buffer n) h = good_limit kind (items.Buffer n) h
+value_kept kind rows.same_range items.SameRange h = refl
+value_kept kind rows.forbidden (items.Forbid f) h =
     let l = both (nat_lt f.field 5 && nat_lt f.other 5 && is_source f.src) (is_source f.other_src) (good_limit kind (items.Forbid f) h) in
     let m = both (nat_lt f.field 5 && nat_lt f.other 5) (is_source f.src) l.0 in
     and_true _ _ (and_true _ _ (and_true _ _ m.0 (good_fine kind (items.Forbid f) h)) m.1) l.1
-pair_kept kind other h = refl
+value_kept kind row other h = refl
 
 -- an unused block has no lines
 no_lines : (before : List Item) → list_all (is_good kinds.Unused) before ≡ true → before ≡ []
@@ -197,10 +161,6 @@ none_of {X = X} f sub [] h = refl
 none_of {X = X} f sub (i ∷ before) h =
     let b = both (not (is_command i)) (list_all (λ i. not (is_command i)) before) h in
     ap (λ o. cons_option o (filter_map f before)) (sub i (not_true (is_command i) b.0)) ∙ none_of f sub before b.1
-  where
-    not_true : (b : Bool) → not b ≡ true → b ≡ false
-    not_true true e = cc
-    not_true false e = refl
 
 plain_lines : (before : List Item) → list_all (is_good kinds.Dio) before ≡ true → list_all (λ i. not (is_command i)) before ≡ true
 plain_lines [] h = refl
@@ -208,59 +168,36 @@ plain_lines (i ∷ before) h =
     let b = both (is_good kinds.Dio i) (list_all (is_good kinds.Dio) before) h in
     and_true (not (is_command i)) _ (good_stands kinds.Dio i b.0) (plain_lines before b.1)
 
-sources_none : (i : Item) → is_command i ≡ false → sources_in i ≡ None
-sources_none (items.Sources s) e = cc
-sources_none other e = refl
+-- a line says nothing in the rows of commands where it is none of theirs
+not_in : (row : Row) → is_command_row row ≡ true → (item : Item) → is_command item ≡ false → said row item ≡ None
+not_in rows.bits c (items.Bits k) e = cc
+not_in rows.munge c (items.Munge m) e = cc
+not_in rows.ranges c (items.Range r) e = cc
+not_in rows.sources c (items.Sources s) e = cc
+not_in rows.tick c (items.Tick n) e = cc
+not_in rows.scan c (items.Scan s) e = cc
+not_in rows.convert c (items.Convert s) e = cc
+not_in rows.list c (items.List n) e = cc
+not_in rows.scans c (items.Scans n) e = cc
+not_in rows.lines c (items.Lines n) e = cc
+not_in rows.buffer c (items.Buffer n) e = cc
+not_in rows.same_range c items.SameRange e = cc
+not_in rows.forbidden c (items.Forbid f) e = cc
+not_in row c other e = refl
 
-tick_none : (i : Item) → is_command i ≡ false → tick_in i ≡ None
-tick_none (items.Tick s) e = cc
-tick_none other e = refl
+field_said : (row : Row) (its : List Item) → field row (block_of its) ≡ filter_map (said row) its
+field_said rows.bits its = refl
+field_said row its = refl
 
-scan_none : (i : Item) → is_command i ≡ false → scan_in i ≡ None
-scan_none (items.Scan s) e = cc
-scan_none other e = refl
-
-convert_none : (i : Item) → is_command i ≡ false → convert_in i ≡ None
-convert_none (items.Convert s) e = cc
-convert_none other e = refl
-
-list_none : (i : Item) → is_command i ≡ false → list_in i ≡ None
-list_none (items.List s) e = cc
-list_none other e = refl
-
-scans_none : (i : Item) → is_command i ≡ false → scans_in i ≡ None
-scans_none (items.Scans s) e = cc
-scans_none other e = refl
-
-lines_none : (i : Item) → is_command i ≡ false → lines_in i ≡ None
-lines_none (items.Lines s) e = cc
-lines_none other e = refl
-
-buffer_none : (i : Item) → is_command i ≡ false → buffer_in i ≡ None
-buffer_none (items.Buffer s) e = cc
-buffer_none other e = refl
-
-same_range_none : (i : Item) → is_command i ≡ false → same_range_in i ≡ None
-same_range_none items.SameRange e = cc
-same_range_none other e = refl
-
-forbidden_none : (i : Item) → is_command i ≡ false → forbidden_in i ≡ None
-forbidden_none (items.Forbid s) e = cc
-forbidden_none other e = refl
+none_any : (some : List Row) (before : List Item) → list_all is_command_row some ≡ true → list_all (λ i. not (is_command i)) before ≡ true → has_any some (block_of before) ≡ false
+none_any [] before c h = refl
+none_any (row ∷ some) before c h =
+    let b = both (is_command_row row) (list_all is_command_row some) c in
+    or_from (not (is_empty (field row (block_of before)))) (has_any some (block_of before))
+    (ap (λ (xs : List (Value row)). not (is_empty xs)) (field_said row before ∙ none_of (said row) (not_in row b.0) before h)) (none_any some before b.1 h)
 
 no_commands : (before : List Item) → list_all (λ i. not (is_command i)) before ≡ true → has_command (block_of before) ≡ false
-no_commands before h = rw (
-  none_of sources_in sources_none before h,
-  none_of tick_in tick_none before h,
-  none_of scan_in scan_none before h,
-  none_of convert_in convert_none before h,
-  none_of list_in list_none before h,
-  none_of buffer_in buffer_none before h,
-  none_of scans_in scans_none before h,
-  none_of lines_in lines_none before h,
-  none_of same_range_in same_range_none before h,
-  none_of forbidden_in forbidden_none before h,
-) refl
+no_commands before h = or_from (has_any needed_rows (block_of before)) (has_any further_rows (block_of before)) (none_any needed_rows before refl h) (none_any further_rows before refl h)
 
 commands_kept : (kind : Kind) (before : List Item) → list_all (is_good kind) before ≡ true → IsTrue (may_command kind || not (has_command (block_of before)))
 commands_kept kinds.Unused before h = rw (no_lines before h) refl
@@ -270,28 +207,21 @@ commands_kept other before h = refl
 -- good lines make a block that keeps its limits
 limited_block : (kind : Kind) (before : List Item) → AreGood kind before → IsLimited kind (block_of before)
 limited_block kind before h = record {
-  bits = kept (is_good kind) (is_within 1 24) bits_in (bits_kept kind) before h.good;
-  munge = kept (is_good kind) is_munge munge_in (munge_kept kind) before h.good;
-  ranges = kept (is_good kind) is_range ranges_in (range_kept kind) before h.good;
+  each = λ row. each row;
   few_ranges = h.few_ranges;
-  sources = kept (is_good kind) (λ s. are_full (masks_said s)) sources_in (sources_kept kind) before h.good;
-  tick = kept (is_good kind) (is_within 1 1000000000) tick_in (tick_kept kind) before h.good;
-  scan = kept (is_good kind) is_span scan_in (scan_kept kind) before h.good;
-  convert = kept (is_good kind) is_span convert_in (convert_kept kind) before h.good;
-  list = kept (is_good kind) (is_within 1 256) list_in (list_kept kind) before h.good;
-  scans = kept (is_good kind) is_time scans_in (scans_kept kind) before h.good;
-  lines = kept (is_good kind) (is_within 0 16) lines_in (lines_kept kind) before h.good;
-  buffer = kept (is_good kind) (is_within 1 65536) buffer_in (buffer_kept kind) before h.good;
-  pairs = kept (is_good kind) is_pair forbidden_in (pair_kept kind) before h.good;
   few_pairs = h.few_pairs;
   unused = unused_kept kind before h.good;
   commands = commands_kept kind before h.good;
 }
+  where
+    each : (row : Row) → IsTrue (list_all (keeps row) (field row (block_of before)))
+    each rows.bits = kept (is_good kind) (keeps rows.bits) (said rows.bits) (value_kept kind rows.bits) before h.good
+    each row = kept (is_good kind) (keeps row) (said row) (value_kept kind row) before h.good
 
--- what the lines behind a head say together keeps its limits
+-- what the lines after a head say together keeps its limits
 pub block_limited : (kind : Kind) (lines : List LineText) → IfOk (block_said kind lines) (IsLimited kind)
 block_limited kind lines =
-    then_ok (AreGood kind) (IsLimited kind) (read_each (item_behind kind) [] lines) _
+    then_ok (AreGood kind) (IsLimited kind) (read_each (item_after kind) [] lines) _
     (each_good kind [] lines (record { good = refl; few_ranges = omega arith; few_pairs = omega arith }))
     (λ before good. limited_block kind before good)
 
@@ -302,10 +232,10 @@ pub block_keeps : (kind : Kind) (lines : List LineText) (block : Block) → bloc
 block_keeps kind lines block e = ok_keeps (IsLimited kind) (block_said kind lines) block e (block_limited kind lines)
 
 -- a head has the channels that its kind may have, and at most 15 blocks before it
-pub head_keeps : (number count : ℕ) (line : LineText) (head : Head) → at_line number (head_behind count line) ≡ Ok head → IsTrue (has_channels head.kind head.channels) × IsTrue (nat_lt count 16)
+pub head_keeps : (number count : ℕ) (line : LineText) (head : Head) → at_line number (head_after count line) ≡ Ok head → IsTrue (has_channels head.kind head.channels) × IsTrue (nat_lt count 16)
 head_keeps number count line head e =
-    ok_keeps (λ (h : Head). IsTrue (has_channels h.kind h.channels) × IsTrue (nat_lt count 16)) (at_line number (head_behind count line)) head e
-    (at_line_keeps (λ (h : Head). IsTrue (has_channels h.kind h.channels) × IsTrue (nat_lt count 16)) number (head_behind count line)
+    ok_keeps (λ (h : Head). IsTrue (has_channels h.kind h.channels) × IsTrue (nat_lt count 16)) (at_line number (head_after count line)) head e
+    (at_line_keeps (λ (h : Head). IsTrue (has_channels h.kind h.channels) × IsTrue (nat_lt count 16)) number (head_after count line)
     (then_ok (λ (h : Head). IsTrue (has_channels h.kind h.channels)) (λ (h : Head). IsTrue (has_channels h.kind h.channels) × IsTrue (nat_lt count 16)) (head_words (drop 1 line.words)) _ (head_may (drop 1 line.words))
     (λ h channels. limited_ok (λ (h : Head). IsTrue (has_channels h.kind h.channels) × IsTrue (nat_lt count 16)) (nat_lt count 16) h (λ few. (channels, few)))))
 
@@ -316,8 +246,8 @@ const_ok (Err e) h = tt
 -- a block that is read has at most 15 before it
 block_few : (end count : ℕ) (line : LineText) (rest : List LineText) → IfOk (next_block end count line rest) (λ sub. IsTrue (nat_lt count 16))
 block_few end count line rest =
-    then_ok (λ head. IsTrue (nat_lt count 16)) (λ sub. IsTrue (nat_lt count 16)) (at_line line.number (head_behind count line)) _
-    (at_line_keeps (λ head. IsTrue (nat_lt count 16)) line.number (head_behind count line)
+    then_ok (λ head. IsTrue (nat_lt count 16)) (λ sub. IsTrue (nat_lt count 16)) (at_line line.number (head_after count line)) _
+    (at_line_keeps (λ head. IsTrue (nat_lt count 16)) line.number (head_after count line)
     (then_ok Any (λ head. IsTrue (nat_lt count 16)) (head_words (drop 1 line.words)) _ (any_ok _) (λ head any. limited_ok (λ head. IsTrue (nat_lt count 16)) (nat_lt count 16) head (λ few. few))))
     (λ head few. const_ok _ few)
 
@@ -340,7 +270,7 @@ blocks_few end count (line ∷ rest) h = split (is_signals line) (is_subdevice l
         (λ sub few. then_ok (λ subs. count + 1 + length subs ≤ 16) (λ subs. count + length subs ≤ 16) (blocks_from end (count + 1) rest) _ (later (one_more_room count few)) (λ subs k. one_less count subs sub k))
 
 -- a line begins with one word
-one_key : (words : List (List ℕ)) (key other : List ℕ) → (key ≡ other → ⊥) → begins_words key words ≡ true → begins_words other words ≡ false
+pub one_key : (words : List (List ℕ)) (key other : List ℕ) → (key ≡ other → ⊥) → begins_words key words ≡ true → begins_words other words ≡ false
 one_key [] key other apart h = refl
 one_key (word ∷ words) key other apart h = differs (bytes_eq word other) refl
   where
@@ -351,10 +281,7 @@ one_key (word ∷ words) key other apart h = differs (bytes_eq word other) refl
 subdevice_signals : codes "subdevice" ≡ codes "signals" → ⊥
 subdevice_signals e = cc
 
--- what a first line says by whether it is bad and begins with the one word
-abbrev keyed : LineText → Bool → Bool → Result (ℕ × List (List ℕ)) Fault
-keyed line bad begun = cond bad (Err faults.BadLine) (cond begun (Ok (line.number, drop 1 line.words)) (Err faults.Missing))
-
+-- what a first line says of its block, by whether it is bad and begins with the one word
 abbrev any_keyed : LineText → Bool → Bool → Result Bool Refused
 any_keyed line bad begun = at_line line.number (keyed line bad begun) >>= λ words. at_line words.0 (any_words words.1)
 
@@ -372,10 +299,6 @@ blocks_some end (line ∷ rest) any e = begins_one line.bad refl e
     at_block false true p q =
         then_ok Any (λ subs. 1 ≤ length subs) (next_block end 0 line rest) _ (any_ok _) (λ sub any. then_ok Any (λ subs. 1 ≤ length subs) (blocks_from end (0 + 1) rest) _ (any_ok _) (λ subs any. read_one subs sub))
 
-    no_end : (b : Bool) → (b && false) ≡ false
-    no_end true = refl
-    no_end false = refl
-
     key_begins : (b : Bool) → begins (codes "subdevice") line ≡ b → any_keyed line false b ≡ Ok any → begins (codes "subdevice") line ≡ true
     key_begins true is e = is
     key_begins false is e = cc
@@ -386,7 +309,7 @@ blocks_some end (line ∷ rest) any e = begins_one line.bad refl e
         let good = key_begins (begins (codes "subdevice") line) refl e in
         let word = both (not line.bad) (begins_words (codes "subdevice") line.words) good in
         at_block (is_signals line) (is_subdevice line)
-        (ap (λ b. not line.bad && b) (one_key line.words (codes "subdevice") (codes "signals") subdevice_signals word.1) ∙ no_end (not line.bad)) good
+        (and_right (not line.bad) _ (one_key line.words (codes "subdevice") (codes "signals") subdevice_signals word.1)) good
 
 -- the subdevices that are read are 1 to 16
 pub subs_keep : (end : ℕ) (lines : List LineText) (any : Bool) (subs : List SubText) → fixed end (codes "subdevice") any_words lines ≡ Ok any → blocks_from end 0 lines ≡ Ok subs → IsFrom1To 16 (length subs)

@@ -4,8 +4,11 @@ pub mod Fields
 pub mod Good
 pub mod ItemsBack
 pub mod Limited
+pub mod LineLimits
 pub mod Lines
+pub mod Prefix
 pub mod PrintedBack
+pub mod Refusal
 pub mod Sound
 pub mod SubBack
 pub mod WordsBack

@@ -1,7 +1,8 @@
 -- The limits that a line's words keep once they are read.
-use Rattle.std.proofs.Common.{◌≡◌, ℕ, Bool, true, false, cond, not, ◌&&◌, List, [], ◌∷◌, Option, Some, None, Result, Ok, Err, refl, IsTrue, nat_le, nat_lt, ◌==◌, arith}
+use Rattle.std.proofs.Common.{◌≡◌, ℕ, Bool, true, false, cond, not, ◌&&◌, List, [], ◌∷◌, ◌++◌, subst, Option, Some, None, Result, Ok, Err, refl, IsTrue, nat_le, nat_lt, ◌==◌, arith}
 use Rattle.std.proofs.lemmas.Bool.Decides.{nat_tests}
 use Rattle.std.specs.Prelude.{bit_and, ◌-◌}
+use Rattle.std.specs.List.{list_all}
 use Rattle.std.specs.Result.{IfOk}
 use Rattle.std.specs.Str.{bytes_eq}
 use Rattle.cm_base.specs.Lines.{LineText}
@@ -10,10 +11,13 @@ use Rattle.cm_base.specs.Reading.{◌>>=◌}
 use Rattle.cm_base.specs.Words.{Form, is_int, alone, one, two, no_words, one_word, two_words, three_words, four_words, five_words, chosen, keyword, listed, limited, number_in, or_fault, signed_number, source_in, source_of, sources_in}
 use Rattle.cm_base.specs.declared.faults.Fault.{Fault}
 use Rattle.cm_base.specs.declared.faults.Fault.TheVariants.{BadLine, BadNumber, Unknown}
-use Rattle.cm_base.proofs.Bools.{and_true, both}
+use Rattle.cm_base.proofs.Bools.{and_true, both, not_true}
 use Rattle.cm_board.specs.Board.{has_channels, is_among, is_munge, is_source}
-use Rattle.cm_board.specs.Items.{bits_words, block_forms, buffer_words, channels_word, command_forms, convert_words, field_word, fields, forbid_words, form_of, head_words, item_of, item_words, kind_word, left_words, lines_words, list_words, munge_forms, munge_item_words, munge_words, or_else, range_words, same_range_words, scan_words, scans_words, sources_words, tick_words, time_word}
-use Rattle.cm_board.specs.Limits.{is_command, is_limited, is_time, is_within, stands}
+use Rattle.cm_board.specs.Items.{block_forms, channels_word, command_forms, field_word, fields, form_of, forms_of, head_words, item_of, item_words, kind_word, left_words, munge_forms, munge_words, or_else, time_word, words_of}
+use Rattle.cm_board.specs.Rows.{Row, further_rows, needed_rows, plain_rows}
+use Rattle.cm_board.specs.Rows as rows
+use Rattle.cm_board.specs.Limits.{is_time, is_within}
+use Rattle.cm_board.proofs.LineLimits.{is_command, is_command_row, is_limited, stands}
 use Rattle.cm_board.specs.declared.board.Kind.{Kind}
 use Rattle.cm_board.specs.declared.board.Kind.TheVariants as kinds
 use Rattle.cm_board.specs.declared.board.Munge.TheVariants as munges
@@ -75,10 +79,6 @@ chosen_ok P forms h (word ∷ words) = then_ok (λ form. (words : List (List ℕ
 Fits : Bool → Item → Type 0
 Fits command item = IsTrue (is_limited item) × (is_command item ≡ command)
 
-bits_ok : (words : List (List ℕ)) → IfOk (bits_words words) (Fits false)
-unfolding Fits
-bits_ok = one_ok (λ n. IsTrue (is_within 1 24 n)) (Fits false) items.Bits (number_in 1 24) (number_ok 1 24) (λ n h. (h, refl))
-
 left_ok : (words : List (List ℕ)) → IfOk (left_words words) (λ munge. IsTrue (is_munge munge))
 left_ok = one_ok (λ n. IsTrue (is_within 1 8 n)) (λ munge. IsTrue (is_munge munge)) munges.Left (number_in 1 8) (number_ok 1 8) (λ n h. h)
 
@@ -90,25 +90,28 @@ unfolding Each
 munge_ok = chosen_ok (λ munge. IsTrue (is_munge munge)) munge_forms
     (alone_ok (λ munge. IsTrue (is_munge munge)) munges.Plain refl, (alone_ok (λ munge. IsTrue (is_munge munge)) munges.Offset refl, (alone_ok (λ munge. IsTrue (is_munge munge)) munges.Swap16 refl, (left_ok, tt))))
 
-munge_item_ok : (words : List (List ℕ)) → IfOk (munge_item_words words) (Fits false)
-unfolding Fits
-munge_item_ok words = then_ok (λ munge. IsTrue (is_munge munge)) (Fits false) (munge_words words) _ (munge_ok words) (λ munge h. (h, refl))
-
 int_ok : (w : List ℕ) → IfOk (signed_number w) (λ n. IsTrue (is_int n))
 int_ok w = then_ok Any (λ n. IsTrue (is_int n)) (or_fault BadNumber (signed_of w)) _ (any_ok _) (λ n any. limited_ok (λ n. IsTrue (is_int n)) (is_int n) n (λ h. h))
 
-range_ok : (words : List (List ℕ)) → IfOk (range_words words) (Fits false)
+time_ok : (w : List ℕ) → IfOk (time_word w) (λ n. IsTrue (is_time n))
+time_ok = number_ok 1 4000000000
+
+field_ok : (w : List ℕ) → IfOk (field_word w) (λ n. IsTrue (nat_lt n 5))
+unfolding Each
+field_ok = keyword_ok (λ n. IsTrue (nat_lt n 5)) fields (refl, (refl, (refl, (refl, (refl, tt)))))
+
+-- what the words of each form say keeps its limits, and is a line of commands or none
+words_ok : (row : Row) (words : List (List ℕ)) → IfOk (words_of row words) (Fits (is_command_row row))
 unfolding Fits
-range_ok words =
+words_ok rows.bits words = one_ok (λ n. IsTrue (is_within 1 24 n)) (Fits false) items.Bits (number_in 1 24) (number_ok 1 24) (λ n h. (h, refl)) words
+words_ok rows.munge words = then_ok (λ munge. IsTrue (is_munge munge)) (Fits false) (munge_words words) _ (munge_ok words) (λ munge h. (h, refl))
+words_ok rows.ranges words =
     then_ok Any (Fits false) (three_words words) _ (any_ok _) (λ w any.
     then_ok (λ n. IsTrue (is_int n)) (Fits false) (signed_number w.0) _ (int_ok w.0) (λ a p.
     then_ok (λ n. IsTrue (is_int n)) (Fits false) (signed_number w.1) _ (int_ok w.1) (λ b q.
     then_ok (λ n. IsTrue (is_within 0 2 n)) (Fits false) (number_in 0 2 w.2) _ (number_ok 0 2 w.2) (λ c r.
     (and_true _ _ (and_true _ _ p q) (both (nat_le 0 c) (nat_le c 2) r).1, refl)))))
-
-sources_line_ok : (words : List (List ℕ)) → IfOk (sources_words words) (Fits true)
-unfolding Fits
-sources_line_ok words =
+words_ok rows.sources words =
     then_ok Any (Fits true) (five_words words) _ (any_ok _) (λ w any.
     then_ok (λ n. IsTrue (is_among 194 n)) (Fits true) (sources_in 194 w.0) _ (sources_ok 194 w.0) (λ a p.
     then_ok (λ n. IsTrue (is_among 84 n)) (Fits true) (sources_in 84 w.1) _ (sources_ok 84 w.1) (λ b q.
@@ -116,49 +119,15 @@ sources_line_ok words =
     then_ok (λ n. IsTrue (is_among 32 n)) (Fits true) (sources_in 32 w.3) _ (sources_ok 32 w.3) (λ d s.
     then_ok (λ n. IsTrue (is_among 33 n)) (Fits true) (sources_in 33 w.4) _ (sources_ok 33 w.4) (λ e t.
     (and_true _ _ (and_true _ _ (and_true _ _ (and_true _ _ p q) r) s) t, refl)))))))
-
-time_ok : (w : List ℕ) → IfOk (time_word w) (λ n. IsTrue (is_time n))
-time_ok = number_ok 1 4000000000
-
-tick_ok : (words : List (List ℕ)) → IfOk (tick_words words) (Fits true)
-unfolding Fits
-tick_ok = one_ok (λ n. IsTrue (is_within 1 1000000000 n)) (Fits true) items.Tick (number_in 1 1000000000) (number_ok 1 1000000000) (λ n h. (h, refl))
-
-scan_ok : (words : List (List ℕ)) → IfOk (scan_words words) (Fits true)
-unfolding Fits
-scan_ok = two_ok (λ n. IsTrue (is_time n)) (λ n. IsTrue (is_time n)) (Fits true) _ time_word time_word time_ok time_ok (λ x y p q. (and_true _ _ p q, refl))
-
-convert_ok : (words : List (List ℕ)) → IfOk (convert_words words) (Fits true)
-unfolding Fits
-convert_ok = two_ok (λ n. IsTrue (is_time n)) (λ n. IsTrue (is_time n)) (Fits true) _ time_word time_word time_ok time_ok (λ x y p q. (and_true _ _ p q, refl))
-
-list_ok : (words : List (List ℕ)) → IfOk (list_words words) (Fits true)
-unfolding Fits
-list_ok = one_ok (λ n. IsTrue (is_within 1 256 n)) (Fits true) items.List (number_in 1 256) (number_ok 1 256) (λ n h. (h, refl))
-
-scans_ok : (words : List (List ℕ)) → IfOk (scans_words words) (Fits true)
-unfolding Fits
-scans_ok = one_ok (λ n. IsTrue (is_time n)) (Fits true) items.Scans time_word time_ok (λ n h. (h, refl))
-
-lines_ok : (words : List (List ℕ)) → IfOk (lines_words words) (Fits true)
-unfolding Fits
-lines_ok = one_ok (λ n. IsTrue (is_within 0 16 n)) (Fits true) items.Lines (number_in 0 16) (number_ok 0 16) (λ n h. (h, refl))
-
-buffer_ok : (words : List (List ℕ)) → IfOk (buffer_words words) (Fits true)
-unfolding Fits
-buffer_ok = one_ok (λ n. IsTrue (is_within 1 65536 n)) (Fits true) items.Buffer (number_in 1 65536) (number_ok 1 65536) (λ n h. (h, refl))
-
-same_range_ok : (words : List (List ℕ)) → IfOk (same_range_words words) (Fits true)
-unfolding Fits
-same_range_ok = alone_ok (Fits true) items.SameRange (refl, refl)
-
-field_ok : (w : List ℕ) → IfOk (field_word w) (λ n. IsTrue (nat_lt n 5))
-unfolding Each
-field_ok = keyword_ok (λ n. IsTrue (nat_lt n 5)) fields (refl, (refl, (refl, (refl, (refl, tt)))))
-
-forbid_ok : (words : List (List ℕ)) → IfOk (forbid_words words) (Fits true)
-unfolding Fits
-forbid_ok words =
+words_ok rows.tick words = one_ok (λ n. IsTrue (is_within 1 1000000000 n)) (Fits true) items.Tick (number_in 1 1000000000) (number_ok 1 1000000000) (λ n h. (h, refl)) words
+words_ok rows.scan words = two_ok (λ n. IsTrue (is_time n)) (λ n. IsTrue (is_time n)) (Fits true) _ time_word time_word time_ok time_ok (λ x y p q. (and_true _ _ p q, refl)) words
+words_ok rows.convert words = two_ok (λ n. IsTrue (is_time n)) (λ n. IsTrue (is_time n)) (Fits true) _ time_word time_word time_ok time_ok (λ x y p q. (and_true _ _ p q, refl)) words
+words_ok rows.list words = one_ok (λ n. IsTrue (is_within 1 256 n)) (Fits true) items.List (number_in 1 256) (number_ok 1 256) (λ n h. (h, refl)) words
+words_ok rows.scans words = one_ok (λ n. IsTrue (is_time n)) (Fits true) items.Scans time_word time_ok (λ n h. (h, refl)) words
+words_ok rows.lines words = one_ok (λ n. IsTrue (is_within 0 16 n)) (Fits true) items.Lines (number_in 0 16) (number_ok 0 16) (λ n h. (h, refl)) words
+words_ok rows.buffer words = one_ok (λ n. IsTrue (is_within 1 65536 n)) (Fits true) items.Buffer (number_in 1 65536) (number_ok 1 65536) (λ n h. (h, refl)) words
+words_ok rows.same_range words = alone_ok (Fits true) items.SameRange (refl, refl) words
+words_ok rows.forbidden words =
     then_ok Any (Fits true) (four_words words) _ (any_ok _) (λ w any.
     then_ok (λ n. IsTrue (nat_lt n 5)) (Fits true) (field_word w.0) _ (field_ok w.0) (λ f p.
     then_ok (λ n. IsTrue (is_source n)) (Fits true) (source_in 511 w.1) _ (source_ok w.1) (λ s q.
@@ -171,13 +140,16 @@ FormFits : (Item → Type 0) → Form Item → Type 0
 FormFits P form = (words : List (List ℕ)) → IfOk (form words) P
 
 -- the two tables
-block_fits : Each (FormFits (Fits false)) block_forms
+forms_fit : (command : Bool) (some : List Row) → list_all (λ row. cond command (is_command_row row) (not (is_command_row row))) some ≡ true → Each (FormFits (Fits command)) (forms_of some)
 unfolding Each FormFits
-block_fits = (bits_ok, (munge_item_ok, (range_ok, tt)))
-
-command_fits : Each (FormFits (Fits true)) command_forms
-unfolding Each FormFits
-command_fits = (sources_line_ok, (tick_ok, (scan_ok, (convert_ok, (list_ok, (scans_ok, (lines_ok, (buffer_ok, (same_range_ok, (forbid_ok, tt))))))))))
+forms_fit command [] h = tt
+forms_fit command (row ∷ some) h =
+    let b = both (cond command (is_command_row row) (not (is_command_row row))) (list_all (λ row. cond command (is_command_row row) (not (is_command_row row))) some) h in
+    (subst (λ c. (words : List (List ℕ)) → IfOk (words_of row words) (Fits c)) (same (is_command_row row) command b.0) (words_ok row), forms_fit command some b.1)
+  where
+    same : (a b : Bool) → cond b a (not a) ≡ true → a ≡ b
+    same a true e = e
+    same a false e = not_true a e
 
 -- what the form of a first word says, where it has one
 Says : (Item → Type 0) → Option (Form Item) → Type 0
@@ -193,9 +165,9 @@ listed_says P (entry ∷ more) h key = said (bytes_eq key entry.0) (listed_says 
     said true later = h.0
     said false later = later
 
-weaker : {X : Type 0} (P Q : X → Type 0) → ((x : X) → P x → Q x) → (read : Result X Fault) → IfOk read P → IfOk read Q
+pub weaker : {E X : Type 0} (P Q : X → Type 0) → ((x : X) → P x → Q x) → (read : Result X E) → IfOk read P → IfOk read Q
 weaker P Q sub (Ok x) h = sub x h
-weaker P Q sub (Err fault) h = tt
+weaker P Q sub (Err e) h = tt
 
 says_weaker : (P Q : Item → Type 0) → ((item : Item) → P item → Q item) → (form : Option (Form Item)) → Says P form → Says Q form
 unfolding Says
@@ -215,13 +187,13 @@ May kind item = IsTrue (is_limited item) × IsTrue (stands kind item)
 both_say : (kind : Kind) → ((item : Item) → IsTrue (stands kind item)) → (key : List ℕ) → Says (May kind) (or_else (listed block_forms key) (listed command_forms key))
 unfolding Fits
 both_say kind stand key = says_either (May kind) (listed block_forms key) (listed command_forms key)
-    (says_weaker (Fits false) (May kind) (λ item h. (h.0, stand item)) (listed block_forms key) (listed_says (Fits false) block_forms block_fits key))
-    (says_weaker (Fits true) (May kind) (λ item h. (h.0, stand item)) (listed command_forms key) (listed_says (Fits true) command_forms command_fits key))
+    (says_weaker (Fits false) (May kind) (λ item h. (h.0, stand item)) (listed block_forms key) (listed_says (Fits false) block_forms (forms_fit false plain_rows refl) key))
+    (says_weaker (Fits true) (May kind) (λ item h. (h.0, stand item)) (listed command_forms key) (listed_says (Fits true) command_forms (forms_fit true (needed_rows ++ further_rows) refl) key))
 
 form_says : (kind : Kind) (key : List ℕ) → Says (May kind) (form_of kind key)
 unfolding Fits Says
 form_says kinds.Unused key = tt
-form_says kinds.Dio key = says_weaker (Fits false) (May kinds.Dio) (λ item h. (h.0, plain item h.1)) (listed block_forms key) (listed_says (Fits false) block_forms block_fits key)
+form_says kinds.Dio key = says_weaker (Fits false) (May kinds.Dio) (λ item h. (h.0, plain item h.1)) (listed block_forms key) (listed_says (Fits false) block_forms (forms_fit false plain_rows refl) key)
   where
     plain : (item : Item) → is_command item ≡ false → IsTrue (stands kinds.Dio item)
     plain item e = rw e refl

@@ -1,7 +1,7 @@
 -- The lines of a block one after another.
-use Rattle.std.proofs.Common.{◌≡◌, ℕ, suc, ◌+◌, ◌<◌, List, [], ◌∷◌, ◌++◌, length, map, drop, get_or, refl, ap, sym, ◌∙◌, Result, Ok, Err, add-one, drop-cons, Bool, true, false, cond, not, ◌||◌, take, append_assoc, append-nil, arith, length-drop, length-append, ◌-◌, inl, inr, ◌⊎◌, ◌≤◌}
-use Rattle.std.proofs.lemmas.List.{drop_all, drop-map, drop-drop, length-map, take_all}
-use Rattle.std.proofs.lemmas.Bool.{cases_lt}
+use Rattle.std.proofs.Common.{◌≡◌, ℕ, suc, ◌+◌, ◌<◌, List, [], ◌∷◌, ◌++◌, length, map, drop, get_or, refl, ap, sym, ◌∙◌, Result, Ok, Err, Bool, true, false, cond, not, ◌||◌, append_assoc, append-nil, arith, length-drop, length-append, inl, inr, ◌⊎◌, ◌≤◌}
+use Rattle.std.proofs.lemmas.List.{drop_all, drop-map, drop-drop, length-map}
+use Rattle.std.proofs.lemmas.Bool.{cases_lt, true≢false}
 use Rattle.cm_base.specs.ReadStop.{Stops}
 use Rattle.cm_base.specs.declared.faults.ReadStop.{ReadStop}
 use Rattle.cm_base.specs.declared.faults.ReadStop.TheVariants as stops
@@ -12,38 +12,32 @@ use Rattle.cm_base.specs.Reading.{◌>>=◌, at_line, read_each}
 use Rattle.cm_base.specs.declared.lines.Line.{Line}
 use Rattle.cm_base.specs.declared.faults.Fault.{Fault}
 use Rattle.cm_base.specs.declared.faults.Refused.{Refused}
-use Rattle.cm_board.specs.Block.{block_of, item_behind}
-use Rattle.cm_board.specs.BoardPart.{is_part_end, blocks_from, next_block, ends_block, is_between, is_signals, is_subdevice, lines_behind, said_behind, with_front}
+use Rattle.cm_board.specs.Block.{block_of, item_after}
+use Rattle.cm_base.proofs.Bools.{neither}
+use Rattle.cm_base.proofs.Places.{next_line}
+use Rattle.cm_board.specs.BoardPart.{is_part_end, blocks_from, next_block, ends_block, is_between, is_signals, is_subdevice, lines_after, said_after}
 use Rattle.cm_board.specs.Board.{SubText}
 use Rattle.cm_board.specs.declared.board.Kind.{Kind}
 use Rattle.cm_board.specs.declared.items.Item.{Item}
 
--- what is left is the next line and the lines behind it
-pub next_line : (lines : List Line) (i : ℕ) (line : Line) → i < length lines → line ≡ get_or lines i line → map line_view (drop i lines) ≡ line_view line ∷ map line_view (drop (i + 1) lines)
-next_line lines i line h e = ap (map line_view) (drop-cons lines i line h) ∙ ap (λ (x : Line). line_view x ∷ map line_view (drop (suc i) lines)) (sym e) ∙ ap (λ (n : ℕ). line_view line ∷ map line_view (drop n lines)) (sym (add-one i))
-
-pub at_line_ok : {X : Type 0} (number : ℕ) (read : Result X Fault) (x : X) → at_line number read ≡ Ok x → read ≡ Ok x
-at_line_ok number (Ok y) x e = cc
-at_line_ok number (Err fault) x e = cc
-
--- a line that says something, and what the lines behind it say
-pub said_more : (kind : Kind) (before : List Item) (line : LineText) (rest : List LineText) (item : Item) → item_behind kind before line ≡ Ok item → said_behind kind before (line ∷ rest) ≡ said_behind kind (before ++ item ∷ []) rest
+-- a line that says something, and what the lines after it say
+pub said_more : (kind : Kind) (before : List Item) (line : LineText) (rest : List LineText) (item : Item) → item_after kind before line ≡ Ok item → said_after kind before (line ∷ rest) ≡ said_after kind (before ++ item ∷ []) rest
 said_more kind before line rest item e =
-    ap (λ (r : Result Item Fault). (at_line line.number r >>= λ x. read_each (item_behind kind) (before ++ x ∷ []) rest) >>= λ items. Ok (block_of items)) e
-
-neither : (a b : Bool) → (a || b) ≡ false → (a ≡ false) × (b ≡ false)
-neither true b e = cc
-neither false b e = (refl, e)
+    ap (λ (r : Result Item Fault). (at_line line.number r >>= λ x. read_each (item_after kind) (before ++ x ∷ []) rest) >>= λ items. Ok (block_of items)) e
 
 second : {X : Type 0} (a b : Bool) (x y z : X) → a ≡ false → b ≡ false → cond a x (cond b y z) ≡ z
 second true b x y z e f = cc
 second false true x y z e f = cc
 second false false x y z e f = refl
 
+-- what is read after what has been read
+abbrev pub with_prefix : {X : Type 0} → List X → Result (List X) Refused → Result (List X) Refused
+with_prefix prefix read = read >>= λ more. Ok (prefix ++ more)
+
 drop_at : (line : LineText) (more : List LineText) → Bool → List LineText
 drop_at line more t = drop (cond (not t) (1 + position_or_len ends_block more) 0) (line ∷ more)
 
-skip_line : (end count : ℕ) (line : LineText) (more : List LineText) (b : Bool) → ends_block line ≡ b → blocks_from end count more ≡ blocks_from end count (lines_behind more) → blocks_from end count (line ∷ more) ≡ blocks_from end count (lines_behind (line ∷ more))
+skip_line : (end count : ℕ) (line : LineText) (more : List LineText) (b : Bool) → ends_block line ≡ b → blocks_from end count more ≡ blocks_from end count (lines_after more) → blocks_from end count (line ∷ more) ≡ blocks_from end count (lines_after (line ∷ more))
 unfolding drop_at
 skip_line end count line more true e later = ap (λ t. blocks_from end count (drop_at line more t)) (sym e)
 skip_line end count line more false e later =
@@ -55,12 +49,12 @@ skip_line end count line more false e later =
     suc_is : (n : ℕ) → 1 + n ≡ suc n
     suc_is n = omega arith
 
--- the lines of a block say nothing of the blocks behind it
-pub skip_block : (end count : ℕ) (lines : List LineText) → blocks_from end count lines ≡ blocks_from end count (lines_behind lines)
+-- the lines of a block say nothing of the blocks after it
+pub skip_block : (end count : ℕ) (lines : List LineText) → blocks_from end count lines ≡ blocks_from end count (lines_after lines)
 skip_block end count [] = refl
 skip_block end count (line ∷ more) = skip_line end count line more (ends_block line) refl (skip_block end count more)
 
-between_line : (line : LineText) (more : List LineText) (b : Bool) → ends_block line ≡ b → is_between (lines_behind more) ≡ true → is_between (lines_behind (line ∷ more)) ≡ true
+between_line : (line : LineText) (more : List LineText) (b : Bool) → ends_block line ≡ b → is_between (lines_after more) ≡ true → is_between (lines_after (line ∷ more)) ≡ true
 unfolding drop_at
 between_line line more true e later = ap (λ t. is_between (drop_at line more t)) e ∙ e
 between_line line more false e later = ap (λ t. is_between (drop_at line more t)) e ∙ ap (λ (n : ℕ). is_between (drop n (line ∷ more))) (suc_is _) ∙ later
@@ -68,45 +62,42 @@ between_line line more false e later = ap (λ t. is_between (drop_at line more t
     suc_is : (n : ℕ) → 1 + n ≡ suc n
     suc_is n = omega arith
 
--- behind a block stands the next one, the `signals` line or nothing
-pub between_blocks : (lines : List LineText) → is_between (lines_behind lines) ≡ true
+-- after a block stands the next one, the `signals` line or nothing
+pub between_blocks : (lines : List LineText) → is_between (lines_after lines) ≡ true
 between_blocks [] = refl
 between_blocks (line ∷ more) = between_line line more (ends_block line) refl (between_blocks more)
 
-first_of_two : {X : Type 0} (a b : Bool) (x y z : X) → (b || a) ≡ true → a ≡ false → cond a x (cond b y z) ≡ y
+pub first_of_two : {X : Type 0} (a b : Bool) (x y z : X) → (b || a) ≡ true → a ≡ false → cond a x (cond b y z) ≡ y
 first_of_two true b x y z e f = cc
 first_of_two false true x y z e f = refl
 first_of_two false false x y z e f = cc
 
-with_front_more : (front : List SubText) (sub : SubText) (read : Result (List SubText) Refused) → with_front front (read >>= λ subs. Ok (sub ∷ subs)) ≡ with_front (front ++ sub ∷ []) read
-with_front_more front sub (Ok subs) = ap Ok (sym (append_assoc front (sub ∷ []) subs))
-with_front_more front sub (Err r) = refl
+with_prefix_more : (prefix : List SubText) (sub : SubText) (read : Result (List SubText) Refused) → with_prefix prefix (read >>= λ subs. Ok (sub ∷ subs)) ≡ with_prefix (prefix ++ sub ∷ []) read
+with_prefix_more prefix sub (Ok subs) = ap Ok (sym (append_assoc prefix (sub ∷ []) subs))
+with_prefix_more prefix sub (Err r) = refl
 
 -- one block more
-pub one_more : (end count : ℕ) (front : List SubText) (line : LineText) (rest : List LineText) (sub : SubText) → ends_block line ≡ true → is_signals line ≡ false → next_block end count line rest ≡ Ok sub → with_front front (blocks_from end count (line ∷ rest)) ≡ with_front (front ++ sub ∷ []) (blocks_from end (count + 1) (lines_behind rest))
-one_more end count front line rest sub ends other said =
-    ap (with_front front) (first_of_two (is_signals line) (is_subdevice line) _ _ _ ends other ∙ ap (λ r. r >>= λ sub. blocks_from end (count + 1) rest >>= λ subs. Ok (sub ∷ subs)) said)
-    ∙ with_front_more front sub (blocks_from end (count + 1) rest) ∙ ap (with_front (front ++ sub ∷ [])) (skip_block end (count + 1) rest)
+pub one_more : (end count : ℕ) (prefix : List SubText) (line : LineText) (rest : List LineText) (sub : SubText) → ends_block line ≡ true → is_signals line ≡ false → next_block end count line rest ≡ Ok sub → with_prefix prefix (blocks_from end count (line ∷ rest)) ≡ with_prefix (prefix ++ sub ∷ []) (blocks_from end (count + 1) (lines_after rest))
+one_more end count prefix line rest sub ends other said =
+    ap (with_prefix prefix) (first_of_two (is_signals line) (is_subdevice line) _ _ _ ends other ∙ ap (λ r. r >>= λ sub. blocks_from end (count + 1) rest >>= λ subs. Ok (sub ∷ subs)) said)
+    ∙ with_prefix_more prefix sub (blocks_from end (count + 1) rest) ∙ ap (with_prefix (prefix ++ sub ∷ [])) (skip_block end (count + 1) rest)
 
 -- a block that is refused
-pub last_block : (end count : ℕ) (front : List SubText) (line : LineText) (rest : List LineText) (r : Refused) → ends_block line ≡ true → is_signals line ≡ false → next_block end count line rest ≡ Err r → with_front front (blocks_from end count (line ∷ rest)) ≡ Err r
-last_block end count front line rest r ends other said =
-    ap (with_front front) (first_of_two (is_signals line) (is_subdevice line) _ _ _ ends other ∙ ap (λ r. r >>= λ sub. blocks_from end (count + 1) rest >>= λ subs. Ok (sub ∷ subs)) said)
+pub last_block : (end count : ℕ) (prefix : List SubText) (line : LineText) (rest : List LineText) (r : Refused) → ends_block line ≡ true → is_signals line ≡ false → next_block end count line rest ≡ Err r → with_prefix prefix (blocks_from end count (line ∷ rest)) ≡ Err r
+last_block end count prefix line rest r ends other said =
+    ap (with_prefix prefix) (first_of_two (is_signals line) (is_subdevice line) _ _ _ ends other ∙ ap (λ r. r >>= λ sub. blocks_from end (count + 1) rest >>= λ subs. Ok (sub ∷ subs)) said)
 
 cases_end : (lines : List Line) (at : ℕ) → (at < length lines) ⊎ (length lines ≤ at) → is_part_end (map line_view (drop at lines)) ≡ false → at < length lines
 cases_end lines at (inl h) e = h
-cases_end lines at (inr h) e = absurd (true_not_false (sym (ap (λ (ls : List Line). is_part_end (map line_view ls)) (drop_all at lines h)) ∙ e))
-  where
-    true_not_false : true ≡ false → ⊥
-    true_not_false e = cc
+cases_end lines at (inr h) e = absurd (true≢false (sym (ap (λ (ls : List Line). is_part_end (map line_view ls)) (drop_all at lines h)) ∙ e))
 
 -- where a block stands there is a line
 pub within_lines : (lines : List Line) (at : ℕ) → is_part_end (map line_view (drop at lines)) ≡ false → at < length lines
 within_lines lines at e = cases_end lines at (cases_lt at (length lines)) e
 
--- the lines behind a block, by their place
-pub behind_block : (lines : List Line) (at inside : ℕ) → inside ≡ position_or_len ends_block (map line_view (drop (at + 1) lines)) → lines_behind (map line_view (drop (at + 1) lines)) ≡ map line_view (drop (at + (1 + inside)) lines)
-behind_block lines at inside e =
+-- the lines after a block, by their place
+pub after_block : (lines : List Line) (at inside : ℕ) → inside ≡ position_or_len ends_block (map line_view (drop (at + 1) lines)) → lines_after (map line_view (drop (at + 1) lines)) ≡ map line_view (drop (at + (1 + inside)) lines)
+after_block lines at inside e =
     ap (λ (n : ℕ). drop n (map line_view (drop (at + 1) lines))) (sym e) ∙ drop-map line_view inside (drop (at + 1) lines)
     ∙ ap (map line_view) (drop-drop inside (at + 1) lines ∙ ap (λ (n : ℕ). drop n lines) (omega arith))
 
@@ -118,42 +109,39 @@ pub record Stands (lines : List Line) (at inside : ℕ) (head : Line) : Type 0 w
   pub more : is_part_end (map line_view (drop at lines)) ≡ false
   pub length_is : inside ≡ position_or_len ends_block (map line_view (drop (at + 1) lines))
 
-pub block_told : (end count : ℕ) (front : List SubText) (lines : List Line) (at inside : ℕ) (head : Line) (sub : SubText) → Stands lines at inside head → next_block end count (line_view head) (map line_view (drop (at + 1) lines)) ≡ Ok sub → with_front front (blocks_from end count (map line_view (drop at lines))) ≡ with_front (front ++ sub ∷ []) (blocks_from end (count + 1) (map line_view (drop (at + (1 + inside)) lines)))
-block_told end count front lines at inside head sub s said =
+pub block_reported : (end count : ℕ) (prefix : List SubText) (lines : List Line) (at inside : ℕ) (head : Line) (sub : SubText) → Stands lines at inside head → next_block end count (line_view head) (map line_view (drop (at + 1) lines)) ≡ Ok sub → with_prefix prefix (blocks_from end count (map line_view (drop at lines))) ≡ with_prefix (prefix ++ sub ∷ []) (blocks_from end (count + 1) (map line_view (drop (at + (1 + inside)) lines)))
+block_reported end count prefix lines at inside head sub s said =
     let here = next_line lines at head s.within s.first in
-    ap (λ (ls : List LineText). with_front front (blocks_from end count ls)) here
-    ∙ one_more end count front (line_view head) (map line_view (drop (at + 1) lines)) sub (sym (ap is_between here) ∙ s.between) (sym (ap is_part_end here) ∙ s.more) said
-    ∙ ap (λ (ls : List LineText). with_front (front ++ sub ∷ []) (blocks_from end (count + 1) ls)) (behind_block lines at inside s.length_is)
+    ap (λ (ls : List LineText). with_prefix prefix (blocks_from end count ls)) here
+    ∙ one_more end count prefix (line_view head) (map line_view (drop (at + 1) lines)) sub (sym (ap is_between here) ∙ s.between) (sym (ap is_part_end here) ∙ s.more) said
+    ∙ ap (λ (ls : List LineText). with_prefix (prefix ++ sub ∷ []) (blocks_from end (count + 1) ls)) (after_block lines at inside s.length_is)
 
 pub block_between : (lines : List Line) (at inside : ℕ) → inside ≡ position_or_len ends_block (map line_view (drop (at + 1) lines)) → is_between (map line_view (drop (at + (1 + inside)) lines)) ≡ true
-block_between lines at inside e = ap is_between (sym (behind_block lines at inside e)) ∙ between_blocks (map line_view (drop (at + 1) lines))
+block_between lines at inside e = ap is_between (sym (after_block lines at inside e)) ∙ between_blocks (map line_view (drop (at + 1) lines))
 
 -- a block that is not read
-pub block_stops : (end count : ℕ) (front : List SubText) (lines : List Line) (at inside : ℕ) (head : Line) (stop : ReadStop) → Stands lines at inside head → Stops stop (next_block end count (line_view head) (map line_view (drop (at + 1) lines))) → Stops stop (with_front front (blocks_from end count (map line_view (drop at lines))))
-block_stops end count front lines at inside head stops.NoMemory s said = tt
-block_stops end count front lines at inside head (stops.Refused r) s said =
+pub block_stops : (end count : ℕ) (prefix : List SubText) (lines : List Line) (at inside : ℕ) (head : Line) (stop : ReadStop) → Stands lines at inside head → Stops stop (next_block end count (line_view head) (map line_view (drop (at + 1) lines))) → Stops stop (with_prefix prefix (blocks_from end count (map line_view (drop at lines))))
+block_stops end count prefix lines at inside head stops.NoMemory s said = tt
+block_stops end count prefix lines at inside head (stops.Refused r) s said =
     let here = next_line lines at head s.within s.first in
-    ap (λ (ls : List LineText). with_front front (blocks_from end count ls)) here
-    ∙ last_block end count front (line_view head) (map line_view (drop (at + 1) lines)) r (sym (ap is_between here) ∙ s.between) (sym (ap is_part_end here) ∙ s.more) said
+    ap (λ (ls : List LineText). with_prefix prefix (blocks_from end count ls)) here
+    ∙ last_block end count prefix (line_view head) (map line_view (drop (at + 1) lines)) r (sym (ap is_between here) ∙ s.between) (sym (ap is_part_end here) ∙ s.more) said
 
 -- at the `signals` line all blocks are read
-pub at_signals : (end count : ℕ) (front : List SubText) (lines : List LineText) → is_part_end lines ≡ true → 0 < length lines → with_front front (blocks_from end count lines) ≡ Ok front
-at_signals end count front [] e h = absurd (omega arith)
-at_signals end count front (line ∷ lines) e h = ap (λ b. with_front front (cond b (Ok []) (cond (is_subdevice line) (next_block end count line lines >>= λ sub. blocks_from end (count + 1) lines >>= λ subs. Ok (sub ∷ subs)) (blocks_from end count lines)))) e ∙ ap Ok (append-nil front)
+pub at_signals : (end count : ℕ) (prefix : List SubText) (lines : List LineText) → is_part_end lines ≡ true → 0 < length lines → with_prefix prefix (blocks_from end count lines) ≡ Ok prefix
+at_signals end count prefix [] e h = absurd (omega arith)
+at_signals end count prefix (line ∷ lines) e h = ap (λ b. with_prefix prefix (cond b (Ok []) (cond (is_subdevice line) (next_block end count line lines >>= λ sub. blocks_from end (count + 1) lines >>= λ subs. Ok (sub ∷ subs)) (blocks_from end count lines)))) e ∙ ap Ok (append-nil prefix)
 
 pub stops_same : (stop : ReadStop) (a b : Result SubText Refused) → a ≡ b → Stops stop b → Stops stop a
 stops_same stops.NoMemory a b e said = tt
 stops_same (stops.Refused r) a b e said = e ∙ said
 
 -- one subdevice more
-pub sub_pushed : (end : ℕ) (subs all : List SubText) (sub : SubText) (lines : List LineText) → all ≡ subs ++ sub ∷ [] → with_front (subs ++ sub ∷ []) (blocks_from end (length subs + 1) lines) ≡ with_front all (blocks_from end (length all) lines)
+pub sub_pushed : (end : ℕ) (subs all : List SubText) (sub : SubText) (lines : List LineText) → all ≡ subs ++ sub ∷ [] → with_prefix (subs ++ sub ∷ []) (blocks_from end (length subs + 1) lines) ≡ with_prefix all (blocks_from end (length all) lines)
 sub_pushed end subs all sub lines e =
-    ap (λ (n : ℕ). with_front (subs ++ sub ∷ []) (blocks_from end n lines)) (sym (length-append subs (sub ∷ [])))
-    ∙ ap (λ (ls : List SubText). with_front ls (blocks_from end (length ls) lines)) (sym e)
+    ap (λ (n : ℕ). with_prefix (subs ++ sub ∷ []) (blocks_from end n lines)) (sym (length-append subs (sub ∷ [])))
+    ∙ ap (λ (ls : List SubText). with_prefix ls (blocks_from end (length ls) lines)) (sym e)
 
 -- lines are left before the end
 pub left_over : (lines : List Line) (at : ℕ) → at ≤ length lines → (at ≡ length lines → ⊥) → 0 < length (map line_view (drop at lines))
 left_over lines at h k = omega (arith, length-map (drop at lines) line_view, length-drop at lines)
-
-pub views_from : (lines : List Line) (at : ℕ) → map line_view (take (length lines - at) (drop at lines)) ≡ drop at (map line_view lines)
-views_from lines at = ap (map line_view) (take_all (length lines - at) (drop at lines) (omega (arith, length-drop at lines))) ∙ sym (drop-map line_view at lines)

@@ -3,10 +3,13 @@ use Rattle.std.proofs.Common.{◌≡◌, ℕ, suc, ◌≤◌, Bool, true, false,
 use Rattle.std.specs.List.{All, list_all}
 use Rattle.std.proofs.lemmas.Int.{ints}
 use Rattle.std.proofs.lemmas.List.Folds.{list_all-append}
-use Rattle.cm_base.proofs.Bools.{and_true, both}
-use Rattle.cm_board.specs.Board.{IsFrom1To, IsRange, IsSound, SubText, are_full, fits_range, is_idle, is_pair, is_source, is_unused, may_command, takes_commands}
-use Rattle.cm_board.specs.Block.{Block, block_of, count_of, finished, is_fine, most_of}
-use Rattle.cm_board.specs.Limits.{is_command, is_limited, is_time, is_within, stands}
+use Rattle.std.proofs.lemmas.Bool.{le-leb}
+use Rattle.cm_base.proofs.Bools.{and_true, both, not_false}
+use Rattle.cm_board.specs.Board.{IsFrom1To, IsRange, IsSoundSub, SubText, are_empty, are_full, fits_range, is_idle, is_pair, is_source, is_unused, may_command, takes_commands}
+use Rattle.cm_board.specs.Block.{block_of, count_of, finished, is_fine, most_of}
+use Rattle.cm_board.specs.Rows.{Block}
+use Rattle.cm_board.specs.Limits.{is_time, is_within}
+use Rattle.cm_board.proofs.LineLimits.{is_command, is_limited, stands}
 use Rattle.cm_board.specs.Printed.{bits_of, items_of, sources_of}
 use Rattle.cm_board.specs.declared.board.Forbid.{Forbid}
 use Rattle.cm_board.specs.declared.board.Kind.{Kind}
@@ -14,7 +17,8 @@ use Rattle.cm_board.specs.declared.board.Range.{Range}
 use Rattle.cm_board.specs.declared.items.Item.{Item}
 use Rattle.cm_board.specs.declared.items.Item.TheVariants as items
 use Rattle.cm_board.proofs.Good.{is_good}
-use Rattle.cm_board.proofs.SubBack.{block_fits, block_printed, finished_back, finished_unused, full_if, has_bits, le_true, text_kept, used_items, commands_if}
+use Rattle.cm_board.proofs.Sound.{some_start}
+use Rattle.cm_board.proofs.SubBack.{block_fits, block_printed, finished_back, finished_unused, full_if, has_bits, text_kept, used_items, commands_if}
 
 -- the printed lines are good
 
@@ -63,12 +67,12 @@ rules_good kind s true u m h = and_true _ _ (good kind items.SameRange refl refl
 rules_good kind s false u m h = pairs_good kind s.forbidden u m h
 
 from_1 : (most n : ℕ) → IsFrom1To most n → is_within 1 most n ≡ true
-from_1 most n h = and_true _ _ (le_true 1 n h.low) (le_true n most h.high)
+from_1 most n h = and_true _ _ (le-leb 1 n h.low) (le-leb n most h.high)
 
 times : (a b : ℕ) → 1 ≤ a → a ≤ b → b ≤ 4000000000 → (is_time a && is_time b) ≡ true
-times a b h j k = and_true _ _ (and_true _ _ (le_true 1 a h) (le_true a 4000000000 (omega arith))) (and_true _ _ (le_true 1 b (omega arith)) (le_true b 4000000000 k))
+times a b h j k = and_true _ _ (and_true _ _ (le-leb 1 a h) (le-leb a 4000000000 (omega arith))) (and_true _ _ (le-leb 1 b (omega arith)) (le-leb b 4000000000 k))
 
-commands_good : (takes : Bool) (s : SubText) → takes_commands s ≡ takes → is_unused s.kind ≡ false → IsSound s → list_all (is_good s.kind) (commands_if takes s) ≡ true
+commands_good : (takes : Bool) (s : SubText) → takes_commands s ≡ takes → is_unused s.kind ≡ false → IsSoundSub s → list_all (is_good s.kind) (commands_if takes s) ≡ true
 commands_good false s e u h = refl
 commands_good true s e u h =
     let t = text_kept s h in
@@ -76,15 +80,15 @@ commands_good true s e u h =
     let m = full.1 in
     and_true _ _ (good s.kind (items.Sources (sources_of s.masks)) full.0 refl (stands_any s.kind (items.Sources (sources_of s.masks)) u m))
     (and_true _ _ (good s.kind (items.Tick s.tick) (from_1 1000000000 s.tick h.tick) refl (stands_any s.kind (items.Tick s.tick) u m))
-    (and_true _ _ (good s.kind (items.Scan (record { min = s.scan_min; max = s.scan_max })) (times s.scan_min s.scan_max h.scan.some h.scan.order h.scan.high) (le_true s.scan_min s.scan_max h.scan.order) (stands_any s.kind (items.Scan (record { min = s.scan_min; max = s.scan_max })) u m))
-    (and_true _ _ (good s.kind (items.Convert (record { min = s.conv_min; max = s.conv_max })) (times s.conv_min s.conv_max h.convert.some h.convert.order h.convert.high) (le_true s.conv_min s.conv_max h.convert.order) (stands_any s.kind (items.Convert (record { min = s.conv_min; max = s.conv_max })) u m))
+    (and_true _ _ (good s.kind (items.Scan (record { min = s.scan_min; max = s.scan_max })) (times s.scan_min s.scan_max h.scan.some h.scan.order h.scan.high) (le-leb s.scan_min s.scan_max h.scan.order) (stands_any s.kind (items.Scan (record { min = s.scan_min; max = s.scan_max })) u m))
+    (and_true _ _ (good s.kind (items.Convert (record { min = s.conv_min; max = s.conv_max })) (times s.conv_min s.conv_max h.convert.some h.convert.order h.convert.high) (le-leb s.conv_min s.conv_max h.convert.order) (stands_any s.kind (items.Convert (record { min = s.conv_min; max = s.conv_max })) u m))
     (and_true _ _ (good s.kind (items.List s.list_max) (from_1 256 s.list_max h.list) refl (stands_any s.kind (items.List s.list_max) u m))
     (and_true _ _ (good s.kind (items.Scans s.scans_max) (from_1 4000000000 s.scans_max h.scans) refl (stands_any s.kind (items.Scans s.scans_max) u m))
-    (and_true _ _ (good s.kind (items.Lines s.lines) (and_true _ _ (le_true 0 s.lines (omega arith)) (le_true s.lines 16 h.few_lines)) refl (stands_any s.kind (items.Lines s.lines) u m))
+    (and_true _ _ (good s.kind (items.Lines s.lines) (and_true _ _ (le-leb 0 s.lines (omega arith)) (le-leb s.lines 16 h.few_lines)) refl (stands_any s.kind (items.Lines s.lines) u m))
     (and_true _ _ (good s.kind (items.Buffer s.buffer) (from_1 65536 s.buffer h.buffer) refl (stands_any s.kind (items.Buffer s.buffer) u m))
     (rules_good s.kind s s.same_range u m t.pairs))))))))
 
-used_good : (takes : Bool) (s : SubText) → takes_commands s ≡ takes → is_unused s.kind ≡ false → IsSound s → list_all (is_good s.kind) (used_items takes s) ≡ true
+used_good : (takes : Bool) (s : SubText) → takes_commands s ≡ takes → is_unused s.kind ≡ false → IsSoundSub s → list_all (is_good s.kind) (used_items takes s) ≡ true
 used_good takes s e u h =
     let t = text_kept s h in
     and_true _ _ (good s.kind (items.Bits (bits_of s.maxdata)) (has_bits s.maxdata t.maxdata).within refl (stands_plain s.kind (items.Bits (bits_of s.maxdata)) u refl))
@@ -100,28 +104,17 @@ pub record HasBlock (s : SubText) : Type 0 where
 
 none_fits : (item : Item) → count_of item (block_of []) ≤ most_of item
 none_fits (items.Bits k) = omega arith
-none_fits (items.Munge k) = omega arith
-none_fits (items.Range k) = omega arith
-none_fits (items.Sources k) = omega arith
-none_fits (items.Tick k) = omega arith
-none_fits (items.Scan k) = omega arith
-none_fits (items.Convert k) = omega arith
-none_fits (items.List k) = omega arith
-none_fits (items.Scans k) = omega arith
-none_fits (items.Lines k) = omega arith
-none_fits (items.Buffer k) = omega arith
-none_fits items.SameRange = omega arith
-none_fits (items.Forbid k) = omega arith
+none_fits other = omega arith
 
 -- what holds of a list of lines holds of the same list
 HasItems : SubText → List Item → Type 0
 HasItems s its = (list_all (is_good s.kind) its ≡ true) × ((item : Item) → count_of item (block_of its) ≤ most_of item) × (finished (record { kind = s.kind; channels = s.channels }) (block_of its) ≡ Ok s)
 
-has_unused : (s : SubText) → is_unused s.kind ≡ true → IsSound s → HasItems s []
+has_unused : (s : SubText) → is_unused s.kind ≡ true → IsSoundSub s → HasItems s []
 unfolding HasItems
 has_unused s u h = (refl, none_fits, finished_unused s u h)
 
-has_used : (s : SubText) → is_unused s.kind ≡ false → IsSound s → HasItems s (used_items (takes_commands s) s)
+has_used : (s : SubText) → is_unused s.kind ≡ false → IsSoundSub s → HasItems s (used_items (takes_commands s) s)
 unfolding HasItems
 has_used s u h =
     let p = block_printed (takes_commands s) s in
@@ -131,13 +124,21 @@ has_used s u h =
       ap (finished (record { kind = s.kind; channels = s.channels })) p ∙ finished_back (takes_commands s) s refl h,
     )
 
-has_items : (s : SubText) → IsSound s → HasItems s (items_of s)
+has_items : (s : SubText) → IsSoundSub s → HasItems s (items_of s)
 has_items s h = by (is_unused s.kind) refl
   where
     by : (unused : Bool) → is_unused s.kind ≡ unused → HasItems s (cond unused [] (used_items (takes_commands s) s))
     by true u = has_unused s u h
     by false u = has_used s u h
 
-pub has_block : (s : SubText) → IsSound s → HasBlock s
+pub has_block : (s : SubText) → IsSoundSub s → HasBlock s
 unfolding HasItems
 has_block s h = let i = has_items s h in record { good = i.0; fits = i.1; ended = i.2 }
+
+-- a sound subdevice takes commands where its start trigger may have a source
+pub takes_by_start : (s : SubText) → IsSoundSub s → takes_commands s ≡ not (s.masks.start == 0)
+takes_by_start s h = at (takes_commands s) refl
+  where
+    at : (takes : Bool) → takes_commands s ≡ takes → takes ≡ not (s.masks.start == 0)
+    at true e = sym (some_start s.masks (both (are_full s.masks) (may_command s.kind) (full_if (takes_commands s) (are_full s.masks && may_command s.kind) (is_idle s) e (text_kept s h).commands)).0)
+    at false e = sym (ap not (both _ _ (both _ _ (both _ _ (both _ _ (not_false (are_empty s.masks) e)).0).0).0).0)

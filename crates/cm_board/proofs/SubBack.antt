@@ -3,12 +3,15 @@ use Rattle.std.proofs.Common.{◌≡◌, ℕ, zero, suc, ◌+◌, ◌-◌, ◌*�
 use Rattle.std.specs.List.{cons_option, filter_map, list_all, list_any, range_with_len}
 use Rattle.std.proofs.lemmas.Bool.Decides.{nat_tests}
 use Rattle.std.proofs.lemmas.List.Elements.{filter_map-append}
+use Rattle.std.proofs.lemmas.Bool.{le-leb, eqb-true, eq-eqb}
 use Rattle.cm_base.specs.declared.faults.Fault.TheVariants as faults
 use Rattle.cm_base.proofs.Bools.{and_true, both, not_true}
 use Rattle.cm_base.proofs.SourcesBack.{each_below}
-use Rattle.cm_board.specs.Source.{allows, ext}
-use Rattle.cm_board.specs.Board.{HasLine, IsSound, SubText, are_empty, are_full, fits_commands, fits_kind, fits_lines, fits_range, has_channels, has_munge, has_text, is_bare, is_digital, is_idle, is_maxdata, is_munge, is_pair, is_plain, is_unused, may_command, swaps, takes_commands}
-use Rattle.cm_board.specs.Block.{Block, block_of, count_of, finished, has_line, is_board_ok, is_empty, lacks, masks_said, most_of, no_sources, sub_of, bits_in, munge_in, ranges_in, sources_in, tick_in, scan_in, convert_in, list_in, scans_in, lines_in, buffer_in, same_range_in, forbidden_in}
+use Rattle.cm_base.specs.Source.{allows, ext}
+use Rattle.cm_board.specs.Board.{HasLine, IsSoundSub, Masks, SubText, are_empty, are_full, fits_commands, fits_kind, fits_lines, fits_range, has_channels, has_munge, has_text, is_bare, is_digital, is_idle, is_maxdata, is_munge, is_pair, is_plain, is_unused, may_command, swaps, takes_commands}
+use Rattle.cm_board.specs.Block.{block_of, count_of, finished, has_line, is_board_ok, is_empty, lacks, masks_said, most_of, no_sources, sub_of}
+use Rattle.cm_board.specs.Rows.{Block, Row, block_by, field, said}
+use Rattle.cm_board.specs.Rows as rows
 use Rattle.cm_board.specs.Limits.{is_within}
 use Rattle.cm_board.specs.Printed.{bits_of, rule_items, size_items, sources_of, timing_items}
 use Rattle.cm_board.specs.declared.board.Forbid.{Forbid}
@@ -17,7 +20,6 @@ use Rattle.cm_board.specs.declared.board.Kind.TheVariants as kinds
 use Rattle.cm_board.specs.declared.board.Munge.{Munge}
 use Rattle.cm_board.specs.declared.board.Munge.TheVariants as munges
 use Rattle.cm_board.specs.declared.board.Range.{Range}
-use Rattle.cm_board.specs.declared.items.Span.{Span}
 use Rattle.cm_board.specs.declared.items.Item.{Item}
 use Rattle.cm_board.specs.declared.items.Item.TheVariants as items
 use Rattle.cm_board.proofs.Fields.{flag}
@@ -57,9 +59,9 @@ rules_none : {Y : Type 0} (f : Item → Option Y) → f items.SameRange ≡ None
 rules_none {Y = Y} f none other true forbidden = ap (λ o. cons_option o (filter_map f (map items.Forbid forbidden))) none ∙ other_form f items.Forbid other forbidden
 rules_none {Y = Y} f none other false forbidden = other_form f items.Forbid other forbidden
 
--- what stands behind the ranges
-behind_ranges : {Y : Type 0} (f : Item → Option Y) → ((x : Range) → f (items.Range x) ≡ None) → (ranges : List Range) (cs : List Item) → filter_map f (map items.Range ranges ++ cs) ≡ filter_map f cs
-behind_ranges {Y = Y} f none ranges cs = filter_map-append f (map items.Range ranges) cs ∙ ap (λ xs. xs ++ filter_map f cs) (other_form f items.Range none ranges)
+-- what stands after the ranges
+after_ranges : {Y : Type 0} (f : Item → Option Y) → ((x : Range) → f (items.Range x) ≡ None) → (ranges : List Range) (cs : List Item) → filter_map f (map items.Range ranges ++ cs) ≡ filter_map f cs
+after_ranges {Y = Y} f none ranges cs = filter_map-append f (map items.Range ranges) cs ∙ ap (λ xs. xs ++ filter_map f cs) (other_form f items.Range none ranges)
 
 -- the lines of commands, by whether there are any
 abbrev pub commands_if : Bool → SubText → List Item
@@ -73,48 +75,42 @@ one_of : {Y : Type 0} (f : Item → Option Y) (y : SubText → Y) → ((s : SubT
 one_of {Y = Y} f y has none other true s = has s ∙ ap (λ xs. y s ∷ xs) (rules_none f none other s.same_range s.forbidden)
 one_of {Y = Y} f y has none other false s = refl
 
-same_in : (takes : Bool) (s : SubText) → filter_map same_range_in (commands_if takes s) ≡ when takes (cond s.same_range (true ∷ []) [])
+same_in : (takes : Bool) (s : SubText) → filter_map (said rows.same_range) (commands_if takes s) ≡ when takes (cond s.same_range (true ∷ []) [])
 same_in true s = by s.same_range s.forbidden
   where
-    by : (same : Bool) (forbidden : List Forbid) → filter_map same_range_in (cond same (items.SameRange ∷ []) [] ++ map items.Forbid forbidden) ≡ cond same (true ∷ []) []
-    by true forbidden = ap (λ xs. true ∷ xs) (other_form same_range_in items.Forbid (λ x. refl) forbidden)
-    by false forbidden = other_form same_range_in items.Forbid (λ x. refl) forbidden
+    by : (same : Bool) (forbidden : List Forbid) → filter_map (said rows.same_range) (cond same (items.SameRange ∷ []) [] ++ map items.Forbid forbidden) ≡ cond same (true ∷ []) []
+    by true forbidden = ap (λ xs. true ∷ xs) (other_form (said rows.same_range) items.Forbid (λ x. refl) forbidden)
+    by false forbidden = other_form (said rows.same_range) items.Forbid (λ x. refl) forbidden
 same_in false s = refl
 
-pairs_in : (takes : Bool) (s : SubText) → filter_map forbidden_in (commands_if takes s) ≡ when takes s.forbidden
+pairs_in : (takes : Bool) (s : SubText) → filter_map (said rows.forbidden) (commands_if takes s) ≡ when takes s.forbidden
 pairs_in true s = by s.same_range s.forbidden
   where
-    by : (same : Bool) (forbidden : List Forbid) → filter_map forbidden_in (cond same (items.SameRange ∷ []) [] ++ map items.Forbid forbidden) ≡ forbidden
-    by true forbidden = own_form forbidden_in items.Forbid (λ x. refl) forbidden
-    by false forbidden = own_form forbidden_in items.Forbid (λ x. refl) forbidden
+    by : (same : Bool) (forbidden : List Forbid) → filter_map (said rows.forbidden) (cond same (items.SameRange ∷ []) [] ++ map items.Forbid forbidden) ≡ forbidden
+    by true forbidden = own_form (said rows.forbidden) items.Forbid (λ x. refl) forbidden
+    by false forbidden = own_form (said rows.forbidden) items.Forbid (λ x. refl) forbidden
 pairs_in false s = refl
 
-ranges_first : (ranges : List Range) (takes : Bool) (s : SubText) → filter_map ranges_in (map items.Range ranges ++ commands_if takes s) ≡ ranges
+ranges_first : (ranges : List Range) (takes : Bool) (s : SubText) → filter_map (said rows.ranges) (map items.Range ranges ++ commands_if takes s) ≡ ranges
 ranges_first ranges takes s =
-    filter_map-append ranges_in (map items.Range ranges) (commands_if takes s)
-    ∙ ap (λ xs. xs ++ filter_map ranges_in (commands_if takes s)) (own_form ranges_in items.Range (λ x. refl) ranges)
-    ∙ ap (λ xs. ranges ++ xs) (no_plain ranges_in (λ s. refl) refl (λ x. refl) takes s) ∙ append-nil ranges
+    filter_map-append (said rows.ranges) (map items.Range ranges) (commands_if takes s)
+    ∙ ap (λ xs. xs ++ filter_map (said rows.ranges) (commands_if takes s)) (own_form (said rows.ranges) items.Range (λ x. refl) ranges)
+    ∙ ap (λ xs. ranges ++ xs) (no_plain (said rows.ranges) (λ s. refl) refl (λ x. refl) takes s) ∙ append-nil ranges
 
 -- the lines of a subdevice that is in use
 abbrev pub used_items : Bool → SubText → List Item
 used_items takes s = items.Bits (bits_of s.maxdata) ∷ items.Munge s.munge ∷ (map items.Range s.ranges ++ commands_if takes s)
 
 pub block_printed : (takes : Bool) (s : SubText) → block_of (used_items takes s) ≡ printed_block takes s
-block_printed takes s = λ i. record {
-  bits = (ap (λ xs. bits_of s.maxdata ∷ xs) (behind_ranges bits_in (λ x. refl) s.ranges (commands_if takes s) ∙ no_plain bits_in (λ s. refl) refl (λ x. refl) takes s)) i;
-  munge = (ap (λ xs. s.munge ∷ xs) (behind_ranges munge_in (λ x. refl) s.ranges (commands_if takes s) ∙ no_plain munge_in (λ s. refl) refl (λ x. refl) takes s)) i;
-  ranges = ranges_first s.ranges takes s i;
-  sources = (behind_ranges sources_in (λ x. refl) s.ranges (commands_if takes s) ∙ one_of sources_in (λ s. sources_of s.masks) (λ s. refl) refl (λ x. refl) takes s) i;
-  tick = (behind_ranges tick_in (λ x. refl) s.ranges (commands_if takes s) ∙ one_of tick_in (λ s. s.tick) (λ s. refl) refl (λ x. refl) takes s) i;
-  scan = (behind_ranges scan_in (λ x. refl) s.ranges (commands_if takes s) ∙ one_of scan_in (λ s. record { min = s.scan_min; max = s.scan_max }) (λ s. refl) refl (λ x. refl) takes s) i;
-  convert = (behind_ranges convert_in (λ x. refl) s.ranges (commands_if takes s) ∙ one_of convert_in (λ s. record { min = s.conv_min; max = s.conv_max }) (λ s. refl) refl (λ x. refl) takes s) i;
-  list = (behind_ranges list_in (λ x. refl) s.ranges (commands_if takes s) ∙ one_of list_in (λ s. s.list_max) (λ s. refl) refl (λ x. refl) takes s) i;
-  scans = (behind_ranges scans_in (λ x. refl) s.ranges (commands_if takes s) ∙ one_of scans_in (λ s. s.scans_max) (λ s. refl) refl (λ x. refl) takes s) i;
-  lines = (behind_ranges lines_in (λ x. refl) s.ranges (commands_if takes s) ∙ one_of lines_in (λ s. s.lines) (λ s. refl) refl (λ x. refl) takes s) i;
-  buffer = (behind_ranges buffer_in (λ x. refl) s.ranges (commands_if takes s) ∙ one_of buffer_in (λ s. s.buffer) (λ s. refl) refl (λ x. refl) takes s) i;
-  same_range = (behind_ranges same_range_in (λ x. refl) s.ranges (commands_if takes s) ∙ same_in takes s) i;
-  forbidden = (behind_ranges forbidden_in (λ x. refl) s.ranges (commands_if takes s) ∙ pairs_in takes s) i;
-}
+block_printed takes s = λ i. block_by (λ row. each row i)
+  where
+    each : (row : Row) → filter_map (said row) (used_items takes s) ≡ field row (printed_block takes s)
+    each rows.bits = ap (λ xs. bits_of s.maxdata ∷ xs) (after_ranges (said rows.bits) (λ x. refl) s.ranges (commands_if takes s) ∙ no_plain (said rows.bits) (λ s. refl) refl (λ x. refl) takes s)
+    each rows.munge = ap (λ xs. s.munge ∷ xs) (after_ranges (said rows.munge) (λ x. refl) s.ranges (commands_if takes s) ∙ no_plain (said rows.munge) (λ s. refl) refl (λ x. refl) takes s)
+    each rows.ranges = ranges_first s.ranges takes s
+    each rows.same_range = after_ranges (said rows.same_range) (λ x. refl) s.ranges (commands_if takes s) ∙ same_in takes s
+    each rows.forbidden = after_ranges (said rows.forbidden) (λ x. refl) s.ranges (commands_if takes s) ∙ pairs_in takes s
+    each row = after_ranges (said row) (λ x. refl) s.ranges (commands_if takes s) ∙ one_of (said row) _ (λ s. refl) refl (λ x. refl) takes s
 
 -- no form stands too often
 at_most_one : {X : Type 0} (takes : Bool) (x : X) → length (when takes (x ∷ [])) ≤ 1
@@ -134,19 +130,9 @@ pub block_fits : (takes : Bool) (s : SubText) → length s.ranges ≤ 16 → len
 block_fits takes s r p (items.Bits k) = omega arith
 block_fits takes s r p (items.Munge m) = omega arith
 block_fits takes s r p (items.Range x) = r
-block_fits takes s r p (items.Sources x) = at_most_one takes (sources_of s.masks)
-block_fits takes s r p (items.Tick n) = at_most_one takes s.tick
-block_fits takes s r p (items.Scan x) = at_most_one {X = Span} takes (record { min = s.scan_min; max = s.scan_max })
-block_fits takes s r p (items.Convert x) = at_most_one {X = Span} takes (record { min = s.conv_min; max = s.conv_max })
-block_fits takes s r p (items.List n) = at_most_one takes s.list_max
-block_fits takes s r p (items.Scans n) = at_most_one takes s.scans_max
-block_fits takes s r p (items.Lines n) = at_most_one takes s.lines
-block_fits takes s r p (items.Buffer n) = at_most_one takes s.buffer
 block_fits takes s r p items.SameRange = flag_when takes s.same_range
 block_fits takes s r p (items.Forbid f) = few_when takes s.forbidden p
-
-pub le_true : (m n : ℕ) → m ≤ n → nat_le m n ≡ true
-le_true m n h = grind (arith, nat_tests)
+block_fits takes s r p other = at_most_one takes _
 
 -- the greatest code gives its bits back
 any_at : (p : ℕ → Bool) (n a : ℕ) → list_any p (range_with_len a n) ≡ true → (k : ℕ) × (a ≤ k) × (k < a + n) × (p k ≡ true)
@@ -169,18 +155,15 @@ pub record HasBits (maxdata : ℕ) : Type 0 where
 pub has_bits : (maxdata : ℕ) → is_maxdata maxdata ≡ true → HasBits maxdata
 has_bits maxdata h =
     let a = any_at (λ bits. maxdata == 2 ^ bits - 1) 24 1 h in
-    let same : maxdata ≡ 2 ^ a.0 - 1 = equal maxdata (2 ^ a.0 - 1) a.3 in
-    let bits : bits_of maxdata ≡ a.0 = ap bits_of same ∙ equal (bits_of (2 ^ a.0 - 1)) a.0 (each_below (λ k. bits_of (2 ^ k - 1) == k) 25 every_bits a.0 (omega (arith, a.2))) in
+    let same : maxdata ≡ 2 ^ a.0 - 1 = eqb-true maxdata (2 ^ a.0 - 1) a.3 in
+    let bits : bits_of maxdata ≡ a.0 = ap bits_of same ∙ eqb-true (bits_of (2 ^ a.0 - 1)) a.0 (each_below (λ k. bits_of (2 ^ k - 1) == k) 25 every_bits a.0 (omega (arith, a.2))) in
     record {
       within = ap (is_within 1 24) bits ∙ inside a.0 a.1 (omega (arith, a.2));
       back = ap (λ (n : ℕ). 2 ^ n - 1) bits ∙ sym same;
     }
   where
-    equal : (m n : ℕ) → (m == n) ≡ true → m ≡ n
-    equal m n e = grind (arith, nat_tests)
-
     inside : (k : ℕ) → 1 ≤ k → k ≤ 24 → is_within 1 24 k ≡ true
-    inside k h j = and_true _ _ (le_true 1 k h) (le_true k 24 j)
+    inside k h j = and_true _ _ (le-leb 1 k h) (le-leb k 24 j)
 
 -- what a sound subdevice keeps of its text, rule by rule
 pub record IsText (s : SubText) : Type 0 where
@@ -195,7 +178,7 @@ pub record IsText (s : SubText) : Type 0 where
   pub units : list_all fits_range s.ranges ≡ true
   pub pairs : list_all is_pair s.forbidden ≡ true
 
-pub text_kept : (s : SubText) → IsSound s → IsText s
+pub text_kept : (s : SubText) → IsSoundSub s → IsText s
 unfolding has_text has_munge
 text_kept s h =
     let a = both (fits_kind s && fits_commands s) (fits_lines s) h.text in
@@ -220,48 +203,58 @@ text_kept s h =
       pairs = l1.1;
     }
 
-zero_true : (n : ℕ) → n ≡ 0 → (n == 0) ≡ true
-zero_true n h = grind (arith, nat_tests)
-
 line_kept : (lines mask : ℕ) → HasLine lines mask → has_line lines mask ≡ true
 line_kept lines mask h = by (allows mask ext) h
   where
     by : (b : Bool) → (IsTrue b → 1 ≤ lines) → (not b || nat_le 1 lines) ≡ true
-    by true h = le_true 1 lines (h refl)
+    by true h = le-leb 1 lines (h refl)
     by false h = refl
 
 -- a sound subdevice keeps the rules over the lines of a block
-pub rules_kept : (s : SubText) → IsSound s → is_board_ok s ≡ true
+pub rules_kept : (s : SubText) → IsSoundSub s → is_board_ok s ≡ true
 rules_kept s h =
     let t = text_kept s h in
     and_true _ _ (and_true _ _ (and_true _ _ (and_true _ _ t.digital t.swapped)
-    (and_true _ _ (and_true _ _ (and_true _ _ (zero_true (s.scan_min % s.tick) h.scan.least_ticks) (zero_true (s.scan_max % s.tick) h.scan.most_ticks)) (zero_true (s.conv_min % s.tick) h.convert.least_ticks)) (zero_true (s.conv_max % s.tick) h.convert.most_ticks)))
-    (le_true (s.conv_min * s.list_max) s.scan_max h.list_fits))
+    (and_true _ _ (and_true _ _ (and_true _ _ (eq-eqb (s.scan_min % s.tick) 0 h.scan.least_ticks) (eq-eqb (s.scan_max % s.tick) 0 h.scan.most_ticks)) (eq-eqb (s.conv_min % s.tick) 0 h.convert.least_ticks)) (eq-eqb (s.conv_max % s.tick) 0 h.convert.most_ticks)))
+    (le-leb (s.conv_min * s.list_max) s.scan_max h.list_fits))
     (and_true _ _ (and_true _ _ (and_true _ _ (and_true _ _ (line_kept s.lines s.masks.start h.start_line) (line_kept s.lines s.masks.scan_begin h.scan_begin_line)) (line_kept s.lines s.masks.convert h.convert_line)) (line_kept s.lines s.masks.scan_end h.scan_end_line)) (line_kept s.lines s.masks.stop h.stop_line))
-
-equal : (m n : ℕ) → (m == n) ≡ true → m ≡ n
-equal m n e = grind (arith, nat_tests)
 
 nil_if : {X : Type 0} (xs : List X) → (length xs == 0) ≡ true → xs ≡ []
 nil_if [] h = refl
 nil_if (x ∷ xs) h = absurd (grind (arith, nat_tests))
 
--- the numbers of a subdevice without commands
-record IsIdle (s : SubText) : Type 0 where
-  pub masks : s.masks ≡ masks_said no_sources
-  pub tick : s.tick ≡ 1
-  pub scan_min : s.scan_min ≡ 1
-  pub scan_max : s.scan_max ≡ 1
-  pub conv_min : s.conv_min ≡ 1
-  pub conv_max : s.conv_max ≡ 1
-  pub list_max : s.list_max ≡ 1
-  pub scans_max : s.scans_max ≡ 1
-  pub lines : s.lines ≡ 0
-  pub buffer : s.buffer ≡ 1
-  pub same_range : s.same_range ≡ false
-  pub forbidden : s.forbidden ≡ []
+-- a subdevice with the numbers of one that takes no commands
+abbrev idle_of : SubText → SubText
+idle_of s = record s {
+  masks = masks_said no_sources;
+  tick = 1;
+  scan_min = 1;
+  scan_max = 1;
+  conv_min = 1;
+  conv_max = 1;
+  list_max = 1;
+  scans_max = 1;
+  lines = 0;
+  buffer = 1;
+  same_range = false;
+  forbidden = [];
+}
 
-idle_kept : (s : SubText) → is_idle s ≡ true → IsIdle s
+no_masks : (m : Masks) → are_empty m ≡ true → m ≡ masks_said no_sources
+no_masks m h =
+    let m1 = both _ (m.stop == 0) h in
+    let m2 = both _ (m.scan_end == 0) m1.0 in
+    let m3 = both _ (m.convert == 0) m2.0 in
+    let m4 = both (m.start == 0) (m.scan_begin == 0) m3.0 in
+    λ i. record {
+      start = eqb-true m.start 0 m4.0 i;
+      scan_begin = eqb-true m.scan_begin 0 m4.1 i;
+      convert = eqb-true m.convert 0 m3.1 i;
+      scan_end = eqb-true m.scan_end 0 m2.1 i;
+      stop = eqb-true m.stop 0 m1.1 i;
+    }
+
+idle_kept : (s : SubText) → is_idle s ≡ true → s ≡ idle_of s
 idle_kept s h =
     let b1 = both _ (length s.forbidden == 0) h in
     let b2 = both _ (not s.same_range) b1.0 in
@@ -274,29 +267,19 @@ idle_kept s h =
     let b9 = both _ (s.scan_max == 1) b8.0 in
     let b10 = both _ (s.scan_min == 1) b9.0 in
     let b11 = both (are_empty s.masks) (s.tick == 1) b10.0 in
-    let m1 = both _ (s.masks.stop == 0) b11.0 in
-    let m2 = both _ (s.masks.scan_end == 0) m1.0 in
-    let m3 = both _ (s.masks.convert == 0) m2.0 in
-    let m4 = both (s.masks.start == 0) (s.masks.scan_begin == 0) m3.0 in
-    record {
-      masks = λ i. record {
-        start = equal s.masks.start 0 m4.0 i;
-        scan_begin = equal s.masks.scan_begin 0 m4.1 i;
-        convert = equal s.masks.convert 0 m3.1 i;
-        scan_end = equal s.masks.scan_end 0 m2.1 i;
-        stop = equal s.masks.stop 0 m1.1 i;
-      };
-      tick = equal s.tick 1 b11.1;
-      scan_min = equal s.scan_min 1 b10.1;
-      scan_max = equal s.scan_max 1 b9.1;
-      conv_min = equal s.conv_min 1 b8.1;
-      conv_max = equal s.conv_max 1 b7.1;
-      list_max = equal s.list_max 1 b6.1;
-      scans_max = equal s.scans_max 1 b5.1;
-      lines = equal s.lines 0 b4.1;
-      buffer = equal s.buffer 1 b3.1;
-      same_range = not_true s.same_range b2.1;
-      forbidden = nil_if s.forbidden b1.1;
+    λ i. record s {
+      masks = no_masks s.masks b11.0 i;
+      tick = eqb-true s.tick 1 b11.1 i;
+      scan_min = eqb-true s.scan_min 1 b10.1 i;
+      scan_max = eqb-true s.scan_max 1 b9.1 i;
+      conv_min = eqb-true s.conv_min 1 b8.1 i;
+      conv_max = eqb-true s.conv_max 1 b7.1 i;
+      list_max = eqb-true s.list_max 1 b6.1 i;
+      scans_max = eqb-true s.scans_max 1 b5.1 i;
+      lines = eqb-true s.lines 0 b4.1 i;
+      buffer = eqb-true s.buffer 1 b3.1 i;
+      same_range = not_true s.same_range b2.1 i;
+      forbidden = nil_if s.forbidden b1.1 i;
     }
 
 idle_if : (takes full : Bool) (idle : Bool) → takes ≡ false → cond takes full idle ≡ true → idle ≡ true
@@ -309,46 +292,10 @@ full_if false full idle e h = cc
 
 -- the subdevice that the printed lines describe
 pub sub_back : (takes : Bool) (s : SubText) → takes_commands s ≡ takes → IsText s → sub_of (record { kind = s.kind; channels = s.channels }) (printed_block takes s) ≡ s
-sub_back true s e t = λ i. record {
-  kind = s.kind;
-  channels = s.channels;
-  maxdata = (has_bits s.maxdata t.maxdata).back i;
-  munge = s.munge;
-  ranges = s.ranges;
-  masks = s.masks;
-  tick = s.tick;
-  scan_min = s.scan_min;
-  scan_max = s.scan_max;
-  conv_min = s.conv_min;
-  conv_max = s.conv_max;
-  list_max = s.list_max;
-  scans_max = s.scans_max;
-  lines = s.lines;
-  buffer = s.buffer;
-  same_range = sym (flag s.same_range) i;
-  forbidden = s.forbidden;
-}
+sub_back true s e t = λ i. record s { maxdata = (has_bits s.maxdata t.maxdata).back i; same_range = sym (flag s.same_range) i }
 sub_back false s e t =
-    let n = idle_kept s (idle_if (takes_commands s) (are_full s.masks && may_command s.kind) (is_idle s) e t.commands) in
-    λ i. record {
-      kind = s.kind;
-      channels = s.channels;
-      maxdata = (has_bits s.maxdata t.maxdata).back i;
-      munge = s.munge;
-      ranges = s.ranges;
-      masks = sym n.masks i;
-      tick = sym n.tick i;
-      scan_min = sym n.scan_min i;
-      scan_max = sym n.scan_max i;
-      conv_min = sym n.conv_min i;
-      conv_max = sym n.conv_max i;
-      list_max = sym n.list_max i;
-      scans_max = sym n.scans_max i;
-      lines = sym n.lines i;
-      buffer = sym n.buffer i;
-      same_range = sym n.same_range i;
-      forbidden = sym n.forbidden i;
-    }
+    ap (λ (n : ℕ). record (idle_of s) { maxdata = n }) (has_bits s.maxdata t.maxdata).back
+    ∙ sym (idle_kept s (idle_if (takes_commands s) (are_full s.masks && may_command s.kind) (is_idle s) e t.commands))
 
 plain_if : (munge : Munge) → is_plain munge ≡ true → munge ≡ munges.Plain
 plain_if munges.Plain h = refl
@@ -362,26 +309,8 @@ unused_back s h =
     let b1 = both _ (is_idle s) h in
     let b2 = both _ (is_plain s.munge) b1.0 in
     let b3 = both (length s.ranges == 0) (s.maxdata == 1) b2.0 in
-    let n = idle_kept s b1.1 in
-    λ i. record {
-      kind = s.kind;
-      channels = s.channels;
-      maxdata = sym (equal s.maxdata 1 b3.1) i;
-      munge = sym (plain_if s.munge b2.1) i;
-      ranges = sym (nil_if s.ranges b3.0) i;
-      masks = sym n.masks i;
-      tick = sym n.tick i;
-      scan_min = sym n.scan_min i;
-      scan_max = sym n.scan_max i;
-      conv_min = sym n.conv_min i;
-      conv_max = sym n.conv_max i;
-      list_max = sym n.list_max i;
-      scans_max = sym n.scans_max i;
-      lines = sym n.lines i;
-      buffer = sym n.buffer i;
-      same_range = sym n.same_range i;
-      forbidden = sym n.forbidden i;
-    }
+    let rest : record (idle_of s) { maxdata = 1; munge = munges.Plain; ranges = [] } ≡ idle_of s = λ i. record (idle_of s) { maxdata = sym (eqb-true s.maxdata 1 b3.1) i; munge = sym (plain_if s.munge b2.1) i; ranges = sym (nil_if s.ranges b3.0) i } in
+    rest ∙ sym (idle_kept s b1.1)
 
 some_not_empty : {X : Type 0} (xs : List X) → nat_le 1 (length xs) ≡ true → is_empty xs ≡ false
 some_not_empty [] h = absurd (grind (arith, nat_tests))
@@ -394,7 +323,7 @@ lacks_none true other s h = rw (some_not_empty s.ranges h) refl
 lacks_none false other s h = rw (some_not_empty s.ranges h) refl
 
 -- what the printed lines say at their end
-pub finished_back : (takes : Bool) (s : SubText) → takes_commands s ≡ takes → IsSound s → finished (record { kind = s.kind; channels = s.channels }) (printed_block takes s) ≡ Ok s
+pub finished_back : (takes : Bool) (s : SubText) → takes_commands s ≡ takes → IsSoundSub s → finished (record { kind = s.kind; channels = s.channels }) (printed_block takes s) ≡ Ok s
 finished_back takes s e h =
     let t = text_kept s h in
     let back = sub_back takes s e t in
@@ -414,7 +343,7 @@ bare_if : (unused bare : Bool) → unused ≡ true → (not unused || bare) ≡ 
 bare_if true bare e h = h
 bare_if false bare e h = cc
 
-pub finished_unused : (s : SubText) → is_unused s.kind ≡ true → IsSound s → finished (record { kind = s.kind; channels = s.channels }) (block_of []) ≡ Ok s
+pub finished_unused : (s : SubText) → is_unused s.kind ≡ true → IsSoundSub s → finished (record { kind = s.kind; channels = s.channels }) (block_of []) ≡ Ok s
 finished_unused s u h =
     let t = text_kept s h in
     let back = unused_back s (bare_if (is_unused s.kind) (is_bare s) u t.bare) in

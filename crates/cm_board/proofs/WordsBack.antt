@@ -1,26 +1,30 @@
 -- A printed line is read as what it says.
-use Rattle.std.proofs.Common.{◌≡◌, ℕ, ◌-◌, ◌^◌, ◌<◌, ◌≤◌, Bool, true, false, not, ◌&&◌, ◌||◌, List, [], ◌∷◌, Some, None, Ok, refl, ap, ◌∙◌, nat_le, nat_lt, ◌==◌, arith, codes, decimal, bit_and}
+use Rattle.std.proofs.Common.{◌≡◌, ℕ, ◌-◌, ◌^◌, ◌<◌, ◌≤◌, Bool, true, false, not, ◌&&◌, ◌||◌, List, [], ◌∷◌, Some, None, Ok, refl, drop, ap, ◌∙◌, nat_le, nat_lt, ◌==◌, arith, decimal, bit_and}
 use Rattle.std.specs.Fmt.{signed_decimal}
 use Rattle.std.specs.List.{list_all, range_with_len}
 use Rattle.std.proofs.lemmas.Bool.Decides.{nat_tests}
+use Rattle.std.proofs.lemmas.Bool.{le-leb, leb-true}
 use Rattle.std.proofs.lemmas.Nat.{and_le_r}
 use Rattle.cm_base.specs.Lines.{is_word}
 use Rattle.cm_base.specs.Reading.{◌>>=◌}
-use Rattle.cm_base.specs.SourceText.{reads_as, source_text}
-use Rattle.cm_base.specs.Words.{Form, is_int, limited, listed, number_in, one, or_fault, signed_number, source_in, sources_in}
+use Rattle.cm_base.specs.SourceText.{source_text}
+use Rattle.cm_base.specs.Words.{Form, is_int, limited, listed, number_in, one, or_fault, signed_number, source_in, sources_in, two}
 use Rattle.cm_base.specs.WrittenLines.{is_line}
 use Rattle.cm_base.specs.declared.faults.Fault.TheVariants.{Unknown}
 use Rattle.cm_base.proofs.Bools.{and_true, both, not_true}
 use Rattle.cm_base.proofs.NumbersBack.{number_in-decimal, signed_number-decimal, word-decimal, word-signed_decimal}
-use Rattle.cm_base.proofs.SourcesBack.{each_below, reads_ok, source_back, word-source}
+use Rattle.cm_base.proofs.SourcesBack.{each_below, reads_ok, source_back, word-source, reads_as}
 use Rattle.cm_board.specs.Board.{is_among, is_munge, is_source, is_unused, may_command}
-use Rattle.cm_board.specs.Items.{block_forms, command_forms, field_word, form_of, item_words, munge_words, or_else}
-use Rattle.cm_board.specs.Limits.{is_limited, is_time, is_within, stands}
+use Rattle.cm_board.specs.Items.{block_forms, command_forms, field_word, form_of, item_words, munge_words, or_else, span, time_word, words_of}
+use Rattle.cm_board.specs.Rows.{row_of}
+use Rattle.cm_board.specs.Limits.{is_time, is_within}
+use Rattle.cm_board.proofs.LineLimits.{is_limited, stands}
 use Rattle.cm_board.specs.Printed.{field_text, item_text, munge_text}
 use Rattle.cm_board.specs.declared.board.Kind.{Kind}
 use Rattle.cm_board.specs.declared.board.Kind.TheVariants as kinds
 use Rattle.cm_board.specs.declared.board.Munge.{Munge}
 use Rattle.cm_board.specs.declared.board.Munge.TheVariants as munges
+use Rattle.cm_board.specs.declared.items.Span.{Span}
 use Rattle.cm_board.specs.declared.items.Item.{Item}
 use Rattle.cm_board.specs.declared.items.Item.TheVariants as items
 
@@ -93,63 +97,59 @@ munge_back munges.Offset h = refl
 munge_back munges.Swap16 h = refl
 munge_back (munges.Left bits) h = one_back munges.Left 1 8 bits (omega arith) h
 
--- a printed line is read as its item
-pub item_back : (kind : Kind) (item : Item) → is_limited item ≡ true → stands kind item ≡ true → item_words kind (item_text item) ≡ Ok item
-item_back kind (items.Bits k) h s =
-    by_form kind (codes "bits") (decimal k ∷ []) _ (plain_form kind (codes "bits") _ (in_use kind _ s) refl) ∙ one_back items.Bits 1 24 k (omega arith) h
-item_back kind (items.Munge m) h s =
-    by_form kind (codes "munge") (munge_text m) _ (plain_form kind (codes "munge") _ (in_use kind _ s) refl) ∙ ap (λ r. r >>= λ munge. Ok (items.Munge munge)) (munge_back m h)
-item_back kind (items.Range r) h s =
+times_back : (make : Span → Item) (t : Span) → (is_time t.min && is_time t.max) ≡ true → two (λ a b. make (span a b)) time_word time_word (decimal t.min ∷ decimal t.max ∷ []) ≡ Ok (make t)
+times_back make t h =
+    let b = both (is_time t.min) (is_time t.max) h in
+    ap (λ x. x >>= λ min. number_in 1 4000000000 (decimal t.max) >>= λ max. Ok (make (record { min = min; max = max }))) (number_back 1 4000000000 t.min (omega arith) b.0)
+    ∙ ap (λ x. x >>= λ max. Ok (make (record { min = t.min; max = max }))) (number_back 1 4000000000 t.max (omega arith) b.1)
+
+-- a printed line has its form in a block where it may stand
+form_back : (kind : Kind) (item : Item) → stands kind item ≡ true → item_words kind (item_text item) ≡ words_of (row_of item) (drop 1 (item_text item))
+form_back kind (items.Bits k) s = by_form kind _ _ _ (plain_form kind _ _ (in_use kind _ s) refl)
+form_back kind (items.Munge m) s = by_form kind _ _ _ (plain_form kind _ _ (in_use kind _ s) refl)
+form_back kind (items.Range r) s = by_form kind _ _ _ (plain_form kind _ _ (in_use kind _ s) refl)
+form_back kind other s = by_form kind _ _ _ (command_form kind _ _ (commands kind s) refl refl)
+
+-- its words are read as what it says
+values_back : (item : Item) → is_limited item ≡ true → words_of (row_of item) (drop 1 (item_text item)) ≡ Ok item
+values_back (items.Bits k) h = one_back items.Bits 1 24 k (omega arith) h
+values_back (items.Munge m) h = ap (λ r. r >>= λ munge. Ok (items.Munge munge)) (munge_back m h)
+values_back (items.Range r) h =
     let b = both (is_int r.min && is_int r.max) (nat_le r.unit 2) h in
     let ends = both (is_int r.min) (is_int r.max) b.0 in
-    by_form kind (codes "range") (signed_decimal r.min ∷ signed_decimal r.max ∷ decimal r.unit ∷ []) _ (plain_form kind (codes "range") _ (in_use kind _ s) refl)
-    ∙ ap (λ x. x >>= λ min. signed_number (signed_decimal r.max) >>= λ max. number_in 0 2 (decimal r.unit) >>= λ unit. Ok (items.Range (record { min = min; max = max; unit = unit }))) (signed_number-decimal r.min ends.0)
+    ap (λ x. x >>= λ min. signed_number (signed_decimal r.max) >>= λ max. number_in 0 2 (decimal r.unit) >>= λ unit. Ok (items.Range (record { min = min; max = max; unit = unit }))) (signed_number-decimal r.min ends.0)
     ∙ ap (λ x. x >>= λ max. number_in 0 2 (decimal r.unit) >>= λ unit. Ok (items.Range (record { min = r.min; max = max; unit = unit }))) (signed_number-decimal r.max ends.1)
-    ∙ ap (λ x. x >>= λ unit. Ok (items.Range (record { min = r.min; max = r.max; unit = unit }))) (number_back 0 2 r.unit (omega arith) (and_true _ _ (least r.unit) b.1))
-  where
-    least : (n : ℕ) → nat_le 0 n ≡ true
-    least n = grind (arith, nat_tests)
-item_back kind (items.Sources m) h s =
+    ∙ ap (λ x. x >>= λ unit. Ok (items.Range (record { min = r.min; max = r.max; unit = unit }))) (number_back 0 2 r.unit (omega arith) (and_true _ _ (le-leb 0 r.unit (omega arith)) b.1))
+values_back (items.Sources m) h =
     let h1 = both _ (is_among 33 m.stop) h in
     let h2 = both _ (is_among 32 m.scan_end) h1.0 in
     let h3 = both _ (is_among 82 m.convert) h2.0 in
     let h4 = both (is_among 194 m.start) (is_among 84 m.scan_begin) h3.0 in
-    by_form kind (codes "sources") _ _ (command_form kind (codes "sources") _ (commands kind s) refl refl)
-    ∙ ap (λ x. x >>= λ a. sources_in 84 (source_text m.scan_begin) >>= λ b. sources_in 82 (source_text m.convert) >>= λ c. sources_in 32 (source_text m.scan_end) >>= λ d. sources_in 33 (source_text m.stop) >>= λ e. Ok (items.Sources (record { start = a; scan_begin = b; convert = c; scan_end = d; stop = e }))) (sources_back 194 m.start (omega arith) h4.0)
+    ap (λ x. x >>= λ a. sources_in 84 (source_text m.scan_begin) >>= λ b. sources_in 82 (source_text m.convert) >>= λ c. sources_in 32 (source_text m.scan_end) >>= λ d. sources_in 33 (source_text m.stop) >>= λ e. Ok (items.Sources (record { start = a; scan_begin = b; convert = c; scan_end = d; stop = e }))) (sources_back 194 m.start (omega arith) h4.0)
     ∙ ap (λ x. x >>= λ b. sources_in 82 (source_text m.convert) >>= λ c. sources_in 32 (source_text m.scan_end) >>= λ d. sources_in 33 (source_text m.stop) >>= λ e. Ok (items.Sources (record { start = m.start; scan_begin = b; convert = c; scan_end = d; stop = e }))) (sources_back 84 m.scan_begin (omega arith) h4.1)
     ∙ ap (λ x. x >>= λ c. sources_in 32 (source_text m.scan_end) >>= λ d. sources_in 33 (source_text m.stop) >>= λ e. Ok (items.Sources (record { start = m.start; scan_begin = m.scan_begin; convert = c; scan_end = d; stop = e }))) (sources_back 82 m.convert (omega arith) h3.1)
     ∙ ap (λ x. x >>= λ d. sources_in 33 (source_text m.stop) >>= λ e. Ok (items.Sources (record { start = m.start; scan_begin = m.scan_begin; convert = m.convert; scan_end = d; stop = e }))) (sources_back 32 m.scan_end (omega arith) h2.1)
     ∙ ap (λ x. x >>= λ e. Ok (items.Sources (record { start = m.start; scan_begin = m.scan_begin; convert = m.convert; scan_end = m.scan_end; stop = e }))) (sources_back 33 m.stop (omega arith) h1.1)
-item_back kind (items.Tick n) h s =
-    by_form kind (codes "tick") (decimal n ∷ []) _ (command_form kind (codes "tick") _ (commands kind s) refl refl) ∙ one_back items.Tick 1 1000000000 n (omega arith) h
-item_back kind (items.Scan t) h s =
-    let b = both (is_time t.min) (is_time t.max) h in
-    by_form kind (codes "scan") (decimal t.min ∷ decimal t.max ∷ []) _ (command_form kind (codes "scan") _ (commands kind s) refl refl)
-    ∙ ap (λ x. x >>= λ min. number_in 1 4000000000 (decimal t.max) >>= λ max. Ok (items.Scan (record { min = min; max = max }))) (number_back 1 4000000000 t.min (omega arith) b.0)
-    ∙ ap (λ x. x >>= λ max. Ok (items.Scan (record { min = t.min; max = max }))) (number_back 1 4000000000 t.max (omega arith) b.1)
-item_back kind (items.Convert t) h s =
-    let b = both (is_time t.min) (is_time t.max) h in
-    by_form kind (codes "convert") (decimal t.min ∷ decimal t.max ∷ []) _ (command_form kind (codes "convert") _ (commands kind s) refl refl)
-    ∙ ap (λ x. x >>= λ min. number_in 1 4000000000 (decimal t.max) >>= λ max. Ok (items.Convert (record { min = min; max = max }))) (number_back 1 4000000000 t.min (omega arith) b.0)
-    ∙ ap (λ x. x >>= λ max. Ok (items.Convert (record { min = t.min; max = max }))) (number_back 1 4000000000 t.max (omega arith) b.1)
-item_back kind (items.List n) h s =
-    by_form kind (codes "list") (decimal n ∷ []) _ (command_form kind (codes "list") _ (commands kind s) refl refl) ∙ one_back items.List 1 256 n (omega arith) h
-item_back kind (items.Scans n) h s =
-    by_form kind (codes "scans") (decimal n ∷ []) _ (command_form kind (codes "scans") _ (commands kind s) refl refl) ∙ one_back items.Scans 1 4000000000 n (omega arith) h
-item_back kind (items.Lines n) h s =
-    by_form kind (codes "lines") (decimal n ∷ []) _ (command_form kind (codes "lines") _ (commands kind s) refl refl) ∙ one_back items.Lines 0 16 n (omega arith) h
-item_back kind (items.Buffer n) h s =
-    by_form kind (codes "buffer") (decimal n ∷ []) _ (command_form kind (codes "buffer") _ (commands kind s) refl refl) ∙ one_back items.Buffer 1 65536 n (omega arith) h
-item_back kind items.SameRange h s = by_form kind (codes "samerange") [] _ (command_form kind (codes "samerange") _ (commands kind s) refl refl)
-item_back kind (items.Forbid f) h s =
+values_back (items.Tick n) h = one_back items.Tick 1 1000000000 n (omega arith) h
+values_back (items.Scan t) h = times_back items.Scan t h
+values_back (items.Convert t) h = times_back items.Convert t h
+values_back (items.List n) h = one_back items.List 1 256 n (omega arith) h
+values_back (items.Scans n) h = one_back items.Scans 1 4000000000 n (omega arith) h
+values_back (items.Lines n) h = one_back items.Lines 0 16 n (omega arith) h
+values_back (items.Buffer n) h = one_back items.Buffer 1 65536 n (omega arith) h
+values_back items.SameRange h = refl
+values_back (items.Forbid f) h =
     let h1 = both _ (is_source f.other_src) h in
     let h2 = both (nat_lt f.field 5 && nat_lt f.other 5) (is_source f.src) h1.0 in
     let h3 = both (nat_lt f.field 5) (nat_lt f.other 5) h2.0 in
-    by_form kind (codes "forbid") _ _ (command_form kind (codes "forbid") _ (commands kind s) refl refl)
-    ∙ ap (λ x. x >>= λ a. source_in 511 (source_text f.src) >>= λ b. field_word (field_text f.other) >>= λ c. source_in 511 (source_text f.other_src) >>= λ d. Ok (items.Forbid (record { field = a; src = b; other = c; other_src = d }))) (field_back f.field h3.0).0
+    ap (λ x. x >>= λ a. source_in 511 (source_text f.src) >>= λ b. field_word (field_text f.other) >>= λ c. source_in 511 (source_text f.other_src) >>= λ d. Ok (items.Forbid (record { field = a; src = b; other = c; other_src = d }))) (field_back f.field h3.0).0
     ∙ ap (λ x. x >>= λ b. field_word (field_text f.other) >>= λ c. source_in 511 (source_text f.other_src) >>= λ d. Ok (items.Forbid (record { field = f.field; src = b; other = c; other_src = d }))) (source_in_back f.src h2.1)
     ∙ ap (λ x. x >>= λ c. source_in 511 (source_text f.other_src) >>= λ d. Ok (items.Forbid (record { field = f.field; src = f.src; other = c; other_src = d }))) (field_back f.other h3.1).0
     ∙ ap (λ x. x >>= λ d. Ok (items.Forbid (record { field = f.field; src = f.src; other = f.other; other_src = d }))) (source_in_back f.other_src h1.1)
+
+-- a printed line is read as its item
+pub item_back : (kind : Kind) (item : Item) → is_limited item ≡ true → stands kind item ≡ true → item_words kind (item_text item) ≡ Ok item
+item_back kind item h s = form_back kind item s ∙ values_back item h
 
 -- its words may stand in a line
 word_number : (least most n : ℕ) → most < 2 ^ 32 → is_within least most n ≡ true → is_word (decimal n) ≡ true
@@ -181,10 +181,7 @@ item_line (items.Munge m) h = munge_words_good m h
 item_line (items.Range r) h =
     let b = both (is_int r.min && is_int r.max) (nat_le r.unit 2) h in
     let ends = both (is_int r.min) (is_int r.max) b.0 in
-    and_true _ _ (word-signed_decimal r.min ends.0) (and_true _ _ (word-signed_decimal r.max ends.1) (and_true _ true (word-decimal r.unit (unit_small r.unit b.1)) refl))
-  where
-    unit_small : (n : ℕ) → nat_le n 2 ≡ true → n < 2 ^ 32
-    unit_small n h = grind (arith, nat_tests)
+    and_true _ _ (word-signed_decimal r.min ends.0) (and_true _ _ (word-signed_decimal r.max ends.1) (and_true _ true (word-decimal r.unit (omega (arith, leb-true r.unit 2 b.1))) refl))
 item_line (items.Sources m) h =
     let h1 = both _ (is_among 33 m.stop) h in
     let h2 = both _ (is_among 32 m.scan_end) h1.0 in

@@ -1,10 +1,9 @@
 -- Texts that are written piece by piece.
 use Rattle.std.proofs.Common.{◌≡◌, ℕ, zero, suc, ◌+◌, ◌-◌, ◌^◌, ◌<◌, ◌≤◌, Bool, true, false, cond, not, List, ◌++◌, map, flat_map, sym, ap, ◌∙◌, append_assoc, arith, zero-add, ◌==◌, length, take, ◌⊎◌, inl, inr}
 use Rattle.std.specs.List.{position_or_len, range_with_len}
-use Rattle.std.proofs.lemmas.Bool.Decides.{nat_tests}
 use Rattle.std.proofs.lemmas.List.{take_all}
 use Rattle.std.proofs.lemmas.List.Folds.{flat_map-map}
-use Rattle.std.proofs.lemmas.Grind.{flat_map-append}
+use Rattle.std.proofs.lemmas.Bool.{eq-eqb}
 use Rattle.cm_base.specs.WrittenLines.{line_of, text_of}
 use Rattle.cm_board.specs.Printed.{bits_of, item_text, items_text}
 use Rattle.cm_board.specs.declared.items.Item.{Item}
@@ -27,19 +26,13 @@ pub bits_found : (maxdata j : ℕ) → j ≤ 25 → ((k : ℕ) → k < j → (ma
 unfolding bits_of
 bits_found maxdata j h before at = sym (first_at (λ k. maxdata == 2 ^ k - 1) 25 0 j h (λ k below. ap (λ (n : ℕ). maxdata == 2 ^ n - 1) (zero-add k) ∙ before k below) (found at))
   where
-    same : (m n : ℕ) → m ≡ n → (m == n) ≡ true
-    same m n e = grind (arith, nat_tests)
-
     found : (j ≡ 25) ⊎ (maxdata ≡ 2 ^ j - 1) → (j ≡ 25) ⊎ ((maxdata == 2 ^ (0 + j) - 1) ≡ true)
     found (inl e) = inl e
-    found (inr e) = inr (ap (λ (n : ℕ). maxdata == 2 ^ n - 1) (zero-add j) ∙ same maxdata (2 ^ j - 1) e)
+    found (inr e) = inr (ap (λ (n : ℕ). maxdata == 2 ^ n - 1) (zero-add j) ∙ eq-eqb maxdata (2 ^ j - 1) e)
 
 -- the lines of items are their words' lines
 pub items_text-lines : (items : List Item) → text_of (map item_text items) ≡ items_text items
 items_text-lines items = flat_map-map line_of item_text items
-
-pub items_text-append : (xs ys : List Item) → items_text (xs ++ ys) ≡ items_text xs ++ items_text ys
-items_text-append xs ys = flat_map-append (λ item. line_of (item_text item)) xs ys
 
 pub items_text-map : {X : Type 0} (make : X → Item) (xs : List X) → items_text (map make xs) ≡ flat_map (λ x. line_of (item_text (make x))) xs
 items_text-map make xs = flat_map-map (λ item. line_of (item_text item)) make xs

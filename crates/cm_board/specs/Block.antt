@@ -1,109 +1,25 @@
 -- The lines of a block together.
-use Rattle.std.specs.Prelude.{ℕ, ◌-◌, ◌*◌, ◌^◌, ◌%◌, Bool, true, false, not, ◌&&◌, ◌||◌, ◌==◌, nat_le, nat_lt, int_lt, List, [], ◌∷◌, length, Option, Some, None, Result, Ok, Err, if◌then◌else◌}
-use Rattle.std.specs.List.{filter_map}
+use Rattle.std.specs.Prelude.{ℕ, ◌-◌, ◌*◌, ◌^◌, ◌%◌, Bool, true, false, not, ◌&&◌, ◌||◌, ◌==◌, nat_le, nat_lt, int_lt, List, [], ◌∷◌, length, Result, Ok, Err, if◌then◌else◌}
+use Rattle.std.specs.List.{filter_map, list_any}
 use Rattle.cm_base.specs.Lines.{LineText}
 use Rattle.cm_base.specs.Reading.{◌>>=◌}
 use Rattle.cm_base.specs.declared.faults.Fault.{Fault}
 use Rattle.cm_base.specs.declared.faults.Fault.TheVariants.{Bad, Double, Limit, Missing}
 use Rattle.cm_board.specs.Board.{Masks, SubText, is_digital, is_unused, swaps}
 use Rattle.cm_board.specs.Items.{item_of}
-use Rattle.cm_board.specs.Source.{allows, ext}
+use Rattle.cm_board.specs.Rows.{Block, Row, block_by, field, further_rows, needed_rows, said}
+use Rattle.cm_base.specs.Source.{allows, ext}
 use Rattle.cm_board.specs.declared.board.Kind.{Kind}
-use Rattle.cm_board.specs.declared.board.Munge.{Munge}
 use Rattle.cm_board.specs.declared.board.Munge.TheVariants as munges
-use Rattle.cm_board.specs.declared.board.Range.{Range}
-use Rattle.cm_board.specs.declared.board.Forbid.{Forbid}
 use Rattle.cm_board.specs.declared.items.Span.{Span}
 use Rattle.cm_board.specs.declared.items.Sources.{Sources}
 use Rattle.cm_board.specs.declared.items.Head.{Head}
 use Rattle.cm_board.specs.declared.items.Item.{Item}
 use Rattle.cm_board.specs.declared.items.Item.TheVariants as items
 
--- what the lines of a block say, form by form, each in the lines' order
-pub record Block : Type 0 where
-  pub bits : List ℕ
-  pub munge : List Munge
-  pub ranges : List Range
-  pub sources : List Sources
-  pub tick : List ℕ
-  pub scan : List Span
-  pub convert : List Span
-  pub list : List ℕ
-  pub scans : List ℕ
-  pub lines : List ℕ
-  pub buffer : List ℕ
-  pub same_range : List Bool
-  pub forbidden : List Forbid
-
--- what an item says where it is of this form
-abbrev pub bits_in : Item → Option ℕ
-bits_in (items.Bits k) = Some k
-bits_in other = None
-
-abbrev pub munge_in : Item → Option Munge
-munge_in (items.Munge m) = Some m
-munge_in other = None
-
-abbrev pub ranges_in : Item → Option Range
-ranges_in (items.Range r) = Some r
-ranges_in other = None
-
-abbrev pub sources_in : Item → Option Sources
-sources_in (items.Sources s) = Some s
-sources_in other = None
-
-abbrev pub tick_in : Item → Option ℕ
-tick_in (items.Tick n) = Some n
-tick_in other = None
-
-abbrev pub scan_in : Item → Option Span
-scan_in (items.Scan s) = Some s
-scan_in other = None
-
-abbrev pub convert_in : Item → Option Span
-convert_in (items.Convert s) = Some s
-convert_in other = None
-
-abbrev pub list_in : Item → Option ℕ
-list_in (items.List n) = Some n
-list_in other = None
-
-abbrev pub scans_in : Item → Option ℕ
-scans_in (items.Scans n) = Some n
-scans_in other = None
-
-abbrev pub lines_in : Item → Option ℕ
-lines_in (items.Lines n) = Some n
-lines_in other = None
-
-abbrev pub buffer_in : Item → Option ℕ
-buffer_in (items.Buffer n) = Some n
-buffer_in other = None
-
-abbrev pub same_range_in : Item → Option Bool
-same_range_in items.SameRange = Some true
-same_range_in other = None
-
-abbrev pub forbidden_in : Item → Option Forbid
-forbidden_in (items.Forbid f) = Some f
-forbidden_in other = None
-
+-- the lines of a block, sorted by their forms
 abbrev pub block_of : List Item → Block
-block_of items = record {
-  bits = filter_map bits_in items;
-  munge = filter_map munge_in items;
-  ranges = filter_map ranges_in items;
-  sources = filter_map sources_in items;
-  tick = filter_map tick_in items;
-  scan = filter_map scan_in items;
-  convert = filter_map convert_in items;
-  list = filter_map list_in items;
-  scans = filter_map scans_in items;
-  lines = filter_map lines_in items;
-  buffer = filter_map buffer_in items;
-  same_range = filter_map same_range_in items;
-  forbidden = filter_map forbidden_in items;
-}
+block_of items = block_by (λ row. filter_map (said row) items)
 
 -- how many lines of an item's form there are
 abbrev pub count_of : Item → Block → ℕ
@@ -136,43 +52,41 @@ is_fine (items.Forbid f) = not (f.field == f.other)
 is_fine other = true
 
 -- a line more in a block: not too many of its form, and fine in itself
-abbrev pub behind : Block → Item → Result Item Fault
-behind block item =
+abbrev pub admitted : Block → Item → Result Item Fault
+admitted block item =
     if nat_lt (count_of item block) (most_of item)
     then (if is_fine item then Ok item else Err Bad)
     else Err (if most_of item == 1 then Double else Limit)
 
--- what a line says behind the lines before it
-abbrev pub item_behind : Kind → List Item → LineText → Result Item Fault
-item_behind kind before line = item_of kind line >>= behind (block_of before)
+-- what a line says after the lines before it
+abbrev pub item_after : Kind → List Item → LineText → Result Item Fault
+item_after kind before line = item_of kind line >>= admitted (block_of before)
 
 -- none of these
 abbrev pub is_empty : {X : Type 0} → List X → Bool
 is_empty xs = length xs == 0
 
--- a line that a subdevice with commands needs, or that it may have
-abbrev pub has_needed : Block → Bool
-has_needed b = not (is_empty b.sources && is_empty b.tick && is_empty b.scan && is_empty b.convert && is_empty b.list && is_empty b.buffer)
+-- a line of one of these forms stands in the block, or is missing there
+abbrev pub has_any : List Row → Block → Bool
+has_any some b = list_any (λ row. not (is_empty (field row b))) some
 
-abbrev pub has_further : Block → Bool
-has_further b = not (is_empty b.scans && is_empty b.lines && is_empty b.same_range && is_empty b.forbidden)
+-- whether one of these forms has no line in the block
+abbrev pub lacks_any : List Row → Block → Bool
+lacks_any some b = list_any (λ row. is_empty (field row b)) some
 
 -- a line that only a subdevice with commands has
 abbrev pub has_command : Block → Bool
-has_command b = has_needed b || has_further b
-
--- a line is missing that a subdevice with commands needs
-abbrev pub lacks_command : Block → Bool
-lacks_command b = is_empty b.sources || is_empty b.tick || is_empty b.scan || is_empty b.convert || is_empty b.list || is_empty b.buffer
+has_command b = has_any needed_rows b || has_any further_rows b
 
 -- a needed line is missing
 abbrev pub lacks : Kind → Block → Bool
-lacks kind b = not (is_unused kind) && (is_empty b.bits || is_empty b.ranges || (has_command b && lacks_command b))
+lacks kind b = not (is_unused kind) && (is_empty b.bits || is_empty b.ranges || (has_command b && lacks_any needed_rows b))
 
 -- no sources, and the sources that a line names
 abbrev pub no_sources : Sources
 no_sources = record { start = 0; scan_begin = 0; convert = 0; scan_end = 0; stop = 0 }
 
+-- the sources that a `sources` line allows, one mask for each trigger
 abbrev pub masks_said : Sources → Masks
 masks_said s = record { start = s.start; scan_begin = s.scan_begin; convert = s.convert; scan_end = s.scan_end; stop = s.stop }
 
@@ -223,6 +137,7 @@ is_list_ok s = nat_le (s.conv_min * s.list_max) s.scan_max
 abbrev pub has_line : ℕ → ℕ → Bool
 has_line lines mask = not (allows mask ext) || nat_le 1 lines
 
+-- a subdevice that allows external triggers has a line for them
 abbrev pub is_lines_ok : SubText → Bool
 is_lines_ok s =
     has_line s.lines s.masks.start && has_line s.lines s.masks.scan_begin && has_line s.lines s.masks.convert

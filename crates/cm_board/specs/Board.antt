@@ -3,7 +3,7 @@ use Rattle.std.specs.Prelude.{◌≡◌, ◌≤◌, ◌*◌, ◌^◌, ◌%◌, �
 use Rattle.std.specs.List.{All, list_all, list_any, range_with_len}
 use Rattle.cm_base.specs.Lines.{is_printable}
 use Rattle.cm_base.specs.Words.{is_int}
-use Rattle.cm_board.specs.Source.{allows, ext}
+use Rattle.cm_base.specs.Source.{allows, ext}
 use Rattle.cm_board.specs.declared.board.Kind.{Kind}
 use Rattle.cm_board.specs.declared.board.Kind.TheVariants as kinds
 use Rattle.cm_board.specs.declared.board.Munge.{Munge}
@@ -48,12 +48,15 @@ pub record BoardText : Type 0 where
 abbrev pub maxdata_of : SubText → ℕ → ℕ
 maxdata_of sub chan = sub.maxdata
 
+-- how the words of a channel are munged: all channels of a subdevice alike
 abbrev pub munge_of : SubText → ℕ → Munge
 munge_of sub chan = sub.munge
 
+-- the ranges of a channel: all channels of a subdevice have the same
 abbrev pub ranges_of : SubText → ℕ → List Range
 ranges_of sub chan = sub.ranges
 
+-- how many ranges a channel has
 abbrev pub range_count : SubText → ℕ → ℕ
 range_count sub chan = length (ranges_of sub chan)
 
@@ -61,10 +64,7 @@ range_count sub chan = length (ranges_of sub chan)
 abbrev pub range_of : SubText → ℕ → ℕ → Range
 range_of sub chan index = slice_index_or (ranges_of sub chan) index (record { min = pos 0; max = pos 0; unit = 0 })
 
--- a subdevice takes commands where its triggers may have sources
-abbrev pub takes_commands : SubText → Bool
-takes_commands sub = not (sub.masks.start == 0)
-
+-- whether a subdevice is there in name alone
 abbrev pub is_unused : Kind → Bool
 is_unused kinds.Unused = true
 is_unused kind = false
@@ -82,10 +82,12 @@ may_command kinds.Unused = false
 may_command kinds.Dio = false
 may_command kind = true
 
+-- whether a munge swaps the two bytes of a word
 abbrev pub swaps : Munge → Bool
 swaps munges.Swap16 = true
 swaps munge = false
 
+-- whether a munge leaves each word as it is
 abbrev pub is_plain : Munge → Bool
 is_plain munges.Plain = true
 is_plain munge = false
@@ -119,6 +121,10 @@ is_among set mask = not (mask == 0) && bit_and mask set == mask
 -- no trigger has a source
 abbrev pub are_empty : Masks → Bool
 are_empty m = m.start == 0 && m.scan_begin == 0 && m.convert == 0 && m.scan_end == 0 && m.stop == 0
+
+-- a subdevice takes commands where some trigger may have a source
+abbrev pub takes_commands : SubText → Bool
+takes_commands sub = not (are_empty sub.masks)
 
 -- each trigger has sources: start now, ext or int; scan_begin follow, timer or ext; convert now, timer or ext; scan_end count; stop none or count
 abbrev pub are_full : Masks → Bool
@@ -182,7 +188,7 @@ unfoldable pub has_munge : SubText → Bool
 has_munge s = is_munge s.munge && (not (swaps s.munge) || nat_le s.maxdata 65535)
 
 -- the limits of a block, and the rules over several of its lines
-pub record IsSound (sub : SubText) : Type 0 where
+pub record IsSoundSub (sub : SubText) : Type 0 where
   pub text : IsTrue (has_text sub)
   pub munge : IsTrue (has_munge sub)
   pub largest : IsFrom1To (2 ^ 24 - 1) sub.maxdata

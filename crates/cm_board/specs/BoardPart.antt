@@ -1,32 +1,26 @@
 -- The board part of a text.
-use Rattle.std.specs.Prelude.{ℕ, ◌+◌, Bool, true, false, not, ◌&&◌, ◌||◌, nat_le, nat_lt, List, [], ◌∷◌, ◌++◌, length, drop, codes, Result, Ok, Err, if◌then◌else◌}
+use Rattle.std.specs.Prelude.{ℕ, ◌+◌, Bool, true, ◌&&◌, ◌||◌, nat_le, nat_lt, List, [], ◌∷◌, length, drop, codes, Result, Ok, Err, if◌then◌else◌}
 use Rattle.std.specs.List.{before_first, position_or_len}
-use Rattle.std.specs.Str.{bytes_eq}
 use Rattle.cm_base.specs.Lines.{LineText, is_word}
+use Rattle.cm_base.specs.Parts.{begins, fixed}
 use Rattle.cm_base.specs.Reading.{◌>>=◌, at_line, read_each}
 use Rattle.cm_base.specs.Words.{Form, limited, number_in, one, one_word}
 use Rattle.cm_base.specs.declared.faults.Fault.{Fault}
-use Rattle.cm_base.specs.declared.faults.Fault.TheVariants.{BadLine, Missing}
+use Rattle.cm_base.specs.declared.faults.Fault.TheVariants.{Missing}
 use Rattle.cm_base.specs.declared.faults.Refused.{Refused}
 use Rattle.cm_board.specs.Board.{BoardText, SubText}
-use Rattle.cm_board.specs.Block.{Block, block_of, finished, item_behind}
+use Rattle.cm_board.specs.Block.{block_of, finished, item_after}
+use Rattle.cm_board.specs.Rows.{Block}
 use Rattle.cm_board.specs.Items.{head_words}
 use Rattle.cm_board.specs.declared.board.Kind.{Kind}
 use Rattle.cm_board.specs.declared.items.Head.{Head}
 use Rattle.cm_board.specs.declared.items.Item.{Item}
 
--- the first of these words
-abbrev pub begins_words : List ℕ → List (List ℕ) → Bool
-begins_words key [] = false
-begins_words key (word ∷ words) = bytes_eq word key
-
--- the first word of a line that is not bad
-abbrev pub begins : List ℕ → LineText → Bool
-begins key line = not line.bad && begins_words key line.words
-
+-- a line that starts the block of a subdevice
 abbrev pub is_subdevice : LineText → Bool
 is_subdevice = begins (codes "subdevice")
 
+-- the line that starts the signals part
 abbrev pub is_signals : LineText → Bool
 is_signals = begins (codes "signals")
 
@@ -39,47 +33,38 @@ abbrev pub next_number : ℕ → List LineText → ℕ
 next_number end [] = end
 next_number end (line ∷ lines) = line.number
 
--- the words behind the one fixed word that may begin the line at this place, and the line's number
-abbrev pub fixed_words : ℕ → List ℕ → List LineText → Result (ℕ × List (List ℕ)) Refused
-fixed_words end key [] = Err (record { line = end; cause = Missing })
-fixed_words end key (line ∷ lines) =
-    at_line line.number (if line.bad then Err BadLine else if begins key line then Ok (line.number, drop 1 line.words) else Err Missing)
-
--- what the line at such a place says
-abbrev pub fixed : {X : Type 0} → ℕ → List ℕ → Form X → List LineText → Result X Refused
-fixed end key form lines = fixed_words end key lines >>= λ words. at_line words.0 (form words.1)
-
 -- the head of a block, where at most 16 stand before it
-abbrev pub head_behind : ℕ → LineText → Result Head Fault
-head_behind count line = head_words (drop 1 line.words) >>= λ head. limited (nat_lt count 16) head
+abbrev pub head_after : ℕ → LineText → Result Head Fault
+head_after count line = head_words (drop 1 line.words) >>= λ head. limited (nat_lt count 16) head
 
--- the lines of a block behind its head, and those behind the block
+-- the lines of a block after its head, and those after the block
 abbrev pub block_lines : List LineText → List LineText
 block_lines = before_first ends_block
 
-abbrev pub lines_behind : List LineText → List LineText
-lines_behind lines = drop (position_or_len ends_block lines) lines
+-- the lines from the one that ends a block on
+abbrev pub lines_after : List LineText → List LineText
+lines_after lines = drop (position_or_len ends_block lines) lines
 
--- what lines say together behind others of their block
-abbrev pub said_behind : Kind → List Item → List LineText → Result Block Refused
-said_behind kind before lines = read_each (item_behind kind) before lines >>= λ items. Ok (block_of items)
+-- what lines say together after others of their block
+abbrev pub said_after : Kind → List Item → List LineText → Result Block Refused
+said_after kind before lines = read_each (item_after kind) before lines >>= λ items. Ok (block_of items)
 
--- what the lines behind a head say together
+-- what the lines after a head say together
 abbrev pub block_said : Kind → List LineText → Result Block Refused
-block_said kind lines = said_behind kind [] lines
+block_said kind lines = said_after kind [] lines
 
--- the subdevice that a head and the lines behind it describe, with `count` blocks before and the line `stop` behind
+-- the subdevice that a head and the lines after it describe, with `count` blocks before and the line `stop` after
 abbrev pub block_at : ℕ → ℕ → LineText → List LineText → Result SubText Refused
 block_at stop count line inside =
-    at_line line.number (head_behind count line) >>= λ head.
+    at_line line.number (head_after count line) >>= λ head.
     block_said head.kind inside >>= λ block.
     at_line stop (finished head block)
 
--- the subdevice that a head and the lines behind it up to the block's end describe
+-- the subdevice that a head and the lines after it up to the block's end describe
 abbrev pub next_block : ℕ → ℕ → LineText → List LineText → Result SubText Refused
-next_block end count line rest = block_at (next_number end (lines_behind rest)) count line (block_lines rest)
+next_block end count line rest = block_at (next_number end (lines_after rest)) count line (block_lines rest)
 
--- the subdevices of the blocks up to the `signals` line, behind `count` others
+-- the subdevices of the blocks up to the `signals` line, after `count` others
 abbrev pub blocks_from : ℕ → ℕ → List LineText → Result (List SubText) Refused
 blocks_from end count [] = Err (record { line = end; cause = Missing })
 blocks_from end count (line ∷ rest) =
@@ -87,23 +72,21 @@ blocks_from end count (line ∷ rest) =
     if is_subdevice line then (next_block end count line rest >>= λ sub. blocks_from end (count + 1) rest >>= λ subs. Ok (sub ∷ subs)) else
     blocks_from end count rest
 
--- these lines stand behind whole blocks
+-- these lines stand after whole blocks
 abbrev pub is_between : List LineText → Bool
 is_between [] = true
 is_between (line ∷ lines) = ends_block line
 
--- no block stands at the front of these lines
+-- no block stands at the start of these lines
 abbrev pub is_part_end : List LineText → Bool
 is_part_end [] = true
 is_part_end (line ∷ lines) = is_signals line
 
--- what is read behind what has been read
-abbrev pub with_front : {X : Type 0} → List X → Result (List X) Refused → Result (List X) Refused
-with_front front read = read >>= λ more. Ok (front ++ more)
-
+-- the version of the format, which is 1
 abbrev pub version_words : Form ℕ
 version_words = one (λ version. version) (number_in 1 1)
 
+-- the board's name, of at most 32 bytes
 abbrev pub name_words : Form (List ℕ)
 name_words words = one_word words >>= λ name. limited (nat_le (length name) 32) name
 
@@ -111,6 +94,7 @@ name_words words = one_word words >>= λ name. limited (nat_le (length name) 32)
 abbrev pub is_name : List ℕ → Bool
 is_name name = is_word name && nat_le (length name) 32
 
+-- words that are not looked at here
 abbrev pub any_words : Form Bool
 any_words words = Ok true
 

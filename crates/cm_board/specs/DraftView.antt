@@ -1,10 +1,11 @@
 -- How contracts see a block that is being read.
 use Rattle.std.specs.Prelude.{true, [], ◌∷◌, ◌++◌, option_to_list, if◌then◌else◌}
-use Rattle.cm_board.specs.Block.{Block}
+use Rattle.cm_board.specs.Rows.{Block}
 use Rattle.cm_board.specs.declared.draft.Draft.{Draft}
 use Rattle.cm_board.specs.declared.items.Item.{Item}
 use Rattle.cm_board.specs.declared.items.Item.TheVariants as items
 
+-- the lines of a block that were read so far, as contracts see them
 abbrev pub block_view : Draft → Block
 block_view d = record {
   bits = option_to_list d.bits;

@@ -7,6 +7,7 @@ pub mod Items
 pub mod Limits
 pub mod Printed
 pub mod PrintedReads
-pub mod Source
+pub mod Refusal
+pub mod Rows
 pub mod UncheckedView
 pub mod View

@@ -5,6 +5,8 @@ use Rattle.std.specs.List.{position_or_len, range_with_len}
 use Rattle.cm_base.specs.SourceText.{source_text}
 use Rattle.cm_base.specs.WrittenLines.{line_of}
 use Rattle.cm_board.specs.Board.{BoardText, Masks, SubText, is_unused, takes_commands}
+use Rattle.cm_board.specs.Items.{key_of}
+use Rattle.cm_board.specs.Rows.{row_of}
 use Rattle.cm_board.specs.declared.board.Kind.{Kind}
 use Rattle.cm_board.specs.declared.board.Kind.TheVariants as kinds
 use Rattle.cm_board.specs.declared.board.Munge.{Munge}
@@ -17,6 +19,7 @@ use Rattle.cm_board.specs.declared.items.Item.TheVariants as items
 unfoldable pub bits_of : ℕ → ℕ
 bits_of maxdata = position_or_len (λ bits. maxdata == 2 ^ bits - 1) (range_with_len 0 25)
 
+-- the name of a subdevice's kind
 abbrev pub kind_text : Kind → List ℕ
 kind_text kinds.Unused = codes "unused"
 kind_text kinds.Ai = codes "ai"
@@ -31,33 +34,38 @@ field_text field =
     if field == 0 then codes "start" else if field == 1 then codes "scan_begin" else
     if field == 2 then codes "convert" else if field == 3 then codes "scan_end" else codes "stop"
 
+-- the words of a munge
 abbrev pub munge_text : Munge → List (List ℕ)
 munge_text munges.Plain = codes "none" ∷ []
 munge_text munges.Offset = codes "offset" ∷ []
 munge_text munges.Swap16 = codes "swap16" ∷ []
 munge_text (munges.Left bits) = codes "left" ∷ decimal bits ∷ []
 
+-- the words of a line after its key
+abbrev pub values_text : Item → List (List ℕ)
+values_text (items.Bits k) = decimal k ∷ []
+values_text (items.Munge m) = munge_text m
+values_text (items.Range r) = signed_decimal r.min ∷ signed_decimal r.max ∷ decimal r.unit ∷ []
+values_text (items.Sources s) = source_text s.start ∷ source_text s.scan_begin ∷ source_text s.convert ∷ source_text s.scan_end ∷ source_text s.stop ∷ []
+values_text (items.Tick n) = decimal n ∷ []
+values_text (items.Scan s) = decimal s.min ∷ decimal s.max ∷ []
+values_text (items.Convert s) = decimal s.min ∷ decimal s.max ∷ []
+values_text (items.List n) = decimal n ∷ []
+values_text (items.Scans n) = decimal n ∷ []
+values_text (items.Lines n) = decimal n ∷ []
+values_text (items.Buffer n) = decimal n ∷ []
+values_text items.SameRange = []
+values_text (items.Forbid f) = field_text f.field ∷ source_text f.src ∷ field_text f.other ∷ source_text f.other_src ∷ []
+
 -- the words of a line
 abbrev pub item_text : Item → List (List ℕ)
-item_text (items.Bits k) = codes "bits" ∷ decimal k ∷ []
-item_text (items.Munge m) = codes "munge" ∷ munge_text m
-item_text (items.Range r) = codes "range" ∷ signed_decimal r.min ∷ signed_decimal r.max ∷ decimal r.unit ∷ []
-item_text (items.Sources s) =
-    codes "sources" ∷ source_text s.start ∷ source_text s.scan_begin ∷ source_text s.convert ∷ source_text s.scan_end ∷ source_text s.stop ∷ []
-item_text (items.Tick n) = codes "tick" ∷ decimal n ∷ []
-item_text (items.Scan s) = codes "scan" ∷ decimal s.min ∷ decimal s.max ∷ []
-item_text (items.Convert s) = codes "convert" ∷ decimal s.min ∷ decimal s.max ∷ []
-item_text (items.List n) = codes "list" ∷ decimal n ∷ []
-item_text (items.Scans n) = codes "scans" ∷ decimal n ∷ []
-item_text (items.Lines n) = codes "lines" ∷ decimal n ∷ []
-item_text (items.Buffer n) = codes "buffer" ∷ decimal n ∷ []
-item_text items.SameRange = codes "samerange" ∷ []
-item_text (items.Forbid f) = codes "forbid" ∷ field_text f.field ∷ source_text f.src ∷ field_text f.other ∷ source_text f.other_src ∷ []
+item_text item = key_of (row_of item) ∷ values_text item
 
 -- the lines of a block, one after another
 abbrev pub items_text : List Item → List ℕ
 items_text items = flat_map (λ item. line_of (item_text item)) items
 
+-- the masks of a subdevice as its `sources` line holds them
 abbrev pub sources_of : Masks → Sources
 sources_of m = record { start = m.start; scan_begin = m.scan_begin; convert = m.convert; scan_end = m.scan_end; stop = m.stop }
 
@@ -90,6 +98,7 @@ items_of s =
 abbrev pub head_line : SubText → List (List ℕ)
 head_line s = codes "subdevice" ∷ kind_text s.kind ∷ decimal s.channels ∷ []
 
+-- the printed block of a subdevice
 abbrev pub block_text : SubText → List ℕ
 block_text s = line_of (head_line s) ++ items_text (items_of s)
 
@@ -97,9 +106,11 @@ block_text s = line_of (head_line s) ++ items_text (items_of s)
 abbrev pub version_line : List (List ℕ)
 version_line = codes "comedi" ∷ codes "1" ∷ []
 
+-- the line of the board's name
 abbrev pub name_line : List ℕ → List (List ℕ)
 name_line name = codes "board" ∷ name ∷ []
 
+-- a board as it is printed
 abbrev pub printed_board : BoardText → List ℕ
 printed_board b = line_of version_line ++ (line_of (name_line b.name) ++ flat_map block_text b.subs)
 
@@ -107,5 +118,6 @@ printed_board b = line_of version_line ++ (line_of (name_line b.name) ++ flat_ma
 abbrev pub sub_lines : SubText → List (List (List ℕ))
 sub_lines s = head_line s ∷ map item_text (items_of s)
 
+-- the printed lines of a board, as their words
 abbrev pub board_lines : BoardText → List (List (List ℕ))
 board_lines b = version_line ∷ name_line b.name ∷ flat_map sub_lines b.subs

@@ -3,6 +3,7 @@ use Rattle.cm_board.specs.Board.{SubText}
 use Rattle.cm_board.specs.Block.{masks_said}
 use Rattle.cm_board.specs.declared.unchecked.Unchecked.{Unchecked}
 
+-- a subdevice whose limits are not tested yet, as contracts see it
 abbrev pub unchecked_text : Unchecked → SubText
 unchecked_text s = record {
   kind = s.kind;

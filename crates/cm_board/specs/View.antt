@@ -3,6 +3,7 @@ use Rattle.std.specs.Prelude.{ℕ, List, slice_index}
 use Rattle.cm_board.specs.Board.{Masks, SubText}
 use Rattle.cm_board.specs.declared.board.Sub.TheInside.{Inside}
 
+-- the five masks of a list, in the order of a command's triggers
 abbrev pub masks_of : List ℕ → Masks
 masks_of sources = record {
   start = slice_index sources 0;
@@ -12,6 +13,7 @@ masks_of sources = record {
   stop = slice_index sources 4;
 }
 
+-- a subdevice as contracts see it
 abbrev pub sub_text : Inside → SubText
 sub_text s = record {
   kind = s.kind;

@@ -83,7 +83,7 @@ pub struct Sub {
 }
 
 impl Model for Sub {
-    ghost use Rattle.cm_board.specs.Board.{SubText, IsSound};
+    ghost use Rattle.cm_board.specs.Board.{SubText, IsSoundSub};
 
     ghost Value = { SubText };
 
@@ -91,7 +91,7 @@ impl Model for Sub {
 
     ghost view = { sub_text };
 
-    ghost invariant = { λ s. IsSound (sub_text s) };
+    ghost invariant = { λ s. IsSoundSub (sub_text s) };
 }
 
 impl Sub {
@@ -102,7 +102,8 @@ impl Sub {
     pub fn takes_commands(&self) -> bool
         ensures { result ≡ takes_commands self.now }
     {
-        self.sources[0] != 0
+        let masks = self.sources;
+        !(masks[0] == 0 && masks[1] == 0 && masks[2] == 0 && masks[3] == 0 && masks[4] == 0)
     }
 
     /// The greatest code of a channel.
@@ -112,6 +113,7 @@ impl Sub {
         ensures low { 1 ≤ result }
         ensures high { result < 2 ^ 24 }
     {
+        // All channels of a subdevice have the same.
         let _ = chan;
         self.maxdata
     }
@@ -123,6 +125,7 @@ impl Sub {
         ensures value { result ≡ munge_of self.now chan }
         ensures shift { IsTrue (is_munge result) }
     {
+        // All channels of a subdevice have the same.
         let _ = chan;
         self.munge
     }
@@ -132,6 +135,7 @@ impl Sub {
         requires { chan < self.now.channels }
         ensures { result ≡ range_count self.now chan }
     {
+        // All channels of a subdevice have the same.
         let _ = chan;
         self.ranges.len() as u32
     }
@@ -143,6 +147,7 @@ impl Sub {
         ensures value { result ≡ range_of self.now chan index }
         ensures proper { result.min <ℤ result.max }
     {
+        // All channels of a subdevice have the same.
         let _ = chan;
         self.ranges[index as usize]
     }

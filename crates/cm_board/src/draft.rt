@@ -1,7 +1,8 @@
 // A block while its lines are read.
 ghost use Rattle.std.specs.Prelude.{◌≡◌, ◌^◌, ◌-◌, [], OnOk, IsTrue, nat_lt, option_to_list, ◌==◌, if◌then◌else◌};
 ghost use Rattle.cm_base.specs.Reading.{seen};
-ghost use Rattle.cm_board.specs.Block.{behind, block_of, count_of, is_fine, lacks, most_of, has_command, has_further, has_needed, lacks_command, said_or, sub_of};
+ghost use Rattle.cm_board.specs.Block.{admitted, block_of, count_of, is_fine, has_any, has_command, lacks, lacks_any, most_of, said_or, sub_of};
+ghost use Rattle.cm_board.specs.Rows.{further_rows, needed_rows};
 ghost use Rattle.cm_board.specs.Limits.{is_within};
 ghost use Rattle.std.specs.List.{list_all};
 ghost use Rattle.cm_base.specs.declared.faults.Fault.TheVariants as faults;
@@ -55,9 +56,9 @@ impl Draft {
         }
     }
 
-    /// Whether a line may stand behind those so far.
+    /// Whether a line may stand after those so far.
     pub fn check(&self, item: &Item) -> Result<(), Fault>
-        ensures { seen (λ u. item.now) result ≡ behind (block_view self.now) item.now }
+        ensures { seen (λ u. item.now) result ≡ admitted (block_view self.now) item.now }
     {
         if self.has_room(item) {
             if is_fine(item) {
@@ -152,7 +153,7 @@ impl Draft {
 
     // Whether there is a line that a subdevice with commands needs.
     fn has_needed(&self) -> bool
-        ensures { result ≡ has_needed (block_view self.now) }
+        ensures { result ≡ has_any needed_rows (block_view self.now) }
     {
         self.sources.is_some()
             || self.tick.is_some()
@@ -164,7 +165,7 @@ impl Draft {
 
     // Whether there is a line that a subdevice with commands may have.
     fn has_further(&self) -> bool
-        ensures { result ≡ has_further (block_view self.now) }
+        ensures { result ≡ has_any further_rows (block_view self.now) }
     {
         self.scans.is_some()
             || self.lines.is_some()
@@ -181,7 +182,7 @@ impl Draft {
 
     // Whether a line is missing that a subdevice with commands needs.
     fn lacks_command(&self) -> bool
-        ensures { result ≡ lacks_command (block_view self.now) }
+        ensures { result ≡ lacks_any needed_rows (block_view self.now) }
     {
         self.sources.is_none()
             || self.tick.is_none()

@@ -2,13 +2,14 @@
 ghost use Rattle.std.specs.Prelude.{◌≡◌, ◌∷◌, map};
 ghost use Rattle.std.specs.Option.{option_map};
 ghost use Rattle.cm_base.specs.Words.{alone, listed};
-ghost use Rattle.cm_board.specs.Items.{block_forms, channels_word, command_forms, field_word, head_words, item_of, item_words, kind_word, left_words, munge_words, time_word, bits_words, munge_item_words, range_words, sources_words, tick_words, scan_words, convert_words, list_words, scans_words, lines_words, buffer_words, same_range_words, forbid_words};
+ghost use Rattle.cm_board.specs.Items.{block_forms, channels_word, command_forms, field_word, head_words, item_of, item_words, kind_word, left_words, munge_words, time_word, words_of};
+ghost use Rattle.cm_board.specs.Rows as rows;
 ghost use Rattle.cm_base.specs.LineView.{line_view};
 
 use crate::board::{Forbid, Kind, Munge, Range};
-use crate::source::{ALL, COUNT, EXT, FOLLOW, INT, NONE, NOW, TIMER};
 use cm_base::faults::Fault;
 use cm_base::lines::Line;
+use cm_base::source::{ALL, COUNT, EXT, FOLLOW, INT, NONE, NOW, TIMER};
 use cm_base::words::{
     five, four, none, number_in, one, signed_number, source_in, sources_in, three, two,
 };
@@ -74,7 +75,7 @@ pub enum Item {
 }
 
 /// What a line says in a block of this kind.
-pub fn read_item(kind: Kind, line: &Line<'_>) -> Result<Item, Fault>
+pub(crate) fn read_item(kind: Kind, line: &Line<'_>) -> Result<Item, Fault>
     ensures { result ≡ item_of kind (line_view line.now) }
 {
     if line.bad {
@@ -86,7 +87,7 @@ pub fn read_item(kind: Kind, line: &Line<'_>) -> Result<Item, Fault>
     }
 }
 
-// What the words behind a key say in a block of this kind.
+// What the words after a key say in a block of this kind.
 fn read_words(kind: Kind, key: &[u8], words: &[&[u8]]) -> Result<Item, Fault>
     ensures { result ≡ item_words kind (key.now ∷ map (λ word. word.now) words.now) }
 {
@@ -129,12 +130,12 @@ fn read_command(key: &[u8], words: &[&[u8]]) -> Option<Result<Item, Fault>>
         Some(read_convert(words))
     } else if key == b"list".as_slice() {
         Some(read_list(words))
+    } else if key == b"buffer".as_slice() {
+        Some(read_buffer(words))
     } else if key == b"scans".as_slice() {
         Some(read_scans(words))
     } else if key == b"lines".as_slice() {
         Some(read_lines(words))
-    } else if key == b"buffer".as_slice() {
-        Some(read_buffer(words))
     } else if key == b"samerange".as_slice() {
         Some(read_same_range(words))
     } else if key == b"forbid".as_slice() {
@@ -146,7 +147,7 @@ fn read_command(key: &[u8], words: &[&[u8]]) -> Option<Result<Item, Fault>>
 
 // `bits K`
 fn read_bits(words: &[&[u8]]) -> Result<Item, Fault>
-    ensures { result ≡ bits_words (map (λ word. word.now) words.now) }
+    ensures { result ≡ words_of rows.bits (map (λ word. word.now) words.now) }
 {
     let bits = one(words)?;
     Ok(Item::Bits(number_in(bits, 1, 24)?))
@@ -154,7 +155,7 @@ fn read_bits(words: &[&[u8]]) -> Result<Item, Fault>
 
 // `range MIN MAX UNIT`
 fn read_range(words: &[&[u8]]) -> Result<Item, Fault>
-    ensures { result ≡ range_words (map (λ word. word.now) words.now) }
+    ensures { result ≡ words_of rows.ranges (map (λ word. word.now) words.now) }
 {
     let (min, max, unit) = three(words)?;
     Ok(Item::Range(Range {
@@ -166,7 +167,7 @@ fn read_range(words: &[&[u8]]) -> Result<Item, Fault>
 
 // `sources START SCAN_BEGIN CONVERT SCAN_END STOP`
 fn read_sources(words: &[&[u8]]) -> Result<Item, Fault>
-    ensures { result ≡ sources_words (map (λ word. word.now) words.now) }
+    ensures { result ≡ words_of rows.sources (map (λ word. word.now) words.now) }
 {
     let (start, scan_begin, convert, scan_end, stop) = five(words)?;
     Ok(Item::Sources(Sources {
@@ -180,7 +181,7 @@ fn read_sources(words: &[&[u8]]) -> Result<Item, Fault>
 
 // `tick N`
 fn read_tick(words: &[&[u8]]) -> Result<Item, Fault>
-    ensures { result ≡ tick_words (map (λ word. word.now) words.now) }
+    ensures { result ≡ words_of rows.tick (map (λ word. word.now) words.now) }
 {
     let tick = one(words)?;
     Ok(Item::Tick(number_in(tick, 1, 1_000_000_000)?))
@@ -188,7 +189,7 @@ fn read_tick(words: &[&[u8]]) -> Result<Item, Fault>
 
 // `scan MIN MAX`
 fn read_scan(words: &[&[u8]]) -> Result<Item, Fault>
-    ensures { result ≡ scan_words (map (λ word. word.now) words.now) }
+    ensures { result ≡ words_of rows.scan (map (λ word. word.now) words.now) }
 {
     let (min, max) = two(words)?;
     Ok(Item::Scan(Span {
@@ -199,7 +200,7 @@ fn read_scan(words: &[&[u8]]) -> Result<Item, Fault>
 
 // `convert MIN MAX`
 fn read_convert(words: &[&[u8]]) -> Result<Item, Fault>
-    ensures { result ≡ convert_words (map (λ word. word.now) words.now) }
+    ensures { result ≡ words_of rows.convert (map (λ word. word.now) words.now) }
 {
     let (min, max) = two(words)?;
     Ok(Item::Convert(Span {
@@ -210,7 +211,7 @@ fn read_convert(words: &[&[u8]]) -> Result<Item, Fault>
 
 // `list N`
 fn read_list(words: &[&[u8]]) -> Result<Item, Fault>
-    ensures { result ≡ list_words (map (λ word. word.now) words.now) }
+    ensures { result ≡ words_of rows.list (map (λ word. word.now) words.now) }
 {
     let list = one(words)?;
     Ok(Item::List(number_in(list, 1, 256)?))
@@ -218,7 +219,7 @@ fn read_list(words: &[&[u8]]) -> Result<Item, Fault>
 
 // `scans N`
 fn read_scans(words: &[&[u8]]) -> Result<Item, Fault>
-    ensures { result ≡ scans_words (map (λ word. word.now) words.now) }
+    ensures { result ≡ words_of rows.scans (map (λ word. word.now) words.now) }
 {
     let scans = one(words)?;
     Ok(Item::Scans(time(scans)?))
@@ -226,7 +227,7 @@ fn read_scans(words: &[&[u8]]) -> Result<Item, Fault>
 
 // `lines N`
 fn read_lines(words: &[&[u8]]) -> Result<Item, Fault>
-    ensures { result ≡ lines_words (map (λ word. word.now) words.now) }
+    ensures { result ≡ words_of rows.lines (map (λ word. word.now) words.now) }
 {
     let lines = one(words)?;
     Ok(Item::Lines(number_in(lines, 0, 16)?))
@@ -234,7 +235,7 @@ fn read_lines(words: &[&[u8]]) -> Result<Item, Fault>
 
 // `buffer N`
 fn read_buffer(words: &[&[u8]]) -> Result<Item, Fault>
-    ensures { result ≡ buffer_words (map (λ word. word.now) words.now) }
+    ensures { result ≡ words_of rows.buffer (map (λ word. word.now) words.now) }
 {
     let buffer = one(words)?;
     Ok(Item::Buffer(number_in(buffer, 1, 65_536)?))
@@ -242,7 +243,7 @@ fn read_buffer(words: &[&[u8]]) -> Result<Item, Fault>
 
 // `samerange`
 fn read_same_range(words: &[&[u8]]) -> Result<Item, Fault>
-    ensures { result ≡ same_range_words (map (λ word. word.now) words.now) }
+    ensures { result ≡ words_of rows.same_range (map (λ word. word.now) words.now) }
 {
     none(words)?;
     Ok(Item::SameRange)
@@ -250,7 +251,7 @@ fn read_same_range(words: &[&[u8]]) -> Result<Item, Fault>
 
 // `forbid FIELD SRC FIELD SRC`
 fn read_forbid(words: &[&[u8]]) -> Result<Item, Fault>
-    ensures { result ≡ forbid_words (map (λ word. word.now) words.now) }
+    ensures { result ≡ words_of rows.forbidden (map (λ word. word.now) words.now) }
 {
     let (field, src, other, other_src) = four(words)?;
     Ok(Item::Forbid(Forbid {
@@ -263,7 +264,7 @@ fn read_forbid(words: &[&[u8]]) -> Result<Item, Fault>
 
 // `munge KIND`
 fn read_munge_item(words: &[&[u8]]) -> Result<Item, Fault>
-    ensures { result ≡ munge_item_words (map (λ word. word.now) words.now) }
+    ensures { result ≡ words_of rows.munge (map (λ word. word.now) words.now) }
 {
     Ok(Item::Munge(read_munge(words)?))
 }
@@ -353,7 +354,7 @@ fn read_kind(word: &[u8]) -> Result<Kind, Fault>
     }
 }
 
-/// What the words behind `subdevice` say.
+/// What the words after `subdevice` say.
 pub fn read_head(words: &[&[u8]]) -> Result<Head, Fault>
     ensures { result ≡ head_words (map (λ word. word.now) words.now) }
 {

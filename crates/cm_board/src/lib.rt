@@ -7,7 +7,6 @@ pub mod items;
 pub mod law;
 pub mod printing;
 pub mod reading;
-pub mod source;
 pub mod unchecked;
 
 #[cfg(test)]

@@ -2,22 +2,24 @@
 ghost use Rattle.std.specs.Prelude.{◌≡◌, ◌++◌, ◌∷◌, [], ◌≤◌, ◌-◌, ◌^◌, codes, flat_map, map, IfOk, OnOk, IsFalse, decimal};
 ghost use Rattle.cm_base.specs.SourceText.{source_text};
 ghost use Rattle.cm_base.specs.WrittenLines.{line_of};
-ghost use Rattle.cm_board.specs.Board.{is_unused};
+ghost use Rattle.std.specs.List.{All};
+ghost use Rattle.cm_board.specs.Board.{IsSoundSub, is_unused};
+ghost use Rattle.cm_board.specs.PrintedReads.{ReadsAs};
 ghost use Rattle.cm_board.specs.Printed.{bits_of, block_text, command_items, field_text, item_text, items_of, items_text, kind_text, munge_text, printed_board, rule_items, size_items, sources_of, span_items, timing_items};
 ghost use Rattle.cm_board.specs.declared.items.Item.TheVariants as items;
 
 use crate::board::{BoardDesc, Forbid, Kind, Munge, Range, Sub};
 use crate::items::{Item, Sources, Span};
-use cm_base::numbers::put_i64;
+use cm_base::numbers::{put_i64, put_u64};
 use cm_base::source_text::put_sources;
 use cm_base::transfer::NoMemory;
-use itoa::Buffer;
 use std::alloc::Global;
 
 /// The board part of a text in its one form: the lines of each block in a fixed order, those with
-/// defaults among them. With a `signals` line behind it, it is read as the same board.
+/// defaults among them. With a `signals` line after it, it is read as the same board.
 pub fn print_board(alloc: Global, board: &BoardDesc) -> Result<Vec<u8>, NoMemory>
-    ensures { IfOk result (λ text. text.items ≡ printed_board board.now) }
+    ensures text { IfOk result (λ text. text.items ≡ printed_board board.now) }
+    ensures reads { IfOk result (λ text. ReadsAs board.now text.items) }
 {
     let mut out = Vec::new(alloc);
     out.extend_from_slice(b"comedi 1\nboard ")?;
@@ -29,7 +31,8 @@ pub fn print_board(alloc: Global, board: &BoardDesc) -> Result<Vec<u8>, NoMemory
 
 // The blocks.
 fn put_subs(out: &mut Vec<u8>, subs: &[Sub]) -> Result<(), NoMemory>
-    ensures { OnOk result (out.new.items ≡ out.old.items ++ flat_map block_text subs.now) }
+    ensures text { OnOk result (out.new.items ≡ out.old.items ++ flat_map block_text subs.now) }
+    ensures sound { OnOk result (All IsSoundSub subs.now) }
 {
     for sub in subs {
         put_sub(out, sub)?;
@@ -39,7 +42,8 @@ fn put_subs(out: &mut Vec<u8>, subs: &[Sub]) -> Result<(), NoMemory>
 
 // One block.
 fn put_sub(out: &mut Vec<u8>, sub: &Sub) -> Result<(), NoMemory>
-    ensures { OnOk result (out.new.items ≡ out.old.items ++ block_text sub.now) }
+    ensures text { OnOk result (out.new.items ≡ out.old.items ++ block_text sub.now) }
+    ensures sound { IsSoundSub sub.now }
 {
     put_head(out, sub.kind, sub.channels)?;
     match sub.kind {
@@ -55,11 +59,11 @@ fn put_head(out: &mut Vec<u8>, kind: Kind, channels: u32) -> Result<(), NoMemory
     out.extend_from_slice(b"subdevice ")?;
     put_kind(out, kind)?;
     out.push(b' ')?;
-    put_number(out, channels)?;
+    put_u64(out, channels as u64)?;
     end_line(out)
 }
 
-// The lines of a block that is in use, behind the first.
+// The lines of a block that is in use, after the first.
 fn put_body(out: &mut Vec<u8>, sub: &Sub) -> Result<(), NoMemory>
     requires { IsFalse (is_unused sub.now.kind) }
     ensures { OnOk result (out.new.items ≡ out.old.items ++ items_text (items_of sub.now)) }
@@ -185,7 +189,7 @@ fn put_one(out: &mut Vec<u8>, key: &[u8], number: u32) -> Result<(), NoMemory>
 {
     out.extend_from_slice(key)?;
     out.push(b' ')?;
-    put_number(out, number)?;
+    put_u64(out, number as u64)?;
     end_line(out)
 }
 
@@ -195,9 +199,9 @@ fn put_span(out: &mut Vec<u8>, key: &[u8], span: Span) -> Result<(), NoMemory>
 {
     out.extend_from_slice(key)?;
     out.push(b' ')?;
-    put_number(out, span.min)?;
+    put_u64(out, span.min as u64)?;
     out.push(b' ')?;
-    put_number(out, span.max)?;
+    put_u64(out, span.max as u64)?;
     end_line(out)
 }
 
@@ -217,7 +221,7 @@ fn put_left(out: &mut Vec<u8>, bits: u8) -> Result<(), NoMemory>
     ensures { OnOk result (out.new.items ≡ out.old.items ++ line_of (codes "munge" ∷ codes "left" ∷ decimal bits ∷ [])) }
 {
     out.extend_from_slice(b"munge left ")?;
-    put_number(out, bits as u32)?;
+    put_u64(out, bits as u64)?;
     end_line(out)
 }
 
@@ -237,7 +241,7 @@ fn put_unit(out: &mut Vec<u8>, unit: u8) -> Result<(), NoMemory>
     ensures { OnOk result (out.new.items ≡ out.old.items ++ 32 ∷ (decimal unit ++ 10 ∷ [])) }
 {
     out.push(b' ')?;
-    put_number(out, unit as u32)?;
+    put_u64(out, unit as u64)?;
     end_line(out)
 }
 
@@ -260,7 +264,7 @@ fn put_last_sources(out: &mut Vec<u8>, scan_end: u32, stop: u32) -> Result<(), N
     end_line(out)
 }
 
-// Sources behind a space.
+// Sources after a space.
 fn put_spaced(out: &mut Vec<u8>, mask: u32) -> Result<(), NoMemory>
     ensures { OnOk result (out.new.items ≡ out.old.items ++ 32 ∷ source_text mask) }
 {
@@ -278,7 +282,7 @@ fn put_forbid(out: &mut Vec<u8>, forbid: Forbid) -> Result<(), NoMemory>
     end_line(out)
 }
 
-// A trigger by its number, and a source, each behind a space.
+// A trigger by its number, and a source, each after a space.
 fn put_source_at(out: &mut Vec<u8>, field: u8, src: u32) -> Result<(), NoMemory>
     ensures { OnOk result (out.new.items ≡ out.old.items ++ 32 ∷ (field_text field ++ 32 ∷ source_text src)) }
 {
@@ -313,13 +317,6 @@ fn put_kind(out: &mut Vec<u8>, kind: Kind) -> Result<(), NoMemory>
         Kind::Dio => b"dio".as_slice(),
     };
     Ok(out.extend_from_slice(name)?)
-}
-
-fn put_number(out: &mut Vec<u8>, number: u32) -> Result<(), NoMemory>
-    ensures { OnOk result (out.new.items ≡ out.old.items ++ decimal number) }
-{
-    let mut buffer = Buffer::new();
-    Ok(out.extend_from_slice(buffer.format(number).as_bytes())?)
 }
 
 fn end_line(out: &mut Vec<u8>) -> Result<(), NoMemory>

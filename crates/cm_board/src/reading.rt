@@ -4,10 +4,10 @@ ghost use Rattle.std.specs.List.{list_all, position_or_len};
 ghost use Rattle.cm_base.specs.LineView.{line_view};
 ghost use Rattle.cm_base.specs.ReadStop.{Gives};
 ghost use Rattle.cm_base.specs.Reading.{at_line, read_each, seen};
-ghost use Rattle.cm_board.specs.Block.{block_of, finished, item_behind};
-ghost use Rattle.cm_board.specs.BoardPart.{begins, block_at, block_lines, block_said, blocks_from, is_between, is_part_end, lines_behind, next_block, board_of, any_words, ends_block, fixed, fixed_words, head_behind, is_name, is_signals, name_words, next_number, version_words};
+ghost use Rattle.cm_board.specs.Block.{block_of, finished, item_after};
+ghost use Rattle.cm_base.specs.Parts as parts;
+ghost use Rattle.cm_board.specs.BoardPart.{block_at, block_lines, block_said, blocks_from, is_between, is_part_end, lines_after, next_block, board_of, any_words, ends_block, head_after, is_name, is_signals, name_words, next_number, version_words};
 ghost use Rattle.std.specs.Prelude.{List};
-ghost use Rattle.cm_base.specs.declared.faults.ReadStop.TheVariants as stops;
 ghost use Rattle.cm_board.specs.declared.items.Item.{Item};
 ghost use Rattle.cm_board.specs.DraftView.{block_view};
 ghost use Rattle.cm_board.specs.Limits.{IsLimited};
@@ -17,8 +17,9 @@ ghost use Rattle.cm_base.specs.Lines.{is_word};
 use crate::board::{BoardDesc, Kind, Sub};
 use crate::draft::Draft;
 use crate::items::{Head, Item, read_head, read_item};
-use cm_base::faults::{Fault, ReadStop, Refused};
+use cm_base::faults::{Fault, ReadStop};
 use cm_base::lines::{Line, Lines};
+use cm_base::parts::{after_key, begins, fixed, refused};
 use cm_base::words::{at_line, number_in, one};
 use std::alloc::{AllocError, Global};
 
@@ -29,20 +30,7 @@ fn ends_block(line: &Line<'_>) -> bool
     begins(b"subdevice", line) || begins(b"signals", line)
 }
 
-// Whether the line isn't bad and its first word is this one.
-fn begins(key: &[u8], line: &Line<'_>) -> bool
-    ensures { result ≡ begins key.now (line_view line.now) }
-{
-    if line.bad {
-        return false;
-    }
-    match line.words.as_slice() {
-        [] => false,
-        [word, ..] => *word == key,
-    }
-}
-
-// How many lines a block has behind its head.
+// How many lines a block has after its head.
 fn block_len(lines: &[Line<'_>]) -> usize
     ensures value { result ≡ position_or_len ends_block (map line_view lines.now) }
     ensures within { result ≤ length lines.now }
@@ -68,11 +56,11 @@ fn next_number(lines: &[Line<'_>], end: u32) -> u32
 }
 
 // The head of a block, where at most 16 stand before it.
-fn head_behind(count: usize, line: &Line<'_>) -> Result<Head, Fault>
-    ensures { result ≡ head_behind count (line_view line.now) }
+fn head_after(count: usize, line: &Line<'_>) -> Result<Head, Fault>
+    ensures { result ≡ head_after count (line_view line.now) }
 {
     let words = line.words.as_slice();
-    let head = read_head(behind_key(words))?;
+    let head = read_head(after_key(words))?;
     if count < 16 {
         Ok(head)
     } else {
@@ -80,20 +68,9 @@ fn head_behind(count: usize, line: &Line<'_>) -> Result<Head, Fault>
     }
 }
 
-// The words behind the first one.
-fn behind_key<'a, 'b>(words: &'b [&'a [u8]]) -> &'b [&'a [u8]]
-    ensures value { map (λ word. word.now) result.now ≡ drop 1 (map (λ word. word.now) words.now) }
-    ensures words { IsTrue (list_all (λ word. is_word word.now) words.now) → IsTrue (list_all (λ word. is_word word.now) result.now) }
-{
-    match words {
-        [] => &[],
-        [_, rest @ ..] => rest,
-    }
-}
-
-// A line's item, where it may stand behind those of the draft.
-fn item_behind(kind: Kind, draft: &Draft, line: &Line<'_>) -> Result<Item, Fault>
-    ensures { (items : List Item) → block_view draft.now ≡ block_of items → result ≡ item_behind kind items (line_view line.now) }
+// A line's item, where it may stand after those of the draft.
+fn item_after(kind: Kind, draft: &Draft, line: &Line<'_>) -> Result<Item, Fault>
+    ensures { (items : List Item) → block_view draft.now ≡ block_of items → result ≡ item_after kind items (line_view line.now) }
 {
     let item = read_item(kind, line)?;
     draft.check(&item)?;
@@ -106,22 +83,22 @@ fn read_items(alloc: Global, kind: Kind, lines: &[Line<'_>]) -> Result<Draft, Re
 {
     let mut draft = Draft::new(alloc);
     for line in lines {
-        let item = at_line(line.number, item_behind(kind, &draft, line))?;
+        let item = at_line(line.number, item_after(kind, &draft, line))?;
         draft.put(item)?;
     }
     Ok(draft)
 }
 
-// The lines of a block behind its head, and those behind the block.
+// The lines of a block after its head, and those after the block.
 fn cut_block<'a, 'b>(lines: &'a [Line<'b>]) -> (&'a [Line<'b>], &'a [Line<'b>])
     ensures inside { map line_view result.0.now ≡ block_lines (map line_view lines.now) }
-    ensures behind { map line_view result.1.now ≡ lines_behind (map line_view lines.now) }
+    ensures after { map line_view result.1.now ≡ lines_after (map line_view lines.now) }
     ensures shorter { length result.1.now ≤ length lines.now }
 {
     lines.split_at(block_len(lines))
 }
 
-// The subdevice that a head and the lines behind it describe, with `count` blocks before and the line `stop` behind.
+// The subdevice that a head and the lines after it describe, with `count` blocks before and the line `stop` after.
 fn read_block(
     alloc: Global,
     stop: u32,
@@ -132,7 +109,7 @@ fn read_block(
     ensures { Gives (λ sub. sub) result (block_at stop count (line_view head.now) (map line_view inside.now)) }
 {
     let line = head.number;
-    let head = at_line(line, head_behind(count, head))?;
+    let head = at_line(line, head_after(count, head))?;
     let draft = read_items(alloc, head.kind, inside)?;
     at_line(stop, finish(draft, head))
 }
@@ -154,7 +131,7 @@ fn finish(draft: Draft, head: Head) -> Result<Sub, Fault>
     }
 }
 
-// Whether no block stands at the front of these lines.
+// Whether no block stands at the start of these lines.
 fn is_part_end(lines: &[Line<'_>]) -> bool
     ensures { result ≡ is_part_end (map line_view lines.now) }
 {
@@ -162,14 +139,6 @@ fn is_part_end(lines: &[Line<'_>]) -> bool
         [] => true,
         [line, ..] => begins(b"signals", line),
     }
-}
-
-// The lines from a place on.
-fn lines_from<'a, 'b>(lines: &'a [Line<'b>], at: usize) -> &'a [Line<'b>]
-    ensures lines { result.now ≡ drop at lines.now }
-    ensures views { map line_view result.now ≡ drop at (map line_view lines.now) }
-{
-    if at <= lines.len() { &lines[at..] } else { &[] }
 }
 
 // The subdevices of the blocks up to the `signals` line.
@@ -180,9 +149,9 @@ fn read_blocks(alloc: Global, lines: &[Line<'_>], end: u32) -> Result<Vec<Sub>, 
     let mut subs = Vec::new(alloc);
     let mut at = 0;
     while !is_part_end(lines_from(lines, at)) {
-        let behind = lines_from(lines, at + 1);
-        let inside = block_len(behind);
-        let sub = match next_sub(alloc, subs.len(), &lines[at], behind, end) {
+        let after = lines_from(lines, at + 1);
+        let inside = block_len(after);
+        let sub = match next_sub(alloc, subs.len(), &lines[at], after, end) {
             Ok(sub) => sub,
             Err(stop) => return Err(stop),
         };
@@ -190,10 +159,7 @@ fn read_blocks(alloc: Global, lines: &[Line<'_>], end: u32) -> Result<Vec<Sub>, 
         at += 1 + inside;
     }
     if at == lines.len() {
-        return Err(ReadStop::Refused(Refused {
-            line: end,
-            cause: Fault::Missing,
-        }));
+        return Err(refused(end, Fault::Missing));
     }
     Ok(subs)
 }
@@ -203,32 +169,47 @@ fn next_sub(
     alloc: Global,
     count: usize,
     head: &Line<'_>,
-    behind: &[Line<'_>],
+    after: &[Line<'_>],
     end: u32,
 ) -> Result<Sub, ReadStop>
-    ensures { Gives (λ sub. sub) result (next_block end count (line_view head.now) (map line_view behind.now)) }
+    ensures { Gives (λ sub. sub) result (next_block end count (line_view head.now) (map line_view after.now)) }
 {
-    let (inside, after) = cut_block(behind);
-    read_block(alloc, next_number(after, end), count, head, inside)
+    let (inside, others) = cut_block(after);
+    read_block(alloc, next_number(others, end), count, head, inside)
 }
 
-/// Reads the board part of a text, from its first line on, and tells the place of the `signals`
+/// Reads the board part of a text, from its first line on, and reports the place of the `signals`
 /// line among the lines. It stops at the first line that fails, with the line's number and the
-/// cause, or where memory runs out. Its time is linear in the text, and it keeps no memory but the
-/// board's (Comedi: what a driver's `attach` sets up).
+/// cause, or where memory runs out. Its time is linear in the text. Of the lines it keeps those up
+/// to the `signals` line while it reads, and after that no memory but the board's (Comedi: what a
+/// driver's `attach` sets up).
 pub fn read_board(alloc: Global, lines: &Lines<'_>) -> Result<(BoardDesc, usize), ReadStop>
-    ensures value { Gives (λ r. (r.0, r.1)) result (board_of lines.now.end (map line_view lines.now.list.items)) }
-    ensures within { IfOk result (λ r. r.1 ≤ length lines.now.list.items) }
+    ensures value { Gives (λ r. (r.0, r.1)) result (board_of lines.now.end lines.now.list) }
+    ensures within { IfOk result (λ r. r.1 ≤ length lines.now.list) }
 {
-    let list = lines.list.as_slice();
-    let end = lines.end;
-    read_version(list, end)?;
-    let name = read_name(lines_from(list, 1), end)?;
-    let blocks = lines_from(list, 2);
+    let place = lines.place_of(b"signals");
+    let list = lines.through(alloc, place + 1)?;
+    read_part(alloc, &list, lines.end(), place)
+}
+
+// The board that these lines describe up to the `signals` line, and that line's place.
+fn read_part(
+    alloc: Global,
+    lines: &[Line<'_>],
+    end: u32,
+    place: usize,
+) -> Result<(BoardDesc, usize), ReadStop>
+    requires { place ≡ position_or_len is_signals (map line_view lines.now) }
+    ensures value { Gives (λ r. (r.0, r.1)) result (board_of end (map line_view lines.now)) }
+    ensures place { IfOk result (λ r. r.1 ≡ place) }
+{
+    read_version(lines, end)?;
+    let name = read_name(lines_from(lines, 1), end)?;
+    let blocks = lines_from(lines, 2);
     begins_block(blocks, end)?;
     let subs = read_blocks(alloc, blocks, end)?;
     let board = describe(alloc, name, subs)?;
-    Ok((board, signals_place(list)))
+    Ok((board, place))
 }
 
 // The board with this name and these subdevices.
@@ -242,41 +223,34 @@ fn describe(alloc: Global, name: &[u8], subs: Vec<Sub>) -> Result<BoardDesc, All
     })
 }
 
-// The words behind the one fixed word that may begin the first of these lines, and its number.
-fn fixed<'a, 'b>(
+// The words after the one fixed word that may begin the first of these lines, and its number.
+fn first<'a, 'b>(
     lines: &'a [Line<'b>],
     key: &[u8],
     end: u32,
 ) -> Result<(u32, &'a [&'b [u8]]), ReadStop>
-    ensures value { Gives (λ r. (r.0, map (λ word. word.now) r.1.now)) result (fixed_words end key.now (map line_view lines.now)) }
+    ensures value { Gives (λ r. (r.0, map (λ word. word.now) r.1.now)) result (parts.fixed_words end key.now (map line_view lines.now)) }
     ensures words { IfOk result (λ r. IsTrue (list_all (λ word. is_word word.now) r.1.now)) }
 {
     match lines {
         [] => Err(refused(end, Fault::Missing)),
-        [line, ..] => {
-            if line.bad {
-                Err(refused(line.number, Fault::BadLine))
-            } else if begins(key, line) {
-                Ok((line.number, behind_key(line.words.as_slice())))
-            } else {
-                Err(refused(line.number, Fault::Missing))
-            }
-        }
+        [line, ..] => fixed(line, key),
     }
 }
 
-// A text that is refused at a line.
-fn refused(line: u32, cause: Fault) -> ReadStop
-    ensures { result ≡ stops.Refused (record { line = line; cause = cause }) }
+// The lines from a place on.
+fn lines_from<'a, 'b>(lines: &'a [Line<'b>], at: usize) -> &'a [Line<'b>]
+    ensures lines { result.now ≡ drop at lines.now }
+    ensures views { map line_view result.now ≡ drop at (map line_view lines.now) }
 {
-    ReadStop::Refused(Refused { line, cause })
+    if at <= lines.len() { &lines[at..] } else { &[] }
 }
 
 // The version of the board part.
 fn read_version(lines: &[Line<'_>], end: u32) -> Result<u32, ReadStop>
-    ensures { Gives (λ version. version) result (fixed end (codes "comedi") version_words (map line_view lines.now)) }
+    ensures { Gives (λ version. version) result (parts.fixed end (codes "comedi") version_words (map line_view lines.now)) }
 {
-    let (number, words) = fixed(lines, b"comedi", end)?;
+    let (number, words) = first(lines, b"comedi", end)?;
     at_line(number, version(words))
 }
 
@@ -288,10 +262,10 @@ fn version(words: &[&[u8]]) -> Result<u32, Fault>
 
 // The board's name.
 fn read_name<'a, 'b>(lines: &'a [Line<'b>], end: u32) -> Result<&'b [u8], ReadStop>
-    ensures value { Gives (λ name. name.now) result (fixed end (codes "board") name_words (map line_view lines.now)) }
+    ensures value { Gives (λ name. name.now) result (parts.fixed end (codes "board") name_words (map line_view lines.now)) }
     ensures word { IfOk result (λ name. IsTrue (is_name name.now)) }
 {
-    let (number, words) = fixed(lines, b"board", end)?;
+    let (number, words) = first(lines, b"board", end)?;
     at_line(number, name(words))
 }
 
@@ -310,23 +284,8 @@ fn name<'b>(words: &[&'b [u8]]) -> Result<&'b [u8], Fault>
 
 // The first block begins at the third line.
 fn begins_block(lines: &[Line<'_>], end: u32) -> Result<(), ReadStop>
-    ensures { Gives (λ u. true) result (fixed end (codes "subdevice") any_words (map line_view lines.now)) }
+    ensures { Gives (λ u. true) result (parts.fixed end (codes "subdevice") any_words (map line_view lines.now)) }
 {
-    fixed(lines, b"subdevice", end)?;
+    first(lines, b"subdevice", end)?;
     Ok(())
-}
-
-// The place of the `signals` line.
-fn signals_place(lines: &[Line<'_>]) -> usize
-    ensures value { result ≡ position_or_len is_signals (map line_view lines.now) }
-    ensures within { result ≤ length lines.now }
-{
-    let mut count = 0;
-    for line in lines {
-        if begins(b"signals", line) {
-            return count;
-        }
-        count += 1;
-    }
-    count
 }

@@ -5,7 +5,7 @@ ghost use Rattle.cm_board.specs.Board.{is_digital, swaps};
 
 use crate::board::{Forbid, Kind, Munge, Range, Sub};
 use crate::items::{Sources, Span};
-use crate::source::EXT;
+use cm_base::source::EXT;
 
 /// A subdevice whose numbers keep their limits one by one, and maybe not the rules over them.
 #[derive(Drop)]
@@ -29,12 +29,12 @@ pub struct Unchecked {
 
 impl Unchecked {
     ghost use Rattle.cm_board.specs.Block.{is_bits_ok, is_board_ok, is_lines_ok, is_list_ok, is_ticks_ok};
-    ghost use Rattle.cm_board.specs.Board.{IsSound};
+    ghost use Rattle.cm_board.specs.Board.{IsSoundSub};
     ghost use Rattle.cm_board.specs.UncheckedView.{unchecked_text};
     ghost use Rattle.std.specs.Prelude.{◌<◌};
 
     /// The rules over the lines of a block.
-    pub fn is_board_ok(&self) -> bool
+    pub(crate) fn is_board_ok(&self) -> bool
         requires { 0 < self.now.tick }
         ensures { result ≡ is_board_ok (unchecked_text self.now) }
     {
@@ -42,8 +42,8 @@ impl Unchecked {
     }
 
     /// The subdevice, where all rules hold.
-    pub fn into_sub(self) -> Sub
-        requires { IsSound (unchecked_text self) }
+    pub(crate) fn into_sub(self) -> Sub
+        requires { IsSoundSub (unchecked_text self) }
         ensures { result ≡ unchecked_text self }
     {
         let masks = self.sources;

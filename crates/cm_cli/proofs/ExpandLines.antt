@@ -1,23 +1,20 @@
 -- The lines of an expansion's session.
-use Rattle.std.proofs.Common.{◌≡◌, ℕ, ◌+◌, ◌-◌, min, ◌<◌, ◌≤◌, Bool, true, false, List, [], ◌∷◌, ◌++◌, length, get_or, Result, Ok, Err, refl, sym, ap, ◌∙◌, subst, arith}
-use Rattle.std.specs.Prelude.{IfOk, ◌&&◌, nat_le, if◌then◌else◌}
-use Rattle.std.proofs.lemmas.Bool.{and_from, and_parts, and_right, eq-eqb, eqb-true, false_from_ne_true, le-leb, leb-true, lt-ltb, ltb-true, ne_eqb}
+use Rattle.std.proofs.Common.{◌≡◌, ℕ, ◌+◌, ◌<◌, ◌≤◌, Bool, true, false, List, [], ◌∷◌, ◌++◌, length, get_or, Result, Ok, Err, refl, sym, ap, ◌∙◌, subst, arith}
+use Rattle.std.specs.Prelude.{IfOk, if◌then◌else◌}
+use Rattle.std.proofs.lemmas.Bool.{and_from, and_parts, and_right, eq-eqb, eqb-true, lt-ltb, ltb-true, ne_eqb}
 use Rattle.std.proofs.lemmas.List.{get_or_default}
 use Rattle.cm_base.specs.Lines.{LineText}
 use Rattle.cm_base.specs.Reading.{◌>>=◌, at_line, read_each}
-use Rattle.cm_base.specs.ReadStop.{Gives, Stops}
-use Rattle.cm_base.specs.Words.{limited}
+use Rattle.cm_base.specs.ReadStop.{Gives}
 use Rattle.cm_base.specs.declared.faults.Fault.{Fault}
-use Rattle.cm_base.specs.declared.faults.Fault.TheVariants.{Bad, Limit}
+use Rattle.cm_base.specs.declared.faults.Fault.TheVariants.{Bad}
 use Rattle.cm_base.specs.declared.faults.ReadStop.{ReadStop}
-use Rattle.cm_base.specs.declared.faults.ReadStop.TheVariants as stops
 use Rattle.cm_base.proofs.Each.{each-more}
 use Rattle.cm_base.proofs.Values.{at_line_ok}
 use Rattle.cm_board.specs.Board.{BoardText, SubText}
 use Rattle.cm_cmd.specs.Command.{CmdText}
 use Rattle.cm_replay.specs.Session.{Setting, no_sub, sub_at}
 use Rattle.cm_test.specs.Questions.{tested}
-use Rattle.cm_test.specs.declared.test.Accepted.{Accepted}
 use Rattle.cm_cli.specs.ExpandSession.{CanExpand, accepted_line, expand_line, is_accepted, length_of, length_of_all}
 use Rattle.cm_cli.specs.declared.expanding.ExpandLine.{ExpandLine}
 
@@ -26,12 +23,12 @@ its_sub board cmd sub i same within there = there ∙ get_or_default board.subs 
 
 -- a line with these words
 abbrev line_with : ℕ → CmdText → ExpandLine
-line_with t0 cmd = record { t0 = t0; cmd = record { cmd = cmd } }
+line_with t0 cmd = record { t0 = t0; cmd = cmd }
 
 -- a command that its subdevice accepts is accepted
-pub accepted-there : (board : BoardText) (t0 : ℕ) (cmd : CmdText) (sub : SubText) (i : ℕ) (accepted : Accepted) → i ≡ cmd.sub → i < length board.subs →
-    sub ≡ get_or board.subs i sub → (tested sub cmd).0 ≡ 0 → accepted.cmd ≡ cmd →
-    Ok (line_with t0 accepted.cmd) ≡ accepted_line board (t0, cmd)
+pub accepted-there : (board : BoardText) (t0 : ℕ) (cmd : CmdText) (sub : SubText) (i : ℕ) (accepted : CmdText) → i ≡ cmd.sub → i < length board.subs →
+    sub ≡ get_or board.subs i sub → (tested sub cmd).0 ≡ 0 → accepted ≡ cmd →
+    Ok (line_with t0 accepted) ≡ accepted_line board (t0, cmd)
 accepted-there board t0 cmd sub i accepted same within there zero kept =
     let here : cmd.sub < length board.subs = subst (λ n. n < length board.subs) same within in
     let passes : (tested (sub_at board cmd.sub) cmd).0 ≡ 0 = sym (ap (λ (s : SubText). (tested s cmd).0) (its_sub board cmd sub i same within there)) ∙ zero in
@@ -65,58 +62,20 @@ pub line-can : (s : Setting) (number t0 : ℕ) (cmd : CmdText) (line : Result Ex
 line-can s number t0 cmd line (Ok next) in_time same gives = accepted-can s t0 cmd next in_time (sym same ∙ at_line_ok number line next gives)
 line-can s number t0 cmd line (Err stop) in_time same gives = tt
 
--- what is behind a part of a line that says something
+-- what is after a part of a line that says something
 pub at_line-through : {A B : Type 0} (number : ℕ) (part : Result A Fault) (f : A → Result B Fault) (x : A) → at_line number part ≡ Ok x → at_line number (part >>= f) ≡ at_line number (f x)
 at_line-through {B} number part f x e = ap (λ r. at_line number (r >>= f)) (at_line_ok number part x e)
-
--- the test of has_room, for a line with `n` conversions
-abbrev fits : ℕ → ℕ → Bool
-fits total n = nat_le n 1000000 && nat_le (total + n) 4000000
-
--- a count is told where it isn't above the limit
-pub count-few : (total n most count : ℕ) → total ≤ 4000000 → most ≡ min 1000000 (4000000 - total) → count ≡ n → count ≤ most → Ok count ≡ limited (fits total n) n
-count-few total n most count so_far limit same few =
-    let one : n ≤ 1000000 = omega (arith, same, few, limit) in
-    let all : total + n ≤ 4000000 = omega (arith, same, few, limit, so_far) in
-    let test : fits total n ≡ true = and_from _ _ (le-leb n 1000000 one) (le-leb (total + n) 4000000 all) in
-    let told : Bool → Result ℕ Fault = λ b. limited b n in
-    ap (λ (m : ℕ). let r : Result ℕ Fault = Ok m in r) same ∙ sym (ap told test)
-
-pub count-many : (total n most : ℕ) → total ≤ 4000000 → most ≡ min 1000000 (4000000 - total) → most < n → Err Limit ≡ limited (fits total n) n
-count-many total n most so_far limit many =
-    let told : Bool → Result ℕ Fault = λ b. limited b n in
-    let no : (fits total n ≡ true) → ⊥ = λ held. (
-    let parts = and_parts (nat_le n 1000000) (nat_le (total + n) 4000000) held in
-    let one : n ≤ 1000000 = leb-true n 1000000 parts.0 in
-    let all : total + n ≤ 4000000 = leb-true (total + n) 4000000 parts.1 in
-    omega (arith, one, all, many, limit, so_far)
-    ) in
-    let test : fits total n ≡ false = false_from_ne_true _ no in
-    sym (ap told test)
-
--- where the number fits the line does
-pub room-found : {X : Type 0} (fits : Bool) (number n count : ℕ) (x : X) → at_line number (limited fits n) ≡ Ok count → (fits ≡ true) × (count ≡ n) × (at_line number (limited fits x) ≡ Ok x)
-room-found true number n count x e = (refl, cc, refl)
-room-found false number n count x e = absurd (cc)
-
--- and where it doesn't neither does the line
-pub room-stops : {X : Type 0} (fits : Bool) (number n : ℕ) (x : X) (stop : ReadStop) → Stops stop (at_line number (limited fits n)) → Stops stop (at_line number (limited fits x))
-room-stops true number n x stops.NoMemory e = tt
-room-stops true number n x (stops.Refused r) e = absurd (cc)
-room-stops false number n x stops.NoMemory e = tt
-room-stops false number n x (stops.Refused r) e = cc
 
 -- what a line more adds to the conversions of all
 pub length-more : (s : Setting) (lines : List ExpandLine) (line : ExpandLine) → length_of_all s (lines ++ line ∷ []) ≡ length_of_all s lines + length_of s line
 length-more s [] line = omega arith
 length-more s (first ∷ lines) line = omega (arith, length-more s lines line)
 
--- what a line says behind others
+-- what a line says after others
 abbrev pub read_next : Setting → List ExpandLine → LineText → Result ExpandLine Fault
 read_next s before line = expand_line s (length_of_all s before) line
 
--- a line more is read behind so many conversions
-pub lines-more : (s : Setting) (total : ℕ) (before : List ExpandLine) (line : LineText) (rest : List LineText) (next : ExpandLine) → total ≡ length_of_all s before →
-    at_line line.number (expand_line s total line) ≡ Ok next → read_each (read_next s) before (line ∷ rest) ≡ read_each (read_next s) (before ++ next ∷ []) rest
-lines-more s total before line rest next so_many said =
-    each-more (read_next s) before line rest next (subst (λ (n : ℕ). at_line line.number (expand_line s n line) ≡ Ok next) so_many said)
+-- a line more is read after those before it
+pub lines-more : (s : Setting) (before : List ExpandLine) (line : LineText) (rest : List LineText) (next : ExpandLine) →
+    at_line line.number (expand_line s (length_of_all s before) line) ≡ Ok next → read_each (read_next s) before (line ∷ rest) ≡ read_each (read_next s) (before ++ next ∷ []) rest
+lines-more s before line rest next said = each-more (read_next s) before line rest next said

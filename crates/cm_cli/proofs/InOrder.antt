@@ -8,7 +8,7 @@ use Rattle.cm_base.specs.Reading.{at_line, read_each}
 use Rattle.cm_base.specs.declared.faults.Fault.{Fault}
 use Rattle.cm_base.specs.declared.faults.Refused.{Refused}
 use Rattle.cm_board.proofs.Limited.{Any, any_ok, limited_ok, then_ok}
-use Rattle.cm_board.specs.Board.{SubText, IsSound}
+use Rattle.cm_board.specs.Board.{SubText, IsSoundSub}
 use Rattle.cm_board.specs.declared.board.Kind.{Kind}
 use Rattle.cm_board.specs.declared.board.Kind.TheVariants as kinds
 use Rattle.cm_expand.specs.Rule.{is_output}
@@ -16,9 +16,9 @@ use Rattle.cm_replay.specs.Job.{CanRun, Fits, InOrder}
 use Rattle.cm_replay.specs.Session.{Setting, sub_at}
 use Rattle.cm_replay.specs.declared.session.SessionLine.{SessionLine}
 use Rattle.cm_test.specs.Questions.{tested}
-use Rattle.cm_cli.specs.FirstSession.{argument, called, can_call, cmd_line, cmd_numbers, first_cmd, form_number, has_limits, is_analog_input, is_in_time, is_open, last_time, next_of, of_form, open_line, read_line, read_numbers, reads_behind, session_of, word_at}
+use Rattle.cm_cli.specs.FirstSession.{argument, called, can_call, cmd_line, cmd_numbers, first_cmd, form_number, has_limits, is_analog_input, is_in_time, is_open, last_time, next_of, of_form, open_line, read_line, read_numbers, reads_after, session_of, word_at}
 
--- a line that may stand behind one of this time
+-- a line that may stand after one of this time
 Follows : Setting → ℕ → SessionLine → Type 0
 Follows s time line = (time ≤ line.time) × (line.time ≤ s.signals.horizon) × Fits s.board line.op
 
@@ -42,7 +42,7 @@ input_kind kinds.Dio h = cc
 input_kind kinds.Unused h = cc
 
 -- a command that can be called can run
-can_run : (s : Setting) (period count : ℕ) → 0 < length s.board.subs → IsSound (sub_at s.board 0) → can_call (sub_at s.board 0) period count ≡ true → CanRun s.board (first_cmd period count)
+can_run : (s : Setting) (period count : ℕ) → 0 < length s.board.subs → IsSoundSub (sub_at s.board 0) → can_call (sub_at s.board 0) period count ≡ true → CanRun s.board (first_cmd period count)
 can_run s period count within sound h =
     let sub = sub_at s.board 0 in
     let parts = both (has_limits sub period count && is_analog_input sub.kind) ((tested sub (first_cmd period count)).0 == 0) h in
@@ -55,7 +55,7 @@ open_ok s line = then_ok Any (Follows s 0) (of_form is_open line) _ (any_ok _) (
     then_ok Any (Follows s 0) (form_number (word_at line.words 0)) _ (any_ok _) (λ t any.
     limited_ok (Follows s 0) (nat_le t s.signals.horizon) _ (λ h. (omega arith, leb-true t s.signals.horizon h, tt))))
 
-cmd_ok : (s : Setting) (before : ℕ) → 0 < length s.board.subs → IsSound (sub_at s.board 0) → (line : LineText) → IfOk (cmd_line (sub_at s.board 0) s.signals.horizon before line) (Follows s before)
+cmd_ok : (s : Setting) (before : ℕ) → 0 < length s.board.subs → IsSoundSub (sub_at s.board 0) → (line : LineText) → IfOk (cmd_line (sub_at s.board 0) s.signals.horizon before line) (Follows s before)
 unfolding Follows
 cmd_ok s before within sound line =
     let sub = sub_at s.board 0 in
@@ -76,22 +76,22 @@ read_ok s before within line =
     let times = in_time horizon before n.0 parts.0 in
     (times.0, times.1, within)))
 
--- a line behind others
-behind : (s : Setting) (time : ℕ) (first : SessionLine) (rest : List SessionLine) (line : SessionLine) → InOrder s time (first ∷ rest) → Follows s (last_time (first ∷ rest)) line → InOrder s time ((first ∷ rest) ++ line ∷ [])
+-- a line after others
+after : (s : Setting) (time : ℕ) (first : SessionLine) (rest : List SessionLine) (line : SessionLine) → InOrder s time (first ∷ rest) → Follows s (last_time (first ∷ rest)) line → InOrder s time ((first ∷ rest) ++ line ∷ [])
 unfolding Follows
-behind s time first [] line o h = (o.0, o.1, o.2, (h.0, h.1, h.2, tt))
-behind s time first (next ∷ more) line o h = (o.0, o.1, o.2, behind s first.time next more line o.3 h)
+after s time first [] line o h = (o.0, o.1, o.2, (h.0, h.1, h.2, tt))
+after s time first (next ∷ more) line o h = (o.0, o.1, o.2, after s first.time next more line o.3 h)
 
-reads_ok : (s : Setting) (first : SessionLine) (rest : List SessionLine) (lines : List LineText) → 0 < length s.board.subs → InOrder s 0 (first ∷ rest) → IfOk (reads_behind s.signals.horizon (first ∷ rest) lines) (InOrder s 0)
+reads_ok : (s : Setting) (first : SessionLine) (rest : List SessionLine) (lines : List LineText) → 0 < length s.board.subs → InOrder s 0 (first ∷ rest) → IfOk (reads_after s.signals.horizon (first ∷ rest) lines) (InOrder s 0)
 reads_ok s first rest [] within o = o
 reads_ok s first rest (line ∷ lines) within o =
     let time = last_time (first ∷ rest) in
     then_ok (Follows s time) (InOrder s 0) (at_line line.number (read_line s.signals.horizon time line)) _
     (at_line_ok (Follows s time) line.number (read_line s.signals.horizon time line) (read_ok s time within line))
-    (λ next h. reads_ok s first (rest ++ next ∷ []) lines within (behind s 0 first rest next o h))
+    (λ next h. reads_ok s first (rest ++ next ∷ []) lines within (after s 0 first rest next o h))
 
 -- what is read of a session
-pub session_in_order : (s : Setting) (end : ℕ) (lines : List LineText) → 0 < length s.board.subs → IsSound (sub_at s.board 0) → IfOk (session_of (sub_at s.board 0) s.signals.horizon end lines) (InOrder s 0)
+pub session_in_order : (s : Setting) (end : ℕ) (lines : List LineText) → 0 < length s.board.subs → IsSoundSub (sub_at s.board 0) → IfOk (session_of (sub_at s.board 0) s.signals.horizon end lines) (InOrder s 0)
 unfolding Follows
 session_in_order s end lines within sound =
     then_ok (Follows s 0) (InOrder s 0) (next_of end (open_line s.signals.horizon) lines) _ (next_ok (Follows s 0) end (open_line s.signals.horizon) (open_ok s) lines) (λ first h.

@@ -1,7 +1,9 @@
-pub mod Behind
+pub mod After
 pub mod ExpandLines
 pub mod Expansions
 pub mod InOrder
 pub mod Served
 pub mod Tests
+pub mod Rooms
 pub mod Texts
+pub mod Tails

@@ -22,9 +22,9 @@ answer-there board cmd sub i same within there =
 -- one command more is answered
 pub test-answered : (board : BoardText) (a b : Option (List ℕ)) (cmds : List CmdText) (i : ℕ) (cmd : CmdText) (text more whole : List ℕ) → i < length cmds → cmd ≡ get_or cmds i cmd →
     more ≡ text ++ test_answer board cmd → IsUnderWay a b text (tests_text board (drop i cmds)) whole → IsUnderWay a b more (tests_text board (drop (i + 1) cmds)) whole
-test-answered board a b cmds i cmd text more whole within is told way =
-    under_way-more a b text more (test_answer board cmd) (tests_text board (drop (i + 1) cmds)) whole told
+test-answered board a b cmds i cmd text more whole within is reported way =
+    under_way-more a b text more (test_answer board cmd) (tests_text board (drop (i + 1) cmds)) whole reported
     (subst (λ (cs : List CmdText). IsUnderWay a b text (tests_text board cs) whole) (next-item cmds i cmd within is) way)
 
 pub all-tested : (board : BoardText) (cmds : List CmdText) (i : ℕ) → length cmds ≤ i → tests_text board (drop i cmds) ≡ []
-all-tested board cmds i behind = ap (λ (cs : List CmdText). tests_text board cs) (drop_all i cmds behind)
+all-tested board cmds i after = ap (λ (cs : List CmdText). tests_text board cs) (drop_all i cmds after)

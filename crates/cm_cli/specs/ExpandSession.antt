@@ -37,14 +37,15 @@ is_accepted board cmd = nat_lt cmd.sub (length board.subs) && (tested (sub_at bo
 
 -- a line whose command is accepted
 abbrev pub accepted_line : BoardText → ℕ × CmdText → Result ExpandLine Fault
-accepted_line board w = if is_accepted board w.1 then Ok (record { t0 = w.0; cmd = record { cmd = w.1 } }) else Err Bad
+accepted_line board w = if is_accepted board w.1 then Ok (record { t0 = w.0; cmd = w.1 }) else Err Bad
 
 -- the line that a text says
 abbrev pub line_of : Setting → LineText → Result ExpandLine Fault
 line_of s line = expand_words s.signals.horizon line >>= λ w. accepted_line s.board w
 
+-- the plan that an `expand` line asks for
 abbrev pub plan_of : Setting → ExpandLine → PlanText
-plan_of s line = plan_at s line.t0 line.cmd.cmd
+plan_of s line = plan_at s line.t0 line.cmd
 
 -- how many conversions a line has
 abbrev pub length_of : Setting → ExpandLine → ℕ
@@ -61,11 +62,11 @@ has_room s before line = nat_le (length_of s line) 1000000 && nat_le (before + l
 
 -- what the lines of a job keep: their commands are accepted, and their times are up to the horizon
 pub record CanExpand (s : Setting) (line : ExpandLine) : Type 0 where
-  pub within : line.cmd.cmd.sub < length s.board.subs
-  pub passes : (tested (sub_at s.board line.cmd.cmd.sub) line.cmd.cmd).0 ≡ 0
+  pub within : line.cmd.sub < length s.board.subs
+  pub passes : (tested (sub_at s.board line.cmd.sub) line.cmd).0 ≡ 0
   pub time : line.t0 ≤ s.signals.horizon
 
--- the line that a text says, where there is room for it behind lines with so many conversions
+-- the line that a text says, where there is room for it after lines with so many conversions
 abbrev pub expand_line : Setting → ℕ → LineText → Result ExpandLine Fault
 expand_line s before line = line_of s line >>= λ next. limited (has_room s before next) next
 
@@ -77,6 +78,11 @@ expands_of s lines = read_each (λ before line. expand_line s (length_of_all s b
 abbrev pub conversion_line : Conv → List ℕ
 conversion_line c = decimal c.time ++ codes " " ++ decimal c.list_index ++ codes " " ++ decimal c.raw ++ codes "\n"
 
+-- what stands after the time in the line of a conversion with this list index and raw word
+abbrev pub tail_text : ℕ → ℕ → List ℕ
+tail_text index raw = codes " " ++ decimal index ++ codes " " ++ decimal raw ++ codes "\n"
+
+-- the last line of an expansion: `done` where the command's stop is reached, and otherwise `dry`
 abbrev pub end_line : Bool → List ℕ
 end_line complete = if complete then codes "done\n" else codes "dry\n"
 
@@ -84,5 +90,6 @@ end_line complete = if complete then codes "done\n" else codes "dry\n"
 abbrev pub expansion_text : PlanText → List ℕ
 expansion_text p = flat_map conversion_line (items_of p) ++ end_line (is_complete p)
 
+-- the answer to all lines of an `expand` session
 abbrev pub expands_text : Setting → List ExpandLine → List ℕ
 expands_text s lines = flat_map (λ line. expansion_text (plan_of s line)) lines

@@ -9,15 +9,15 @@ use Rattle.cm_base.specs.declared.faults.Fault.{Fault}
 use Rattle.cm_base.specs.declared.faults.Fault.TheVariants.{BadLine, Missing}
 use Rattle.cm_base.specs.declared.faults.Refused.{Refused}
 use Rattle.cm_board.specs.Board.{SubText}
-use Rattle.cm_board.specs.Source as source
+use Rattle.cm_base.specs.Source as source
 use Rattle.cm_board.specs.declared.board.Kind.{Kind}
 use Rattle.cm_board.specs.declared.board.Kind.TheVariants as kinds
 use Rattle.cm_cmd.specs.Command.{CmdText}
 use Rattle.cm_replay.specs.declared.session.Op.TheVariants as ops
 use Rattle.cm_replay.specs.declared.session.SessionLine.{SessionLine}
 use Rattle.cm_test.specs.Questions.{tested}
-use Rattle.cm_test.specs.declared.test.Accepted.{Accepted}
 
+-- the word at a place of a line, and an empty one beyond its end
 abbrev pub word_at : List (List ℕ) → ℕ → List ℕ
 word_at words place = slice_index_or words place []
 
@@ -37,6 +37,7 @@ is_call words = word_is words 1 (codes "cmd") && word_is words 2 (codes "1") && 
 abbrev pub is_timed : List (List ℕ) → Bool
 is_timed words = word_is words 5 (codes "now:0") && word_is words 7 (codes "now:0") && word_is words 8 (codes "count:1") && word_is words 10 (codes "0/0/ground")
 
+-- the form of a `cmd` line
 abbrev pub is_cmd : List (List ℕ) → Bool
 is_cmd words = length words == 11 && is_call words && is_timed words
 
@@ -48,6 +49,7 @@ is_read words = length words == 5 && word_is words 1 (codes "read") && word_is w
 abbrev pub in_form : Bool → Bool → Result (Unit {0}) Fault
 in_form bad is_form = if not bad && is_form then Ok tt else Err BadLine
 
+-- a line of this form, or a bad one
 abbrev pub of_form : (List (List ℕ) → Bool) → LineText → Result (Unit {0}) Fault
 of_form form line = in_form line.bad (form line.words)
 
@@ -55,17 +57,19 @@ of_form form line = in_form line.bad (form line.words)
 abbrev pub form_number : List ℕ → Result ℕ Fault
 form_number word = or_fault BadLine (number_of word)
 
+-- whether a word starts with these bytes
 abbrev pub begins_with : List ℕ → List ℕ → Bool
-begins_with front word = bytes_eq (take (length front) word) front
+begins_with prefix word = bytes_eq (take (length prefix) word) prefix
 
--- the number behind a word's front
+-- the number after a word's prefix
 abbrev pub argument : List ℕ → List ℕ → Result ℕ Fault
-argument front word = if begins_with front word then form_number (drop (length front) word) else Err BadLine
+argument prefix word = if begins_with prefix word then form_number (drop (length prefix) word) else Err BadLine
 
 -- no time is below the one before it or above the horizon
 abbrev pub is_in_time : ℕ → ℕ → ℕ → Bool
 is_in_time horizon before time = nat_le before time && nat_le time horizon
 
+-- an `open` line, not after the horizon
 abbrev pub open_line : ℕ → LineText → Result SessionLine Fault
 open_line horizon line =
     of_form is_open line >>= λ u. form_number (word_at line.words 0) >>= λ t.
@@ -84,6 +88,7 @@ first_cmd period count = record {
   list = 0 ∷ [];
 }
 
+-- whether a subdevice is an analog input
 abbrev pub is_analog_input : Kind → Bool
 is_analog_input kinds.Ai = true
 is_analog_input kind = false
@@ -97,8 +102,8 @@ abbrev pub can_call : SubText → ℕ → ℕ → Bool
 can_call sub period count = has_limits sub period count && is_analog_input sub.kind && (tested sub (first_cmd period count)).0 == 0
 
 -- the accepted command, if it can be called
-abbrev pub call_of : SubText → ℕ → ℕ → Option Accepted
-call_of sub period count = if can_call sub period count then Some (record { cmd = first_cmd period count }) else None
+abbrev pub call_of : SubText → ℕ → ℕ → Option CmdText
+call_of sub period count = if can_call sub period count then Some (first_cmd period count) else None
 
 -- the time, the period and the count of a command line
 abbrev pub cmd_numbers : LineText → Result (ℕ × ℕ × ℕ) Fault
@@ -108,8 +113,9 @@ cmd_numbers line =
 
 -- what a command line calls
 abbrev pub called : ℕ → ℕ → ℕ → SessionLine
-called time period count = record { time = time; file = 1; op = ops.Cmd (record { cmd = first_cmd period count }) }
+called time period count = record { time = time; file = 1; op = ops.Cmd (first_cmd period count) }
 
+-- a `cmd` line in the order of times, whose command the subdevice takes
 abbrev pub cmd_line : SubText → ℕ → ℕ → LineText → Result SessionLine Fault
 cmd_line sub horizon before line = cmd_numbers line >>= λ n. limited (is_in_time horizon before n.0 && can_call sub n.1 n.2) (called n.0 n.1 n.2)
 
@@ -117,6 +123,7 @@ cmd_line sub horizon before line = cmd_numbers line >>= λ n. limited (is_in_tim
 abbrev pub read_numbers : LineText → Result (ℕ × ℕ) Fault
 read_numbers line = of_form is_read line >>= λ u. form_number (word_at line.words 0) >>= λ t. form_number (word_at line.words 4) >>= λ n. Ok (t, n)
 
+-- a `read` line in the order of times, of at most 65,536 samples
 abbrev pub read_line : ℕ → ℕ → LineText → Result SessionLine Fault
 read_line horizon before line = read_numbers line >>= λ n. limited (is_in_time horizon before n.0 && nat_le n.1 65536) (record { time = n.0; file = 1; op = ops.Read 0 n.1 })
 
@@ -126,9 +133,9 @@ last_time [] = 0
 last_time (line ∷ []) = line.time
 last_time (line ∷ next ∷ more) = last_time (next ∷ more)
 
--- lines that read behind others
-abbrev pub reads_behind : ℕ → List SessionLine → List LineText → Result (List SessionLine) Refused
-reads_behind horizon before lines = read_each (λ before line. read_line horizon (last_time before) line) before lines
+-- lines that read after others
+abbrev pub reads_after : ℕ → List SessionLine → List LineText → Result (List SessionLine) Refused
+reads_after horizon before lines = read_each (λ before line. read_line horizon (last_time before) line) before lines
 
 -- the next line of a form, which may not be missing
 abbrev pub next_of : {X : Type 0} → ℕ → (LineText → Result X Fault) → List LineText → Result X Refused
@@ -139,4 +146,4 @@ next_of end form (line ∷ lines) = at_line line.number (form line)
 abbrev pub session_of : SubText → ℕ → ℕ → List LineText → Result (List SessionLine) Refused
 session_of sub horizon end lines =
     next_of end (open_line horizon) lines >>= λ first. next_of end (cmd_line sub horizon first.time) (drop 1 lines) >>= λ second.
-    reads_behind horizon (first ∷ second ∷ []) (drop 2 lines)
+    reads_after horizon (first ∷ second ∷ []) (drop 2 lines)

@@ -33,5 +33,6 @@ test_on sub cmd = if takes_commands sub then step_text (tested sub cmd) else cod
 abbrev pub test_answer : BoardText → CmdText → List ℕ
 test_answer board cmd = if nat_lt cmd.sub (length board.subs) then test_on (sub_at board cmd.sub) cmd else codes "err 19\n"
 
+-- the answer to all commands of a `test` session
 abbrev pub tests_text : BoardText → List CmdText → List ℕ
 tests_text board cmds = flat_map (test_answer board) cmds

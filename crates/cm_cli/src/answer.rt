@@ -1,18 +1,18 @@
 // The top call.
-ghost use Rattle.std.specs.Prelude.{◌≡◌, ◌≢◌, ◌⊎◌, ◌≤◌, ◌++◌, None, IsSome, IfSome, IfOk, length};
+ghost use Rattle.std.specs.Prelude.{◌≡◌, ◌≢◌, ◌⊎◌, ◌≤◌, ◌++◌, None, IsSome, IfSome, IfOk, codes, length};
 ghost use Rattle.std.specs.Fmt.{decimal};
-ghost use Rattle.std.specs.Io.KnownBytes.{Appends, IsAtEnd};
+ghost use Rattle.std.specs.Io.KnownBytes.{Appends, Keeps, IsAtEnd};
 ghost use Rattle.cm_base.specs.Causes.{Rose};
-ghost use Rattle.cm_base.specs.Transfer.{AppendsFront};
+ghost use Rattle.cm_base.specs.Transfer.{AppendsPrefix};
 ghost use Rattle.cm_cli.specs.Answer.{Declined, as_outcome, fault_name, outcome_of, outcome_of_bytes, refused_text};
-ghost use Rattle.cm_cli.specs.Commands.{command_of};
+ghost use Rattle.cm_cli.specs.Tasks.{task_of};
 ghost use Rattle.cm_cli.specs.Said.{said};
 ghost use Rattle.cm_cli.specs.Top.{Concludes};
 
-use crate::command::{Command, command_of};
 use crate::serving::serve;
 use crate::status::Status;
 use crate::stop::Stop;
+use crate::task::{Task, task_of};
 use cm_base::faults::{Fault, Refused};
 use cm_base::numbers::put_u64;
 use cm_base::outside::{Sink, Source};
@@ -38,37 +38,37 @@ pub fn answer<S: Source, K: Sink>(
         Concludes result (outcome_of words.now bytes) (K.text sink.old) (K.text sink.new)) }
     ensures at_end { result ≡ Status.Done → IsAtEnd (S.left source.new) }
 
-    // The words that ask for nothing, also over a source that tells nothing.
-    ensures usage { result ≡ Status.Usage → command_of words.now ≡ None }
-    ensures misused { command_of words.now ≡ None → (result ≡ Status.Usage) ⊎ (result ≡ Status.WriteFault) }
+    // The words that ask for nothing, also over a source that reports nothing.
+    ensures usage { result ≡ Status.Usage → task_of words.now ≡ None }
+    ensures misused { task_of words.now ≡ None → (result ≡ Status.Usage) ⊎ (result ≡ Status.WriteFault) }
+    ensures unread { task_of words.now ≡ None → S.left source.new ≡ S.left source.old }
+    ensures untouched { task_of words.now ≡ None → S.faults source.new ≡ S.faults source.old }
+    ensures reported { result ≡ Status.Usage → Appends (K.text sink.old) (K.text sink.new) (codes "usage\n") }
+    ensures silent { result ≡ Status.ReadFault → Keeps (K.text sink.old) (K.text sink.new) }
 
     // What cuts a run short.
     ensures read_fault { result ≡ Status.ReadFault → Rose (S.faults source.old) (S.faults source.new) }
     ensures write_fault { result ≡ Status.WriteFault → Rose (K.faults sink.old) (K.faults sink.new) }
-    ensures no_memory { result ≡ Status.NoMemory → IsSome (command_of words.now) }
+    ensures no_memory { result ≡ Status.NoMemory → IsSome (task_of words.now) }
 {
-    match command_of(words) {
+    match task_of(words) {
         None => conclude(sink, b"usage\n", Status::Usage),
-        Some(command) => perform(alloc, command, source, sink),
+        Some(task) => perform(alloc, task, source, sink),
     }
 }
 
-// Does a command with the input.
-fn perform<S: Source, K: Sink>(
-    alloc: Global,
-    command: Command,
-    source: &mut S,
-    sink: &mut K,
-) -> Status
+// Does a task with the input.
+fn perform<S: Source, K: Sink>(alloc: Global, task: Task, source: &mut S, sink: &mut K) -> Status
     ensures outcome { IfSome (S.left source.old) (λ bytes.
-        Concludes result (outcome_of_bytes command bytes) (K.text sink.old) (K.text sink.new)) }
+        Concludes result (outcome_of_bytes task bytes) (K.text sink.old) (K.text sink.new)) }
     ensures at_end { result ≡ Status.Done → IsAtEnd (S.left source.new) }
     ensures usage { result ≢ Status.Usage }
     ensures read_fault { result ≡ Status.ReadFault → Rose (S.faults source.old) (S.faults source.new) }
+    ensures silent { result ≡ Status.ReadFault → Keeps (K.text sink.old) (K.text sink.new) }
     ensures write_fault { result ≡ Status.WriteFault → Rose (K.faults sink.old) (K.faults sink.new) }
 {
     match read_all(alloc, source, BYTE_LIMIT) {
-        Ok(bytes) => respond(alloc, command, &bytes, sink),
+        Ok(bytes) => respond(alloc, task, &bytes, sink),
         Err(ReadError::NoMemory) => Status::NoMemory,
         Err(ReadError::ReadFault) => Status::ReadFault,
         Err(ReadError::TooLong) => decline(
@@ -82,15 +82,15 @@ fn perform<S: Source, K: Sink>(
     }
 }
 
-// Does a command with a text that was read whole.
-fn respond<K: Sink>(alloc: Global, command: Command, bytes: &[u8], sink: &mut K) -> Status
+// Does a task with a text that was read whole.
+fn respond<K: Sink>(alloc: Global, task: Task, bytes: &[u8], sink: &mut K) -> Status
     requires { length bytes.now ≤ 1048576 }
-    ensures outcome { Concludes result (as_outcome (said command bytes.now)) (K.text sink.old) (K.text sink.new) }
+    ensures outcome { Concludes result (as_outcome (said task bytes.now)) (K.text sink.old) (K.text sink.new) }
     ensures usage { result ≢ Status.Usage }
     ensures read_fault { result ≢ Status.ReadFault }
     ensures write_fault { result ≡ Status.WriteFault → Rose (K.faults sink.old) (K.faults sink.new) }
 {
-    match serve(alloc, command, bytes, sink) {
+    match serve(alloc, task, bytes, sink) {
         Ok(()) => Status::Done,
         Err(Stop::NoMemory) => Status::NoMemory,
         Err(Stop::WriteFault) => Status::WriteFault,
@@ -98,7 +98,7 @@ fn respond<K: Sink>(alloc: Global, command: Command, bytes: &[u8], sink: &mut K)
     }
 }
 
-// Tells why the input is refused.
+// Reports why the input is refused.
 fn decline<K: Sink>(alloc: Global, refused: Refused, sink: &mut K) -> Status
     ensures outcome { Concludes result (Declined refused) (K.text sink.old) (K.text sink.new) }
     ensures usage { result ≢ Status.Usage }
@@ -115,7 +115,7 @@ fn decline<K: Sink>(alloc: Global, refused: Refused, sink: &mut K) -> Status
 // Writes a text, and gives the status unless the sink fails.
 fn conclude<K: Sink>(sink: &mut K, text: &[u8], status: Status) -> Status
     ensures { ((result ≡ status) × Appends (K.text sink.old) (K.text sink.new) text.now)
-        ⊎ ((result ≡ Status.WriteFault) × AppendsFront (K.text sink.old) (K.text sink.new) text.now
+        ⊎ ((result ≡ Status.WriteFault) × AppendsPrefix (K.text sink.old) (K.text sink.new) text.now
         × Rose (K.faults sink.old) (K.faults sink.new)) }
 {
     match write_all(sink, text) {

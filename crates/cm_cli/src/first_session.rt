@@ -6,15 +6,15 @@ ghost use Rattle.cm_base.specs.Reading.{at_line, seen};
 ghost use Rattle.cm_cli.specs.FirstSession as form;
 
 use cm_base::faults::{Fault, ReadStop};
-use cm_base::lines::Line;
+use cm_base::lines::{Cursor, Line};
 use cm_base::numbers::read_u64;
-use cm_base::parts::{lines_from, refused};
+use cm_base::parts::refused;
+use cm_base::source::{COUNT, NOW, TIMER};
 use cm_base::words::at_line;
 use cm_board::board::{Kind, Sub};
-use cm_board::source::{COUNT, NOW, TIMER};
 use cm_cmd::command::{Cmd, Trig};
-use cm_replay::session::{Op, SessionLine};
-use cm_test::test::{Accepted, accept};
+use cm_replay::session::{BoxedCmd, Op, SessionLine};
+use cm_test::test::accept;
 use std::alloc::{AllocError, Global};
 
 /// The lines of the session part: `T open 1`, then `T cmd 1 0 0 now:0 timer:P now:0 count:1 count:C
@@ -25,42 +25,55 @@ pub fn read_session(
     alloc: Global,
     sub: &Sub,
     horizon: u64,
-    lines: &[Line<'_>],
+    lines: Cursor<'_>,
     end: u32,
 ) -> Result<Vec<SessionLine>, ReadStop>
-    ensures { Gives (λ lines. lines.items) result (form.session_of sub.now horizon end (map line_view lines.now)) }
+    ensures { Gives (λ lines. lines.items) result (form.session_of sub.now horizon end lines.entry) }
 {
-    let first = first_line(horizon, lines, end)?;
-    let second = second_line(alloc, sub, horizon, first.time, lines_from(lines, 1), end)?;
+    let mut lines = lines;
+    let mut line = Line::empty(alloc);
+    let first = first_line(alloc, horizon, &mut lines, &mut line, end)?;
+    let second = second_line(alloc, sub, horizon, first.time, &mut lines, &mut line, end)?;
     let time = second.time;
     let before = two_lines(alloc, first, second)?;
-    read_reads(horizon, before, time, lines_from(lines, 2))
+    read_reads(alloc, horizon, before, time, lines)
 }
 
 // The line that opens the file.
-fn first_line(horizon: u64, lines: &[Line<'_>], end: u32) -> Result<SessionLine, ReadStop>
-    ensures { Gives (λ line. line) result (form.next_of end (form.open_line horizon) (map line_view lines.now)) }
+fn first_line<'a>(
+    alloc: Global,
+    horizon: u64,
+    lines: &mut Cursor<'a>,
+    line: &mut Line<'a>,
+    end: u32,
+) -> Result<SessionLine, ReadStop>
+    ensures line { Gives (λ line. line) result (form.next_of end (form.open_line horizon) lines.old) }
+    ensures rest { lines.new ≡ drop 1 lines.old }
 {
-    match lines {
-        [] => Err(refused(end, Fault::Missing)),
-        [line, ..] => at_line(line.number, open_line(horizon, line)),
+    if lines.next(alloc, line)? {
+        at_line(line.number, open_line(horizon, line))
+    } else {
+        Err(refused(end, Fault::Missing))
     }
 }
 
 // The line that calls the command.
-fn second_line(
+fn second_line<'a>(
     alloc: Global,
     sub: &Sub,
     horizon: u64,
     before: u64,
-    lines: &[Line<'_>],
+    lines: &mut Cursor<'a>,
+    line: &mut Line<'a>,
     end: u32,
 ) -> Result<SessionLine, ReadStop>
-    ensures { Gives (λ line. line) result (form.next_of end (form.cmd_line sub.now horizon before) (map line_view lines.now)) }
+    ensures line { Gives (λ line. line) result (form.next_of end (form.cmd_line sub.now horizon before) lines.old) }
+    ensures rest { lines.new ≡ drop 1 lines.old }
 {
-    match lines {
-        [] => Err(refused(end, Fault::Missing)),
-        [line, ..] => cmd_line(alloc, sub, horizon, before, line),
+    if lines.next(alloc, line)? {
+        cmd_line(alloc, sub, horizon, before, line)
+    } else {
+        Err(refused(end, Fault::Missing))
     }
 }
 
@@ -77,20 +90,23 @@ fn two_lines(
     Ok(lines)
 }
 
-// The lines that read, behind those before them, of which the last has this time.
+// The lines that read, after those before them, of which the last has this time.
 fn read_reads(
+    alloc: Global,
     horizon: u64,
     before: Vec<SessionLine>,
     time: u64,
-    lines: &[Line<'_>],
+    lines: Cursor<'_>,
 ) -> Result<Vec<SessionLine>, ReadStop>
     requires { time ≡ form.last_time before.items }
-    ensures { Gives (λ lines. lines.items) result (form.reads_behind horizon before.items (map line_view lines.now)) }
+    ensures { Gives (λ lines. lines.items) result (form.reads_after horizon before.items lines.entry) }
 {
+    let mut lines = lines;
+    let mut line = Line::empty(alloc);
     let mut all = before;
     let mut latest = time;
-    for line in lines {
-        let next = match at_line(line.number, read_line(horizon, latest, line)) {
+    while lines.next(alloc, &mut line)? {
+        let next = match at_line(line.number, read_line(horizon, latest, &line)) {
             Ok(next) => next,
             Err(stop) => return Err(stop),
         };
@@ -166,32 +182,32 @@ fn form_number(word: &[u8]) -> Result<u64, Fault>
     }
 }
 
-// The number behind a word's front.
-fn argument(front: &[u8], word: &[u8]) -> Result<u64, Fault>
-    ensures { result ≡ form.argument front.now word.now }
+// The number after a word's prefix.
+fn argument(prefix: &[u8], word: &[u8]) -> Result<u64, Fault>
+    ensures { result ≡ form.argument prefix.now word.now }
 {
-    if begins_with(front, word) {
-        form_number(behind(front.len(), word))
+    if begins_with(prefix, word) {
+        form_number(after(prefix.len(), word))
     } else {
         Err(Fault::BadLine)
     }
 }
 
-fn begins_with(front: &[u8], word: &[u8]) -> bool
-    ensures { result ≡ form.begins_with front.now word.now }
+fn begins_with(prefix: &[u8], word: &[u8]) -> bool
+    ensures { result ≡ form.begins_with prefix.now word.now }
 {
-    front_of(front.len(), word) == front
+    prefix_of(prefix.len(), word) == prefix
 }
 
 // At most `count` bytes of a word.
-fn front_of(count: usize, word: &[u8]) -> &[u8]
+fn prefix_of(count: usize, word: &[u8]) -> &[u8]
     ensures { result.now ≡ take count word.now }
 {
     &word[..count.min(word.len())]
 }
 
-// What stands behind so many bytes of a word.
-fn behind(count: usize, word: &[u8]) -> &[u8]
+// What stands after so many bytes of a word.
+fn after(count: usize, word: &[u8]) -> &[u8]
     ensures { result.now ≡ drop count word.now }
 {
     &word[count.min(word.len())..]
@@ -293,7 +309,7 @@ fn cmd_line(
 }
 
 // The command that the form calls, where the subdevice is an analog input that accepts it.
-fn call(alloc: Global, sub: &Sub, period: u64, count: u64) -> Result<Option<Accepted>, AllocError>
+fn call(alloc: Global, sub: &Sub, period: u64, count: u64) -> Result<Option<BoxedCmd>, AllocError>
     ensures { IfOk result (λ cmd. cmd ≡ form.call_of sub.now period count) }
 {
     if !has_limits(sub, period, count) || !is_analog_input(sub.kind) {
@@ -301,7 +317,7 @@ fn call(alloc: Global, sub: &Sub, period: u64, count: u64) -> Result<Option<Acce
     }
     let cmd = first_cmd(alloc, period as u32, count as u32)?;
     match accept(sub, cmd) {
-        Ok(cmd) => Ok(Some(cmd)),
+        Ok(cmd) => Ok(Some(BoxedCmd::new(alloc, cmd)?)),
         Err(_) => Ok(None),
     }
 }

@@ -2,10 +2,12 @@
 #![tactic(auto)]
 
 pub mod answer;
-pub mod command;
+pub mod asked;
 pub mod expanding;
 pub mod first_session;
 pub mod serving;
 pub mod status;
 pub mod stop;
+pub mod task;
 pub mod testing;
+pub mod totals;

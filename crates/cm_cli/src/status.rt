@@ -1,4 +1,6 @@
 // How the program ends.
+ghost use Rattle.std.specs.Prelude.{◌≡◌};
+ghost use Rattle.cm_cli.specs.Statuses.{number_of};
 
 /// The program's status.
 #[derive(Clone, Copy, Debug, PartialEq, Eq)]
@@ -15,4 +17,18 @@ pub enum Status {
     WriteFault,
     /// Memory ran out.
     NoMemory,
+}
+
+/// The number with which the program ends.
+pub fn number_of(status: Status) -> u8
+    ensures { result ≡ number_of status }
+{
+    match status {
+        Status::Done => 0,
+        Status::Refused => 1,
+        Status::Usage => 2,
+        Status::ReadFault => 3,
+        Status::WriteFault => 4,
+        Status::NoMemory => 5,
+    }
 }

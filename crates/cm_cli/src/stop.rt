@@ -1,6 +1,10 @@
 // Why a job is not done.
+ghost use Rattle.std.specs.Prelude.{◌≡◌};
+ghost use Rattle.cm_cli.specs.Stopped.{stop_of, text_stop};
+ghost use Rattle.cm_cli.specs.declared.stop.Stop.TheVariants as stops;
 
-use cm_base::faults::Refused;
+use cm_base::faults::{ReadStop, Refused};
+use cm_base::transfer::{NoMemory, TextStop};
 
 /// Why a job is not done.
 #[derive(Clone, Copy, Debug, PartialEq, Eq)]
@@ -10,9 +14,32 @@ pub enum Stop {
     WriteFault,
 }
 
-/// Why a text isn't written whole.
-#[derive(Clone, Copy, Debug, PartialEq, Eq)]
-pub enum TextStop {
-    NoMemory,
-    WriteFault,
+impl From<NoMemory> for Stop {
+    ghost from_gives = { λ _ stop. stop ≡ stops.NoMemory };
+
+    fn from(_: NoMemory) -> Stop {
+        Stop::NoMemory
+    }
+}
+
+impl From<ReadStop> for Stop {
+    ghost from_gives = { λ read stop. stop ≡ stop_of read };
+
+    fn from(stop: ReadStop) -> Stop {
+        match stop {
+            ReadStop::NoMemory => Stop::NoMemory,
+            ReadStop::Refused(refused) => Stop::Refused(refused),
+        }
+    }
+}
+
+impl From<TextStop> for Stop {
+    ghost from_gives = { λ text stop. stop ≡ text_stop text };
+
+    fn from(stop: TextStop) -> Stop {
+        match stop {
+            TextStop::NoMemory => Stop::NoMemory,
+            TextStop::WriteFault => Stop::WriteFault,
+        }
+    }
 }

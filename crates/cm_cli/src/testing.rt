@@ -7,18 +7,17 @@ ghost use Rattle.cm_base.specs.Causes.{Rose};
 ghost use Rattle.cm_base.specs.LineView.{line_view};
 ghost use Rattle.cm_base.specs.ReadStop.{Gives};
 ghost use Rattle.cm_base.specs.Reading.{at_line, seen};
-ghost use Rattle.cm_base.specs.Transfer.{AppendsFront};
+ghost use Rattle.cm_base.specs.Transfer.{AppendsPrefix};
 ghost use Rattle.cm_test.specs.Questions.{tested};
 ghost use Rattle.cm_cli.specs.Sessions.{only_word};
 ghost use Rattle.cm_cli.specs.TestSession.{step_text, test_answer, test_line, test_on, tests_of, tests_text};
 
-use crate::stop::TextStop;
 use cm_base::faults::{Fault, ReadStop};
-use cm_base::lines::Line;
+use cm_base::lines::{Cursor, Line};
 use cm_base::numbers::put_u64;
 use cm_base::outside::Sink;
 use cm_base::parts::begins;
-use cm_base::transfer::{NoMemory, WriteFault, flush, flush_full};
+use cm_base::transfer::{NoMemory, TextStop, flush, flush_full};
 use cm_base::words::at_line;
 use cm_board::board::{BoardDesc, Sub};
 use cm_cmd::command::Cmd;
@@ -41,13 +40,15 @@ pub fn only(key: &[u8], line: &Line<'_>) -> Result<(), Fault>
 }
 
 /// The commands of the lines of a `test` job's session part.
-pub fn read_tests(alloc: Global, lines: &[Line<'_>]) -> Result<Vec<Cmd>, ReadStop>
-    ensures commands { Gives (λ cmds. cmds.items) result (tests_of (map line_view lines.now)) }
+pub(crate) fn read_tests(alloc: Global, lines: Cursor<'_>) -> Result<Vec<Cmd>, ReadStop>
+    ensures commands { Gives (λ cmds. cmds.items) result (tests_of lines.entry) }
     ensures few { IfOk result (λ cmds. All (λ cmd. length cmd.list ≤ 256) cmds.items) }
 {
+    let mut lines = lines;
+    let mut line = Line::empty(alloc);
     let mut cmds = Vec::new(alloc);
-    for line in lines {
-        let cmd = match read_test(alloc, line) {
+    while lines.next(alloc, &mut line)? {
+        let cmd = match read_test(alloc, &line) {
             Ok(cmd) => cmd,
             Err(stop) => return Err(stop),
         };
@@ -66,7 +67,7 @@ fn read_test(alloc: Global, line: &Line<'_>) -> Result<Cmd, ReadStop>
 }
 
 /// Writes the answers to commands that are tested, in pieces of about 64 KiB.
-pub fn test_all<K: Sink>(
+pub(crate) fn test_all<K: Sink>(
     alloc: Global,
     board: &BoardDesc,
     cmds: &[Cmd],
@@ -74,25 +75,17 @@ pub fn test_all<K: Sink>(
 ) -> Result<(), TextStop>
     requires { All (λ cmd. length cmd.list ≤ 256) cmds.now }
     ensures ok { OnOk result (Appends (K.text sink.old) (K.text sink.new) (tests_text board.now cmds.now)) }
-    ensures front { OnErr result (AppendsFront (K.text sink.old) (K.text sink.new) (tests_text board.now cmds.now)) }
+    ensures prefix { OnErr result (AppendsPrefix (K.text sink.old) (K.text sink.new) (tests_text board.now cmds.now)) }
     ensures fault { IsErrOf result TextStop.WriteFault → Rose (K.faults sink.old) (K.faults sink.new) }
     ensures later { K.faults sink.old ≤ K.faults sink.new }
 {
     let mut text = Vec::new(alloc);
     for cmd in cmds {
-        match put_answer(alloc, &mut text, board, cmd) {
-            Ok(()) => {}
-            Err(NoMemory) => return Err(TextStop::NoMemory),
-        }
-        match flush_full(sink, &mut text) {
-            Ok(()) => {}
-            Err(WriteFault) => return Err(TextStop::WriteFault),
-        }
+        put_answer(alloc, &mut text, board, cmd)?;
+        flush_full(sink, &mut text)?;
     }
-    match flush(sink, &mut text) {
-        Ok(()) => Ok(()),
-        Err(WriteFault) => Err(TextStop::WriteFault),
-    }
+    flush(sink, &mut text)?;
+    Ok(())
 }
 
 // Appends the answer to a command.

@@ -24,15 +24,15 @@ drop_within xs from = elim (cases_lt from (length xs)) [
   | inr p ↦ (let e : min from (length xs) ≡ length xs = omega arith in ap (λ (n : ℕ). drop n xs) e ∙ drop_all (length xs) xs (omega arith) ∙ sym (drop_all from xs p))
 ]
 
-pub words_behind : {X : Type 0} (now : X → List ℕ) (words all : List X) (m from n : ℕ) → words ≡ all → m ≡ min from n → n ≡ length all → map now (take (length words - m) (drop m words)) ≡ drop from (map now all)
-words_behind now words all m from n same at size =
+pub words_after : {X : Type 0} (now : X → List ℕ) (words all : List X) (m from n : ℕ) → words ≡ all → m ≡ min from n → n ≡ length all → map now (take (length words - m) (drop m words)) ≡ drop from (map now all)
+words_after now words all m from n same at size =
     let place : m ≡ min from (length words) = at ∙ ap (min from) (size ∙ ap length (sym same)) in
     ap (map now) (take_rest words m ∙ ap (λ (k : ℕ). drop k words) place ∙ drop_within words from ∙ ap (drop from) same) ∙ sym (drop-map now from all)
 
 pub further : (before after text more : List ℕ) → after ≡ before ++ text → after ++ more ≡ before ++ (text ++ more)
 further before after text more e = ap (λ (t : List ℕ). t ++ more) e ∙ append_assoc before text more
 
--- a command's words, written one behind the other
+-- a command's words, written one after the other
 pub eight_written : (o0 o1 o2 o3 o4 o5 o6 o7 o8 o9 o10 a b t0 t1 t2 t3 t4 l : List ℕ) →
     o1 ≡ o0 ++ a → o2 ≡ o1 ++ 32 ∷ [] → o3 ≡ o2 ++ b → o4 ≡ o3 ++ 32 ∷ t0 → o5 ≡ o4 ++ 32 ∷ t1 → o6 ≡ o5 ++ 32 ∷ t2 → o7 ≡ o6 ++ 32 ∷ t3 → o8 ≡ o7 ++ 32 ∷ t4 → o9 ≡ o8 ++ 32 ∷ [] → o10 ≡ o9 ++ l →
     o10 ≡ o0 ++ join_with_byte 32 (a ∷ b ∷ t0 ∷ t1 ∷ t2 ∷ t3 ∷ t4 ∷ l ∷ [])

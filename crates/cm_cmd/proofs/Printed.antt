@@ -253,7 +253,7 @@ words_say cmd h =
       list_reads cmd.list h.few h.entries,
     ) refl
 
--- the text of a list that is not empty is its first entry and the others behind commas
+-- the text of a list that is not empty is its first entry and the others after commas
 pub list_text_first : (entry : ℕ) (list : List ℕ) → list_text (entry ∷ list) ≡ entry_text entry ++ flat_map (λ e. 44 ∷ entry_text e) list
 list_text_first entry [] = sym (append-nil (entry_text entry))
 list_text_first entry (next ∷ list) = ap (λ (text : List ℕ). entry_text entry ++ (44 ∷ text)) (list_text_first next list)

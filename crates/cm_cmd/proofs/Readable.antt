@@ -9,7 +9,8 @@ use Rattle.std.proofs.lemmas.Nat.{or_lt}
 use Rattle.cm_base.specs.Numbers.{number_of}
 use Rattle.cm_base.specs.Reading.{◌>>=◌, at_line}
 use Rattle.cm_base.specs.ReadStop.{Gives}
-use Rattle.cm_base.specs.Words.{bit_from, bit_of, bits_of, is_bar, limited, number_in, or_fault, source_of, three_words, two_words, up_to, values}
+use Rattle.cm_base.specs.Source.{bit_of}
+use Rattle.cm_base.specs.Words.{bit_from, bits_of, is_bar, limited, number_in, or_fault, source_of, three_words, two_words, up_to, values}
 use Rattle.cm_base.specs.declared.faults.Fault.{Fault}
 use Rattle.cm_base.specs.declared.faults.Fault.TheVariants.{BadNumber, Limit, Unknown}
 use Rattle.cm_base.specs.declared.faults.ReadStop.{ReadStop}
@@ -22,10 +23,10 @@ use Rattle.cm_cmd.specs.declared.command.Trig.{Trig}
 use Rattle.cm_cmd.proofs.Cuts.{line_ok}
 use Rattle.cm_base.proofs.Bools.{and_true, both}
 
--- what is read next was read behind something that was read
-pub behind_read : {A B : Type 0} (read : Result A Fault) (next : A → Result B Fault) (y : B) → (read >>= next) ≡ Ok y → (x : A) × (read ≡ Ok x) × (next x ≡ Ok y)
-behind_read (Ok x) next y h = (x, refl, h)
-behind_read (Err fault) next y h = cc
+-- what is read next was read after something that was read
+pub after_read : {A B : Type 0} (read : Result A Fault) (next : A → Result B Fault) (y : B) → (read >>= next) ≡ Ok y → (x : A) × (read ≡ Ok x) × (next x ≡ Ok y)
+after_read (Ok x) next y h = (x, refl, h)
+after_read (Err fault) next y h = cc
 
 fits_limit : (b : Bool) (n m : ℕ) → limited b n ≡ Ok m → (b ≡ true) × (n ≡ m)
 fits_limit true n m h = (refl, cc)
@@ -36,7 +37,7 @@ at_most a b h = grind (arith, nat_tests)
 
 number_high : (least most : ℕ) (word : List ℕ) (n : ℕ) → number_in least most word ≡ Ok n → n ≤ most
 number_high least most word n h =
-    let r = behind_read (or_fault BadNumber (number_of word)) (λ m. limited (nat_le least m && nat_le m most) m) n h in
+    let r = after_read (or_fault BadNumber (number_of word)) (λ m. limited (nat_le least m && nat_le m most) m) n h in
     let l = fits_limit (nat_le least r.0 && nat_le r.0 most) r.0 n r.2 in
     let k : r.0 ≤ most = at_most r.0 most (both (nat_le least r.0) (nat_le r.0 most) l.0).1 in
     let e = l.1 in
@@ -67,7 +68,7 @@ passed_on false bit m h = cc
 
 bit_from_small : (least : ℕ) (name : List ℕ) (bit : ℕ) → bit_from least name ≡ Ok bit → bit < 2 ^ 9
 bit_from_small least name bit h =
-    let r = behind_read (or_fault Unknown (bit_of name)) (λ b. if nat_le least b then Ok b else Err Unknown) bit h in
+    let r = after_read (or_fault Unknown (bit_of name)) (λ b. if nat_le least b then Ok b else Err Unknown) bit h in
     let s = from_option (bit_of name) r.0 (bit_small name) r.1 in
     let e = passed_on (nat_le least r.0) r.0 bit r.2 in
     omega arith
@@ -75,8 +76,8 @@ bit_from_small least name bit h =
 bits_small : (least : ℕ) (names : List (List ℕ)) (bits : ℕ) → bits_of least names ≡ Ok bits → bits < 2 ^ 9
 bits_small least [] bits h = let e : 0 ≡ bits = cc in omega arith
 bits_small least (name ∷ more) bits h =
-    let r = behind_read (bit_from least name) (λ bit. bits_of (2 * bit) more >>= λ rest. Ok (bit_or bit rest)) bits h in
-    let s = behind_read (bits_of (2 * r.0) more) (λ rest. Ok (bit_or r.0 rest)) bits r.2 in
+    let r = after_read (bit_from least name) (λ bit. bits_of (2 * bit) more >>= λ rest. Ok (bit_or bit rest)) bits h in
+    let s = after_read (bits_of (2 * r.0) more) (λ rest. Ok (bit_or r.0 rest)) bits r.2 in
     let first = bit_from_small least name r.0 r.1 in
     let others = bits_small (2 * r.0) more s.0 s.1 in
     let e : bit_or r.0 s.0 ≡ bits = (let f = s.2 in cc) in
@@ -91,9 +92,9 @@ source_small word bits = elim (bytes_eq word (codes "invalid")) as (λ b. (if b 
 trigger_fits : (text : List ℕ) (t : Trig) → trigger_of text ≡ Ok t → IsTrigger t
 unfolding trigger_of
 trigger_fits text t h =
-    let w = behind_read (two_words (slice_split (is_byte 58) text)) _ t h in
-    let s = behind_read (source_of w.0.0) _ t w.2 in
-    let a = behind_read (number_in 0 4294967295 w.0.1) _ t s.2 in
+    let w = after_read (two_words (slice_split (is_byte 58) text)) _ t h in
+    let s = after_read (source_of w.0.0) _ t w.2 in
+    let a = after_read (number_in 0 4294967295 w.0.1) _ t s.2 in
     let source = source_small w.0.0 s.0 s.1 in
     let arg = number_high 0 4294967295 w.0.1 a.0 a.1 in
     let e : record { src = s.0; arg = a.0 } ≡ t = (let f = a.2 in cc) in
@@ -105,10 +106,10 @@ packed_small c r a = omega arith
 entry_small : (text : List ℕ) (entry : ℕ) → entry_of text ≡ Ok entry → entry < 2 ^ 26
 unfolding entry_of
 entry_small text entry h =
-    let w = behind_read (three_words (slice_split (is_byte 47) text)) _ entry h in
-    let c = behind_read (number_in 0 65535 w.0.0) _ entry w.2 in
-    let r = behind_read (number_in 0 255 w.0.1) _ entry c.2 in
-    let a = behind_read (aref_of w.0.2) _ entry r.2 in
+    let w = after_read (three_words (slice_split (is_byte 47) text)) _ entry h in
+    let c = after_read (number_in 0 65535 w.0.0) _ entry w.2 in
+    let r = after_read (number_in 0 255 w.0.1) _ entry c.2 in
+    let a = after_read (aref_of w.0.2) _ entry r.2 in
     let e : pack c.0 r.0 a.0 ≡ entry = (let f = a.2 in cc) in
     subst (λ n. n < 2 ^ 26) e (packed_small c.0 r.0 a.0)
 
@@ -138,7 +139,7 @@ one_more before entry h few small = record {
 values_fit : (before : List ℕ) (texts : List (List ℕ)) (list : List ℕ) → IsList before → values 256 entry_of before texts ≡ Ok list → IsList list
 values_fit before [] list h e = subst IsList (let f : before ≡ list = cc in f) h
 values_fit before (text ∷ texts) list h e =
-    let r = behind_read (up_to 256 entry_of (length before) text) (λ x. values 256 entry_of (before ++ x ∷ []) texts) list e in
+    let r = after_read (up_to 256 entry_of (length before) text) (λ x. values 256 entry_of (before ++ x ∷ []) texts) list e in
     let u = has_room (length before) entry_of text r.0 r.1 in
     values_fit (before ++ r.0 ∷ []) texts list (one_more before r.0 h u.0 (entry_small text r.0 u.1)) r.2
 
@@ -165,13 +166,13 @@ record IsHead (cmd : CmdText) : Type 0 where
 head_fits : (s f t0 t1 t2 t3 t4 : List ℕ) (cmd : CmdText) → head_of s f t0 t1 t2 t3 t4 ≡ Ok cmd → IsHead cmd
 unfolding head_of
 head_fits s f t0 t1 t2 t3 t4 cmd h =
-    let sub = behind_read (number_in 0 255 s) _ cmd h in
-    let flags = behind_read (number_in 0 4294967295 f) _ cmd sub.2 in
-    let start = behind_read (trigger_of t0) _ cmd flags.2 in
-    let scan_begin = behind_read (trigger_of t1) _ cmd start.2 in
-    let convert = behind_read (trigger_of t2) _ cmd scan_begin.2 in
-    let scan_end = behind_read (trigger_of t3) _ cmd convert.2 in
-    let stop = behind_read (trigger_of t4) _ cmd scan_end.2 in
+    let sub = after_read (number_in 0 255 s) _ cmd h in
+    let flags = after_read (number_in 0 4294967295 f) _ cmd sub.2 in
+    let start = after_read (trigger_of t0) _ cmd flags.2 in
+    let scan_begin = after_read (trigger_of t1) _ cmd start.2 in
+    let convert = after_read (trigger_of t2) _ cmd scan_begin.2 in
+    let scan_end = after_read (trigger_of t3) _ cmd convert.2 in
+    let stop = after_read (trigger_of t4) _ cmd scan_end.2 in
     let low = number_high 0 255 s sub.0 sub.1 in
     let bits = number_high 0 4294967295 f flags.0 flags.1 in
     let head : CmdText = record { sub = sub.0; flags = flags.0; start = start.0; scan_begin = scan_begin.0; convert = convert.0; scan_end = scan_end.0; stop = stop.0; list = [] } in
@@ -209,8 +210,8 @@ read_has_text (s ∷ f ∷ t0 ∷ t1 ∷ t2 ∷ []) cmd h = cc
 read_has_text (s ∷ f ∷ t0 ∷ t1 ∷ t2 ∷ t3 ∷ []) cmd h = cc
 read_has_text (s ∷ f ∷ t0 ∷ t1 ∷ t2 ∷ t3 ∷ t4 ∷ []) cmd h = cc
 read_has_text (s ∷ f ∷ t0 ∷ t1 ∷ t2 ∷ t3 ∷ t4 ∷ l ∷ []) cmd h =
-    let head = behind_read (head_of s f t0 t1 t2 t3 t4) (λ head. list_of l >>= λ list. Ok (record head { list = list })) cmd h in
-    let list = behind_read (list_of l) (λ list. Ok (record head.0 { list = list })) cmd head.2 in
+    let head = after_read (head_of s f t0 t1 t2 t3 t4) (λ head. list_of l >>= λ list. Ok (record head { list = list })) cmd h in
+    let list = after_read (list_of l) (λ list. Ok (record head.0 { list = list })) cmd head.2 in
     let e : record head.0 { list = list.0 } ≡ cmd = (let g = list.2 in cc) in
     subst HasText e (whole_fits head.0 list.0 (head_fits s f t0 t1 t2 t3 t4 head.0 head.1) (list_fits l list.0 list.1))
 read_has_text (s ∷ f ∷ t0 ∷ t1 ∷ t2 ∷ t3 ∷ t4 ∷ l ∷ x ∷ more) cmd h = cc

@@ -3,10 +3,10 @@ use Rattle.std.proofs.Common.{◌≡◌, ℕ, ◌<◌, ◌^◌, Bool, true, ◌&
 use Rattle.std.specs.Prelude.{nat_le}
 use Rattle.std.specs.List.{list_all, range_with_len}
 use Rattle.cm_base.specs.Lines.{is_not_empty}
-use Rattle.cm_base.specs.SourceText.{reads_as, source_text}
+use Rattle.cm_base.specs.SourceText.{source_text}
 use Rattle.cm_base.specs.Words.{source_of}
 use Rattle.cm_base.specs.declared.faults.Fault.{Fault}
-use Rattle.cm_base.proofs.SourcesBack.{each_below, reads_ok, source_back}
+use Rattle.cm_base.proofs.SourcesBack.{each_below, reads_ok, source_back, reads_as}
 use Rattle.cm_cmd.specs.ListText.{aref_text, aref_of}
 use Rattle.cm_base.proofs.Bools.{both}
 

@@ -22,9 +22,11 @@ command_words cmd =
     ∷ trigger_text cmd.start ∷ trigger_text cmd.scan_begin ∷ trigger_text cmd.convert ∷ trigger_text cmd.scan_end ∷ trigger_text cmd.stop
     ∷ list_text cmd.list ∷ []
 
+-- a command as it is printed
 abbrev pub command_text : CmdText → List ℕ
 command_text cmd = join_with_byte 32 (command_words cmd)
 
+-- a trigger by its source and its argument
 abbrev pub trigger : ℕ → ℕ → Trig
 trigger src arg = record { src = src; arg = arg }
 

@@ -8,6 +8,7 @@ use Rattle.cm_base.specs.Words.{keyword, number_in, three, up_to, values}
 use Rattle.cm_base.specs.declared.faults.Fault.{Fault}
 use Rattle.cm_cmd.specs.Entry.{pack, chan, range, aref}
 
+-- whether a byte is this separator
 abbrev pub is_byte : ℕ → ℕ → Bool
 is_byte separator c = c == separator
 
@@ -24,6 +25,7 @@ abbrev pub list_text : List ℕ → List ℕ
 list_text [] = codes "-"
 list_text (entry ∷ list) = join_with_byte 44 (map entry_text (entry ∷ list))
 
+-- the analog references with their names
 abbrev pub arefs : List (List ℕ × ℕ)
 arefs = (codes "ground", 0) ∷ (codes "common", 1) ∷ (codes "diff", 2) ∷ (codes "other", 3) ∷ []
 

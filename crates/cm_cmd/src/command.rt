@@ -3,7 +3,7 @@ use cm_base::transfer::NoMemory;
 use std::alloc::Global;
 use std::marker::Model;
 
-/// The sources of a trigger and their argument. Sources are bits of `cm_board::source`, one bit in
+/// The sources of a trigger and their argument. Sources are bits of `cm_base::source`, one bit in
 /// a command that a subdevice takes. The argument is a time in nanoseconds, a count, a line or the
 /// number of an internal trigger, as the source says.
 #[derive(Clone, Copy, Debug, PartialEq, Eq)]

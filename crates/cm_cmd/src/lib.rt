@@ -13,7 +13,7 @@ mod tests {
     use crate::printing::print_cmd;
     use crate::reading::read_cmd;
     use cm_base::faults::{Fault, ReadStop, Refused};
-    use cm_base::lines::split_lines;
+    use cm_base::lines::{Line, split_lines};
     use cm_base::transfer::NoMemory;
     use std::alloc::Global;
     use std::test::Fail;
@@ -27,8 +27,9 @@ mod tests {
         ];
         for text in cases {
             let lines = split_lines(rt.alloc(), text.as_bytes())?;
-            assert!(rt; lines.list.len() == 1);
-            let cmd = read_cmd(rt.alloc(), &lines.list[0], 0)?.copy(rt.alloc())?;
+            let mut line = Line::empty(rt.alloc());
+            assert!(rt; lines.from(0).next(rt.alloc(), &mut line)?);
+            let cmd = read_cmd(rt.alloc(), &line, 0)?.copy(rt.alloc())?;
             let printed = print_cmd(rt.alloc(), &cmd)?;
             assert!(rt; printed.as_slice() == text.as_bytes(), "at {text}");
         }
@@ -122,13 +123,12 @@ mod tests {
             return Ok(None);
         }
         let lines = split_lines(alloc, text)?;
-        match lines.list.first() {
-            None => Ok(None),
-            Some(line) => match read_cmd(alloc, line, 0) {
-                Err(ReadStop::Refused(refused)) => Ok(Some(refused)),
-                Err(ReadStop::NoMemory) => Err(NoMemory),
-                Ok(_) => Ok(None),
-            },
+        let mut line = Line::empty(alloc);
+        lines.from(0).next(alloc, &mut line)?;
+        match read_cmd(alloc, &line, 0) {
+            Err(ReadStop::Refused(refused)) => Ok(Some(refused)),
+            Err(ReadStop::NoMemory) => Err(NoMemory),
+            Ok(_) => Ok(None),
         }
     }
 }

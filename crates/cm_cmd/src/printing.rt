@@ -49,7 +49,7 @@ fn put_number(out: &mut Vec<u8>, number: u32) -> Result<(), NoMemory>
     put_i64(out, i64::from(number))
 }
 
-// The text of a trigger, behind a space.
+// The text of a trigger, after a space.
 fn put_trigger(out: &mut Vec<u8>, trigger: Trig) -> Result<(), NoMemory>
     ensures { OnOk result (out.new.items ≡ out.old.items ++ 32 ∷ trigger_text trigger) }
 {
@@ -77,7 +77,7 @@ fn put_entries(out: &mut Vec<u8>, first: u32, rest: &[u32]) -> Result<(), NoMemo
     put_more_entries(out, rest)
 }
 
-// The entries, each behind a comma.
+// The entries, each after a comma.
 fn put_more_entries(out: &mut Vec<u8>, list: &[u32]) -> Result<(), NoMemory>
     ensures { OnOk result (out.new.items ≡ out.old.items ++ flat_map (λ entry. 44 ∷ entry_text entry) list.now) }
 {

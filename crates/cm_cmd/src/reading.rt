@@ -11,7 +11,7 @@ ghost use Rattle.cm_cmd.specs.PrintedReads.{HasText};
 
 use crate::command::{Cmd, Trig};
 use crate::entry::pack;
-use crate::separated::{before, behind, first_place, three_parts, two_parts};
+use crate::separated::{after, before, first_place, three_parts, two_parts};
 use cm_base::faults::{Fault, ReadStop};
 use cm_base::lines::Line;
 use cm_base::words::{at_line, number_in, source_of};
@@ -124,7 +124,7 @@ fn read_entries(alloc: Global, line: u32, text: &[u8]) -> Result<Vec<u32>, ReadS
     let mut rest = text;
     while let Some(at) = first_place(rest, b',') {
         push_entry(&mut list, line, before(rest, at))?;
-        rest = behind(rest, at);
+        rest = after(rest, at);
     }
     push_entry(&mut list, line, rest)?;
     Ok(list)
@@ -139,7 +139,7 @@ fn push_entry(list: &mut Vec<u32>, line: u32, text: &[u8]) -> Result<(), ReadSto
     Ok(())
 }
 
-// The entry that a text says behind others.
+// The entry that a text says after others.
 fn read_next_entry(before: usize, text: &[u8]) -> Result<u32, Fault>
     ensures { result ≡ up_to 256 lists.entry_of before text.now }
 {

@@ -8,7 +8,7 @@ ghost use Rattle.cm_cmd.specs.ListText.{is_byte};
 use cm_base::faults::Fault;
 
 /// The place of the first separator.
-pub fn first_place(text: &[u8], separator: u8) -> Option<usize>
+pub(crate) fn first_place(text: &[u8], separator: u8) -> Option<usize>
     ensures place { result ≡ position (is_byte separator) text.now }
     ensures within { IfSome result (λ at. at < length text.now) }
 {
@@ -23,8 +23,8 @@ pub fn before(text: &[u8], at: usize) -> &[u8]
     &text[..at]
 }
 
-/// What stands behind a place.
-pub fn behind(text: &[u8], at: usize) -> &[u8]
+/// What stands after a place.
+pub fn after(text: &[u8], at: usize) -> &[u8]
     requires { at < length text.now }
     ensures { result.now ≡ drop (at + 1) text.now }
 {
@@ -39,7 +39,7 @@ pub fn two_parts(text: &[u8], separator: u8) -> Result<(&[u8], &[u8]), Fault>
     let Some(at) = first_place(text, separator) else {
         return Err(Fault::BadLine);
     };
-    let rest = behind(text, at);
+    let rest = after(text, at);
     match first_place(rest, separator) {
         None => Ok((before(text, at), rest)),
         Some(_) => Err(Fault::BadLine),
@@ -48,12 +48,12 @@ pub fn two_parts(text: &[u8], separator: u8) -> Result<(&[u8], &[u8]), Fault>
 
 /// The three parts of a word with two separators.
 #[tactic(auto, using(crate::proofs::Cuts::one_is_not_three, crate::proofs::Cuts::three_are_one_and_two))]
-pub fn three_parts(text: &[u8], separator: u8) -> Result<(&[u8], &[u8], &[u8]), Fault>
+pub(crate) fn three_parts(text: &[u8], separator: u8) -> Result<(&[u8], &[u8], &[u8]), Fault>
     ensures { seen (λ w. (w.0.now, w.1.now, w.2.now)) result ≡ three_words (slice_split (is_byte separator) text.now) }
 {
     let Some(at) = first_place(text, separator) else {
         return Err(Fault::BadLine);
     };
-    let (second, third) = two_parts(behind(text, at), separator)?;
+    let (second, third) = two_parts(after(text, at), separator)?;
     Ok((before(text, at), second, third))
 }

@@ -4,8 +4,8 @@ use Rattle.std.specs.Prelude.{IfSome}
 use Rattle.std.proofs.lemmas.Bool.{eqb-true}
 use Rattle.std.proofs.lemmas.Grind.{get_or_default_zero}
 use Rattle.std.proofs.lemmas.List.Elements.{All-get_or}
-use Rattle.cm_board.specs.Board.{SubText, IsSound}
-use Rattle.cm_board.specs.Source as source
+use Rattle.cm_board.specs.Board.{SubText, IsSoundSub}
+use Rattle.cm_base.specs.Source as source
 use Rattle.cm_cmd.specs.Command.{CmdText}
 use Rattle.cm_cmd.specs.Entry.{chan}
 use Rattle.cm_test.specs.Passed.{IsEntry, IsPassed}
@@ -22,7 +22,7 @@ line_below lines src arg few names = λ is. let below = names (eqb-true src sour
 entry_at : (sub : SubText) (cmd : CmdText) → IsPassed sub cmd → (i : ℕ) → i < length cmd.list → IsEntry sub (get_or cmd.list i 0)
 entry_at sub cmd is i h = All-get_or (IsEntry sub) cmd.list i 0 h is.entries
 
-pub fit : (p : PlanText) → IsSound p.sub → IsPlan p → IsFit p
+pub fit : (p : PlanText) → IsSoundSub p.sub → IsPlan p → IsFit p
 fit p sound is =
     let passes = passed p.sub p.cmd sound is.passed in
     let few = passes.list.high in
@@ -47,7 +47,7 @@ given None t0 horizon within t e = cc
 given (Some u) t0 horizon within t e = let same : u ≡ t = cc in subst (λ x. (t0 ≤ x) × (x ≤ horizon)) same within
 
 -- the channel of the first entry
-pub first_channel : (sub : SubText) (cmd : CmdText) (items : List ℕ) (entry channel : ℕ) → IsSound sub → (tested sub cmd).0 ≡ 0 → items ≡ cmd.list → entry ≡ get_or items 0 entry → channel ≡ chan entry →
+pub first_channel : (sub : SubText) (cmd : CmdText) (items : List ℕ) (entry channel : ℕ) → IsSoundSub sub → (tested sub cmd).0 ≡ 0 → items ≡ cmd.list → entry ≡ get_or items 0 entry → channel ≡ chan entry →
     channel < sub.channels
 first_channel sub cmd items entry channel sound is_passed same first is =
     let passes = passed sub cmd sound is_passed in

@@ -1,26 +1,25 @@
 -- What each plan of a sound subdevice and sound signals keeps, over the definitions alone.
-use Rattle.std.proofs.Common.{◌≡◌, ℕ, zero, suc, ◌+◌, ◌-◌, ◌*◌, ◌<◌, ◌≤◌, ◌^◌, min, Bool, true, false, List, [], ◌∷◌, ◌++◌, length, Option, Some, None, refl, sym, ap, subst, ◌∙◌, inl, inr, arith, length-append, mul-le-mul_right, mul-le-mul_left}
+use Rattle.std.proofs.Common.{◌≡◌, ℕ, zero, suc, ◌+◌, ◌-◌, ◌*◌, ◌<◌, ◌≤◌, ◌^◌, min, Bool, true, false, List, [], ◌∷◌, length, Option, Some, None, refl, arith, length-append, mul-le-mul_right, mul-le-mul_left}
 use Rattle.std.specs.Prelude.{◌==◌, IfSome, flat_map, option_map, if◌then◌else◌}
-use Rattle.std.proofs.lemmas.Bool.{cases_Bool}
 use Rattle.cm_board.specs.Board as board
 use Rattle.cm_board.specs.Board.{SubText}
-use Rattle.cm_board.specs.Source as source
+use Rattle.cm_base.specs.Source as source
 use Rattle.cm_cmd.specs.Command.{CmdText}
 use Rattle.cm_signal.specs.Signals as signals
 use Rattle.cm_test.specs.Law.{AreInside}
 use Rattle.cm_test.specs.Steps.{convert_limits, scan_begin_limits, slowest_conversion, stop_limits}
 use Rattle.cm_test.proofs.Passed.{passed}
 use Rattle.cm_expand.specs.Course.{AnyTime, AreBegins, AreConverts, AtOnce, Course, Every, OnEdges, PerEdge, Spaced, IsCourse, as_long_as, before_none, begins, begins_from, conversion, first, next_begin, scan, times}
-use Rattle.cm_expand.specs.Fit.{IsExpansion, IsFit}
-use Rattle.cm_expand.specs.Plan.{IsPlan, PlanText, begins_of, converts_of, course_from, course_of, edge_since, edges_of, first_trigger, is_edge, is_trigger, most_of, start_of, times_if, times_of}
+use Rattle.cm_expand.specs.Fit.{IsExpansion}
+use Rattle.cm_expand.specs.Plan.{IsPlan, PlanText, course_from, course_of, edge_since, edges_of, first_trigger, is_edge, is_trigger, start_of, times_if, times_of}
 use Rattle.cm_expand.proofs.Fits.{fit}
 use Rattle.cm_expand.proofs.Order.{expansion}
 use Rattle.cm_expand.proofs.Plans.{least_within}
 
 -- a plan whose subdevice and signals keep their rules
 pub record IsSoundPlan (p : PlanText) : Type 0 where
-  pub sub : board.IsSound p.sub
-  pub signals : signals.IsSound p.signals
+  pub sub : board.IsSoundSub p.sub
+  pub signals : signals.IsSoundSignals p.signals
   pub plan : IsPlan p
 
 -- a choice of three, by two tests
@@ -55,14 +54,14 @@ slowest : (timed : Bool) (most other : ℕ) → (if timed then min most other el
 slowest true most other = omega arith
 slowest false most other = omega arith
 
-period_high : (sub : SubText) (cmd : CmdText) → board.IsSound sub → AreInside sub cmd → (cmd.scan_begin.src == source.timer) ≡ true → cmd.scan_begin.arg < 2 ^ 32
+period_high : (sub : SubText) (cmd : CmdText) → board.IsSoundSub sub → AreInside sub cmd → (cmd.scan_begin.src == source.timer) ≡ true → cmd.scan_begin.arg < 2 ^ 32
 period_high sub cmd sound inside timer =
     let high : cmd.scan_begin.arg ≤ (scan_begin_limits sub cmd).high = inside.scan_begin.high in
     let most : cmd.scan_begin.arg ≤ sub.scan_max = rw timer at high in
     let limit = sound.scan.high in
     omega arith
 
-gap_high : (sub : SubText) (cmd : CmdText) → board.IsSound sub → AreInside sub cmd → (cmd.convert.src == source.timer) ≡ true → cmd.convert.arg < 2 ^ 32
+gap_high : (sub : SubText) (cmd : CmdText) → board.IsSoundSub sub → AreInside sub cmd → (cmd.convert.src == source.timer) ≡ true → cmd.convert.arg < 2 ^ 32
 gap_high sub cmd sound inside timer =
     let high : cmd.convert.arg ≤ (convert_limits sub cmd).high = inside.convert.high in
     let most : cmd.convert.arg ≤ slowest_conversion sub cmd = rw timer at high in
@@ -70,7 +69,7 @@ gap_high sub cmd sound inside timer =
     let limit = sound.convert.high in
     omega arith
 
-count_high : (sub : SubText) (cmd : CmdText) → board.IsSound sub → AreInside sub cmd → (cmd.stop.src == source.count) ≡ true → cmd.stop.arg ≤ 4000000000
+count_high : (sub : SubText) (cmd : CmdText) → board.IsSoundSub sub → AreInside sub cmd → (cmd.stop.src == source.count) ≡ true → cmd.stop.arg ≤ 4000000000
 count_high sub cmd sound inside counted =
     let high : cmd.stop.arg ≤ (stop_limits sub cmd).high = inside.stop.high in
     let most : cmd.stop.arg ≤ sub.scans_max = rw counted at high in
@@ -78,7 +77,7 @@ count_high sub cmd sound inside counted =
     omega arith
 
 -- the edges of a line
-line_edges : (s : signals.SignalsText) (arg : ℕ) → signals.IsSound s → arg < 16 → signals.AreEdges s.horizon (signals.edges_at s arg)
+line_edges : (s : signals.SignalsText) (arg : ℕ) → signals.IsSoundSignals s → arg < 16 → signals.AreEdges s.horizon (signals.edges_at s arg)
 line_edges s arg sound below = sound.edges arg (omega (arith, sound.lines))
 
 course_is : (p : PlanText) (start : ℕ) → IsSoundPlan p → start_of p ≡ Some start → IsCourse (course_from p start)
@@ -128,7 +127,7 @@ length-begins_from c (suc left) (Some begin) = omega (arith, length-begins_from 
 length-scans : (c : Course) (bs : List ℕ) → length (flat_map (scan c) bs) ≤ length bs * c.per_scan
 length-scans c [] = omega arith
 length-scans c (b ∷ bs) =
-    let front = length-as_long_as (conversion c b) 0 c.per_scan in
+    let prefix = length-as_long_as (conversion c b) 0 c.per_scan in
     let back = length-scans c bs in
     omega (arith, length-append (scan c b) (flat_map (scan c) bs))
 

@@ -1,7 +1,7 @@
 -- What holds of each plan, since its command passes the test of a sound subdevice.
 use Rattle.std.specs.Prelude.{◌≡◌, ℕ, ◌<◌, ◌≤◌, true, ◌==◌, length, slice_index}
 use Rattle.cm_board.specs.Board.{maxdata_of, munge_of, range_count}
-use Rattle.cm_board.specs.Source as source
+use Rattle.cm_base.specs.Source as source
 use Rattle.cm_cmd.specs.Entry.{chan, range}
 use Rattle.cm_sample.specs.Munging.{munged}
 use Rattle.cm_expand.specs.Items.{code_at, input_at}

@@ -2,7 +2,7 @@
 use Rattle.std.specs.Prelude.{◌≡◌, ℕ, ◌+◌, ◌-◌, ◌≤◌, ◌*◌, Bool, false, ◌&&◌, ◌||◌, ◌==◌, if◌then◌else◌, nat_le, List, [], length, Option, Some, None, option_map}
 use Rattle.std.specs.List.{list_any}
 use Rattle.cm_board.specs.Board.{SubText}
-use Rattle.cm_board.specs.Source as source
+use Rattle.cm_base.specs.Source as source
 use Rattle.cm_cmd.specs.Command.{CmdText}
 use Rattle.cm_test.specs.Questions.{tested}
 use Rattle.cm_signal.specs.Signals.{SignalsText, edges_at}
@@ -22,6 +22,7 @@ pub record PlanText : Type 0 where
 abbrev pub edges_of : PlanText → ℕ → List ℕ
 edges_of p arg = edges_at p.signals arg
 
+-- whether a line has an edge at a time
 abbrev pub is_edge : List ℕ → ℕ → Bool
 is_edge edges t = list_any (λ edge. edge == t) edges
 
@@ -29,6 +30,7 @@ is_edge edges t = list_any (λ edge. edge == t) edges
 abbrev pub edge_since : PlanText → ℕ → ℕ → Option ℕ
 edge_since p arg from = least (is_edge (edges_of p arg)) from (p.signals.horizon + 1 - from)
 
+-- whether the trigger that a session gives comes at a time
 abbrev pub is_given : Option ℕ → ℕ → Bool
 is_given None t = false
 is_given (Some given) t = given == t
@@ -55,11 +57,13 @@ start_of p =
     if p.cmd.start.src == source.ext then edge_since p p.cmd.start.arg p.t0
     else (if p.cmd.start.src == source.int then first_trigger p else Some p.t0)
 
+-- what begins the scans of a command
 abbrev pub begins_of : PlanText → Begins
 begins_of p =
     if p.cmd.scan_begin.src == source.timer then Every p.cmd.scan_begin.arg
     else (if p.cmd.scan_begin.src == source.ext then OnEdges (edges_of p p.cmd.scan_begin.arg) else AnyTime)
 
+-- what starts the conversions of a command
 abbrev pub converts_of : PlanText → Converts
 converts_of p =
     if p.cmd.convert.src == source.timer then Spaced p.cmd.convert.arg
@@ -69,6 +73,7 @@ converts_of p =
 abbrev pub most_of : PlanText → ℕ
 most_of p = if p.cmd.stop.src == source.count then p.cmd.stop.arg else p.signals.horizon + 1
 
+-- the course of a command that starts at a time
 abbrev pub course_from : PlanText → ℕ → Course
 course_from p start = record {
   start = start;
@@ -80,6 +85,7 @@ course_from p start = record {
   horizon = p.signals.horizon;
 }
 
+-- the course of a command, if its start trigger comes
 abbrev pub course_of : PlanText → Option Course
 course_of p = option_map (course_from p) (start_of p)
 
@@ -96,6 +102,7 @@ times_of p = times_if (course_of p)
 abbrev pub whole_count : PlanText → Option ℕ
 whole_count p = if p.cmd.stop.src == source.count then Some (p.cmd.stop.arg * length p.cmd.list) else None
 
+-- whether all conversions of a stop count come by the horizon; without a count they never do
 abbrev pub is_complete_by : Option ℕ → PlanText → Bool
 is_complete_by (Some count) p = length (times_of p) == count
 is_complete_by None p = false

@@ -16,13 +16,14 @@ const RAWDATA: u32 = 0x80;
 
 /// The munge of the buffer of an accepted command.
 pub fn rule_of(alloc: Global, sub: &Sub, cmd: &Accepted) -> Result<MungeRule, NoMemory>
-    requires { (tested sub.now cmd.now.cmd).0 ≡ 0 }
-    ensures rule { IfOk result (λ rule. rule ≡ spec.rule_of sub.now cmd.now.cmd) }
-    ensures applies { IfOk result (λ rule. (place word : ℕ) → munged_word rule place word ≡ spec.munged_at sub.now cmd.now.cmd place word) }
+    requires { (tested sub.now cmd.now).0 ≡ 0 }
+    ensures rule { IfOk result (λ rule. rule ≡ spec.rule_of sub.now cmd.now) }
+    ensures applies { IfOk result (λ rule. (place word : ℕ) → munged_word rule place word ≡ spec.munged_at sub.now cmd.now place word) }
 {
+    // No memory is taken today: the rule is the same for each word of the buffer.
     let _ = alloc;
     let out = is_output(sub.kind);
-    let cmd = &cmd.cmd;
+    let cmd = cmd.cmd();
     let first = chan(cmd.list[0]);
     Ok(MungeRule {
         kind: sub.munge_of(first),

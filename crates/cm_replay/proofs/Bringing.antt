@@ -2,11 +2,11 @@
 use Rattle.std.proofs.Common.{◌≡◌, ℕ, zero, suc, ◌+◌, ◌-◌, ◌<◌, ◌≤◌, min, List, [], ◌∷◌, ◌++◌, length, take, drop, Bool, true, false, Option, Some, None, refl, sym, ap, ap₂, ◌∙◌, inl, inr, arith, subst, length-take, length-drop, drop-drop}
 use Rattle.std.specs.Prelude.{if◌then◌else◌}
 use Rattle.std.proofs.lemmas.Bool.{cases_lt, le-leb, lt-leb, eq-eqb, lt-ltb, le-ltb, ne_eqb}
-use Rattle.std.proofs.lemmas.List.{drop-append-le, drop-take, length-take-le, take-take}
+use Rattle.std.proofs.lemmas.List.{length-map, drop-append-le, drop-take, length-take-le, take-take}
 use Rattle.cm_base.proofs.Pieces.{take_sum}
 use Rattle.cm_ring_core.specs.Local.{Ring}
-use Rattle.cm_sample.specs.Rule.{munged_word}
-use Rattle.cm_sample.specs.declared.rule.MungeRule.{MungeRule}
+use Rattle.cm_expand.specs.Rule.{munged_at}
+use Rattle.cm_expand.specs.Taking.{raw_words}
 use Rattle.cm_replay.specs.Conversions.{come, munged_from, NeverFalls}
 use Rattle.cm_replay.specs.Running.{Schedule, end_by, samples}
 use Rattle.cm_replay.specs.CommandView.{IsInStep}
@@ -15,53 +15,53 @@ use Rattle.cm_replay.specs.ToCome.{ToCome, end_shown}
 use Rattle.cm_expand.specs.declared.conv.Conv.{Conv}
 use Rattle.cm_replay.specs.declared.ending.End.{End}
 use Rattle.cm_replay.specs.declared.ending.End.TheVariants.{Overrun}
-use Rattle.cm_replay.proofs.Come.{come-first, come-later_first, come-none, come-le}
+use Rattle.cm_replay.proofs.Come.{come-first, come-later_first, come-none, come-le, from_start}
 
 -- some have come where the first has
 some_come : (time : ℕ) (c : Conv) (cs : List Conv) → NeverFalls (c ∷ cs) → 1 ≤ come time (c ∷ cs) → c.time ≤ time
 some_come time c cs order some = elim (cases_lt time c.time) [
-  | inl late ↦ absurd (omega (arith, come-later_first time c cs late, come-none time cs c.time order.0 late))
+  | inl late ↦ absurd (omega (arith, come-later_first time c cs late, come-none time cs c.time order.1 late))
   | inr early ↦ early
 ]
 
--- of what is left behind those that have come, as many have come as are missing
+-- of what is left after those that have come, as many have come as are missing
 pub come-drop : (time w : ℕ) (cs : List Conv) → NeverFalls cs → w ≤ come time cs → come time (drop w cs) ≡ come time cs - w
 come-drop time zero cs order some = omega arith
 come-drop time (suc w) [] order some = absurd (omega arith)
 come-drop time (suc w) (c ∷ cs) order some =
     let first = come-first time c cs (some_come time c cs order (omega arith)) in
-    come-drop time w cs order.1 (omega arith) ∙ omega arith
+    come-drop time w cs (from_start c.time cs order.1) (omega arith) ∙ omega arith
 
 pub NeverFalls-drop : (w : ℕ) (cs : List Conv) → NeverFalls cs → NeverFalls (drop w cs)
 NeverFalls-drop zero cs order = order
 NeverFalls-drop (suc w) [] order = tt
-NeverFalls-drop (suc w) (c ∷ cs) order = NeverFalls-drop w cs order.1
+NeverFalls-drop (suc w) (c ∷ cs) order = NeverFalls-drop w cs (from_start c.time cs order.1)
 
 -- munging from a later place on gives the later samples
-munged_from-drop : (rule : MungeRule) (place w : ℕ) (cs : List Conv) → drop w (munged_from rule place cs) ≡ munged_from rule (place + w) (drop w cs)
-munged_from-drop rule place zero cs = ap (λ p. munged_from rule p cs) (omega arith)
-munged_from-drop rule place (suc w) [] = refl
-munged_from-drop rule place (suc w) (c ∷ cs) = munged_from-drop rule (suc place) w cs ∙ ap (λ p. munged_from rule p (drop w cs)) (omega arith)
+munged_from-drop : (munge : ℕ → ℕ → ℕ) (place w : ℕ) (cs : List Conv) → drop w (munged_from munge place cs) ≡ munged_from munge (place + w) (drop w cs)
+munged_from-drop munge place zero cs = ap (λ p. munged_from munge p cs) (omega arith)
+munged_from-drop munge place (suc w) [] = refl
+munged_from-drop munge place (suc w) (c ∷ cs) = munged_from-drop munge (suc place) w cs ∙ ap (λ p. munged_from munge p (drop w cs)) (omega arith)
 
-munged_from-take : (rule : MungeRule) (place n : ℕ) (cs : List Conv) → take n (munged_from rule place cs) ≡ munged_from rule place (take n cs)
-munged_from-take rule place zero cs = refl
-munged_from-take rule place (suc n) [] = refl
-munged_from-take rule place (suc n) (c ∷ cs) = ap (λ xs. munged_word rule place c.raw ∷ xs) (munged_from-take rule (suc place) n cs)
+munged_from-take : (munge : ℕ → ℕ → ℕ) (place n : ℕ) (cs : List Conv) → take n (munged_from munge place cs) ≡ munged_from munge place (take n cs)
+munged_from-take munge place zero cs = refl
+munged_from-take munge place (suc n) [] = refl
+munged_from-take munge place (suc n) (c ∷ cs) = ap (λ xs. munge place c.raw ∷ xs) (munged_from-take munge (suc place) n cs)
 
-pub length-munged_from : (rule : MungeRule) (place : ℕ) (cs : List Conv) → length (munged_from rule place cs) ≡ length cs
-length-munged_from rule place [] = refl
-length-munged_from rule place (c ∷ cs) = ap suc (length-munged_from rule (suc place) cs)
+pub length-munged_from : (munge : ℕ → ℕ → ℕ) (place : ℕ) (cs : List Conv) → length (munged_from munge place cs) ≡ length cs
+length-munged_from munge place [] = refl
+length-munged_from munge place (c ∷ cs) = ap suc (length-munged_from munge (suc place) cs)
 
 pub length-samples : (s : Schedule) → length (samples s) ≡ length s.conversions
-length-samples s = length-munged_from s.rule 0 s.conversions
+length-samples s = length-munged_from (munged_at s.sub s.cmd) 0 s.conversions
 
 -- the samples from r on with those of more conversions
-pub held-more : (rule : MungeRule) (cs : List Conv) (r w n : ℕ) → r ≤ w → w ≤ length cs →
-    drop r (take w (munged_from rule 0 cs)) ++ munged_from rule w (take n (drop w cs)) ≡ drop r (take (w + n) (munged_from rule 0 cs))
-held-more rule cs r w n within all =
-    let m : List ℕ = munged_from rule 0 cs in
-    let front : length (take w m) ≡ w = length-take-le w m (omega (arith, length-munged_from rule 0 cs)) in
-    let more : munged_from rule w (take n (drop w cs)) ≡ take n (drop w m) = sym (munged_from-take rule w n (drop w cs)) ∙ ap (take n) (sym (munged_from-drop rule 0 w cs ∙ ap (λ p. munged_from rule p (drop w cs)) (omega arith))) in
+pub held-more : (munge : ℕ → ℕ → ℕ) (cs : List Conv) (r w n : ℕ) → r ≤ w → w ≤ length cs →
+    drop r (take w (munged_from munge 0 cs)) ++ munged_from munge w (take n (drop w cs)) ≡ drop r (take (w + n) (munged_from munge 0 cs))
+held-more munge cs r w n within all =
+    let m : List ℕ = munged_from munge 0 cs in
+    let prefix : length (take w m) ≡ w = length-take-le w m (omega (arith, length-munged_from munge 0 cs)) in
+    let more : munged_from munge w (take n (drop w cs)) ≡ take n (drop w m) = sym (munged_from-take munge w n (drop w cs)) ∙ ap (take n) (sym (munged_from-drop munge 0 w cs ∙ ap (λ p. munged_from munge p (drop w cs)) (omega arith))) in
     ap (λ xs. drop r (take w m) ++ xs) more ∙ sym (drop-append-le r (take w m) (take n (drop w m)) (omega arith)) ∙ ap (drop r) (sym (take_sum w n m))
 
 neither : (e : Option End) (complete : Bool) → e ≡ (if complete then e else e)
@@ -76,8 +76,8 @@ end_shown-right s limit w time order cut written = by_left (drop w s.conversions
     some : w ≤ come time s.conversions
     some = omega arith
 
-    behind : come time (drop w s.conversions) ≡ come time s.conversions - w
-    behind = come-drop time w s.conversions order some
+    after : come time (drop w s.conversions) ≡ come time s.conversions - w
+    after = come-drop time w s.conversions order some
 
     count : length (drop w s.conversions) ≡ length s.conversions - w
     count = length-drop w s.conversions
@@ -88,31 +88,31 @@ end_shown-right s limit w time order cut written = by_left (drop w s.conversions
         rw (le-ltb limit (come time s.conversions) (omega (arith, ap length none, count, written, come-le time s.conversions))) (rw (eq-eqb _ _ all) refl)
     by_left (c ∷ rest) more = elim (cases_lt time c.time) [
       | inl late ↦
-          let none_yet : come time (c ∷ rest) ≡ 0 = come-later_first time c rest late ∙ come-none time rest c.time (subst NeverFalls more (NeverFalls-drop w s.conversions order)).0 late in
-          let here : come time s.conversions ≡ w = omega (arith, ap (come time) more, behind, some) in
+          let none_yet : come time (c ∷ rest) ≡ 0 = come-later_first time c rest late ∙ come-none time rest c.time (subst NeverFalls more (NeverFalls-drop w s.conversions order)).1 late in
+          let here : come time s.conversions ≡ w = omega (arith, ap (come time) more, after, some) in
           let fewer : come time s.conversions < length s.conversions = omega (arith, ap length more, count) in
           let early : (time ≡ s.horizon → ⊥) = λ (e : time ≡ s.horizon). absurd (omega (arith, ap (λ t. come t s.conversions) e)) in
           rw (lt-leb _ _ late) (rw (le-ltb limit (come time s.conversions) (omega arith)) (rw (ne_eqb (come time s.conversions) (length s.conversions) (λ (e : come time s.conversions ≡ length s.conversions). absurd (omega arith))) (rw (ne_eqb time s.horizon early) (neither None s.complete))))
       | inr come_too ↦
-          let over : limit < come time s.conversions = omega (arith, ap (come time) more, behind, come-first time c rest come_too) in
+          let over : limit < come time s.conversions = omega (arith, ap (come time) more, after, come-first time c rest come_too) in
           rw (le-leb _ _ come_too) (rw (lt-ltb _ _ over) (ap (λ k. Some (Overrun k)) (omega arith)))
     ]
 
 -- the ring and the board are in step after the conversions that have come by a time moved from one into the other
-pub filled-in_step : (s : Schedule) (ring : Ring) (board : ToCome) (time : ℕ) (cells : List ℕ) → NeverFalls s.conversions → IsInStep s ring board → ring.w ≤ come time s.conversions →
-    IsInStep s (filled ring board.conversions time cells) (record board { conversions = drop (moving ring board.conversions time) board.conversions })
-    × ((filled ring board.conversions time cells).w ≡ min (come time s.conversions) (ring.r + s.size))
-filled-in_step s ring board time cells order in_step some = (
+pub filled-in_step : (s : Schedule) (ring : Ring) (board : ToCome) (time : ℕ) → NeverFalls s.conversions → IsInStep s ring board → ring.w ≤ come time s.conversions →
+    IsInStep s (filled ring board.conversions time) (record board { conversions = drop (moving ring board.conversions time) board.conversions })
+    × ((filled ring board.conversions time).w ≡ min (come time s.conversions) (ring.r + s.size))
+filled-in_step s ring board time order in_step some = (
   record {
     level = record { m_w = refl; w_a = refl };
-    rule = in_step.rule;
+    munge = in_step.munge;
     size = in_step.size;
     r_w = omega (arith, in_step.r_w);
     within = omega (arith, moved, place, come-le time s.conversions);
     w_room = omega (arith, moved, place, in_step.w_room);
-    held = ap₂ (λ left word_rule. ring.held ++ munged_from word_rule ring.w (take n left)) left in_step.rule
-        ∙ ap (λ xs. xs ++ munged_from s.rule ring.w (take n (drop ring.w s.conversions))) in_step.held
-        ∙ held-more s.rule s.conversions ring.r ring.w n in_step.r_w (omega (arith, some, come-le time s.conversions))
+    held = ap₂ (λ to_come munge. ring.held ++ munged_from munge ring.w (take n to_come)) left in_step.munge
+        ∙ ap (λ xs. xs ++ munged_from (munged_at s.sub s.cmd) ring.w (take n (drop ring.w s.conversions))) in_step.held
+        ∙ held-more (munged_at s.sub s.cmd) s.conversions ring.r ring.w n in_step.r_w (omega (arith, some, come-le time s.conversions))
         ∙ ap (λ k. drop ring.r (take k (samples s))) (sym place);
     ahead = ap₂ (λ left complete. record { conversions = left; complete = complete })
         (ap (drop n) left ∙ drop-drop n ring.w s.conversions ∙ ap (λ k. drop k s.conversions) (sym place)) (ap (λ (b : ToCome). b.complete) in_step.ahead);
@@ -127,14 +127,14 @@ filled-in_step s ring board time cells order in_step some = (
     n : ℕ
     n = moving ring board.conversions time
 
-    behind : come time board.conversions ≡ come time s.conversions - ring.w
-    behind = ap (come time) left ∙ come-drop time ring.w s.conversions order some
+    after : come time board.conversions ≡ come time s.conversions - ring.w
+    after = ap (come time) left ∙ come-drop time ring.w s.conversions order some
 
-    place : ring.w + length (take n board.conversions) ≡ ring.w + n
-    place = omega (arith, length-take n board.conversions, come-le time board.conversions)
+    place : ring.w + length (raw_words (take n board.conversions)) ≡ ring.w + n
+    place = omega (arith, length-map (take n board.conversions) (λ (c : Conv). c.raw), length-take n board.conversions, come-le time board.conversions)
 
     moved : ring.w + n ≡ min (come time s.conversions) (ring.r + s.size)
-    moved = omega (arith, behind, some, in_step.level.w_a, in_step.size, in_step.w_room)
+    moved = omega (arith, after, some, in_step.level.w_a, in_step.size, in_step.w_room)
 
 -- what is taken of a ring's samples is taken of the expansion's
 pub take-held : (s : Schedule) (r w k : ℕ) → r ≤ w → k ≤ w - r → take k (drop r (take w (samples s))) ≡ take k (drop r (samples s))
@@ -143,4 +143,4 @@ take-held s r w k r_w k_w =
     ap (λ i. take k (drop r (take i (samples s)))) there ∙ ap (take k) (drop-take r (w - r) (samples s)) ∙ take-take k (w - r) (drop r (samples s)) k_w
 
 pub length-held : (s : Schedule) (r w : ℕ) → r ≤ w → w ≤ length s.conversions → length (drop r (take w (samples s))) ≡ w - r
-length-held s r w r_w within = omega (arith, length-drop r (take w (samples s)), length-take w (samples s), length-munged_from s.rule 0 s.conversions)
+length-held s r w r_w within = omega (arith, length-drop r (take w (samples s)), length-take w (samples s), length-munged_from (munged_at s.sub s.cmd) 0 s.conversions)

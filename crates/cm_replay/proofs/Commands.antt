@@ -1,6 +1,7 @@
 -- A command's fields against what contracts see.
 use Rattle.std.proofs.Common.{◌≡◌, ℕ, ◌+◌, ◌<◌, ◌≤◌, ◌^◌, List, length, drop, Option, Some, None, Result, Ok, Err, OnOk, refl, sym, ap, ap₂, ◌∙◌, arith, subst, ◌-◌, ◌++◌, min, take, get_or, set, codes, length-drop, length-take, get_or-drop, get_or-take}
 use Rattle.std.proofs.lemmas.Bool.{eq-eqb}
+use Rattle.cm_sample.specs.Rule.{munged_word}
 use Rattle.cm_sample.specs.declared.rule.MungeRule.{MungeRule}
 use Rattle.cm_ring_core.specs.Local.{IsFresh, Ring}
 use Rattle.cm_replay.specs.CommandView.{IsCommand, IsInStep, its_schedule, running_of}
@@ -11,10 +12,11 @@ use Rattle.std.proofs.lemmas.List.{get_or_default}
 use Rattle.cm_board.specs.Board.{SubText}
 use Rattle.cm_cmd.specs.Command.{CmdText}
 use Rattle.cm_expand.specs.Plan.{PlanText}
+use Rattle.cm_expand.specs.Rule.{munged_at}
 use Rattle.cm_replay.specs.Session.{Setting, acted, no_sub, plan_at}
 use Rattle.cm_replay.specs.Running.{Running, Schedule, brought, end_by, moved_on, samples, started, written_by}
 use Rattle.cm_replay.specs.Replies.{Replies, Steps}
-use Rattle.cm_replay.specs.Reply.{Reply, answer_text, cmd_reply, taken, told_end}
+use Rattle.cm_replay.specs.Reply.{Reply, answer_text, cmd_reply, taken, reported_end}
 use Rattle.std.specs.Fmt.{decimal}
 use Rattle.cm_replay.specs.ToCome.{ToCome, end_shown}
 use Rattle.cm_replay.specs.declared.command.Command.TheInside.{Inside}
@@ -36,17 +38,17 @@ abbrev pub later : Inside → ℕ → Ring → ToCome → Option End → Inside
 later c time ring board end = record c { ring = ring; board = board; end = end }
 
 brought-in_step : (c : Inside) → IsCommand c → (time : ℕ) (ring : Ring) (board : ToCome) → c.ring.w ≤ come time (its_schedule c).conversions →
-    ring ≡ filled c.ring c.board.conversions time ring.cells → board ≡ record c.board { conversions = drop (moving c.ring c.board.conversions time) c.board.conversions } →
+    ring ≡ filled c.ring c.board.conversions time → board ≡ record c.board { conversions = drop (moving c.ring c.board.conversions time) c.board.conversions } →
     IsInStep (its_schedule c) ring board × (ring.w ≡ written_by (running_of c) time)
 brought-in_step c command time ring board some moved left =
-    let step = filled-in_step (its_schedule c) c.ring c.board time ring.cells command.planned.order command.in_step some in (
+    let step = filled-in_step (its_schedule c) c.ring c.board time command.planned.order command.in_step some in (
       subst (λ (b : ToCome). IsInStep (its_schedule c) ring b) (sym left)
           (subst (λ (r : Ring). IsInStep (its_schedule c) r (record c.board { conversions = drop (moving c.ring c.board.conversions time) c.board.conversions })) (sym moved) step.0),
       ap (λ (r : Ring). r.w) moved ∙ step.1,
     )
 
 pub brought-command : (c : Inside) → IsCommand c → (time : ℕ) (ring : Ring) (board : ToCome) → c.ring.w ≤ come time (its_schedule c).conversions →
-    ring ≡ filled c.ring c.board.conversions time ring.cells → board ≡ record c.board { conversions = drop (moving c.ring c.board.conversions time) c.board.conversions } →
+    ring ≡ filled c.ring c.board.conversions time → board ≡ record c.board { conversions = drop (moving c.ring c.board.conversions time) c.board.conversions } →
     (end : Option End) → IsCommand (record c { ring = ring; board = board; end = end })
 brought-command c command time ring board some moved left end = record {
   planned = command.planned;
@@ -54,7 +56,7 @@ brought-command c command time ring board some moved left end = record {
 }
 
 pub running-brought : (c : Inside) → IsCommand c → (time : ℕ) (ring : Ring) (board : ToCome) → c.ring.w ≤ come time (its_schedule c).conversions →
-    ring ≡ filled c.ring c.board.conversions time ring.cells → board ≡ record c.board { conversions = drop (moving c.ring c.board.conversions time) c.board.conversions } →
+    ring ≡ filled c.ring c.board.conversions time → board ≡ record c.board { conversions = drop (moving c.ring c.board.conversions time) c.board.conversions } →
     (end : Option End) → c.end ≡ None → end ≡ end_shown board ring.w (its_schedule c).horizon time →
     running_of (record c { ring = ring; board = board; end = end }) ≡ brought time (running_of c)
 running-brought c command time ring board some moved left end runs shown =
@@ -100,15 +102,15 @@ read-answer c command n granted was = ap₂ (λ count words. codes "ok " ++ deci
     long : length words ≡ k
     long = omega (arith, command.in_step.within, length-take k (drop c.ring.r (samples (its_schedule c))), length-drop c.ring.r (samples (its_schedule c)), length-samples (its_schedule c))
 
--- a command of which nothing is left tells its end
-pub told-drained : (c : Running) → c.r ≡ c.w → c.end ≡ told_end c
-told-drained c empty = sym (rw (eq-eqb _ _ empty) refl)
+-- a command of which nothing is left reports its end
+pub reported-drained : (c : Running) → c.r ≡ c.w → c.end ≡ reported_end c
+reported-drained c empty = sym (rw (eq-eqb _ _ empty) refl)
 
 -- an empty ring and a board before its first conversion are in step
-pub fresh-in_step : (s : Schedule) (ring : Ring) (board : ToCome) (rule : MungeRule) (size : ℕ) → IsFresh ring rule size → rule ≡ s.rule → size ≡ s.size → board ≡ record { conversions = s.conversions; complete = s.complete } → IsInStep s ring board
-fresh-in_step s ring board rule size fresh its_rule its_size all = record {
+pub fresh-in_step : (s : Schedule) (ring : Ring) (board : ToCome) (rule : MungeRule) (size : ℕ) → IsFresh ring rule size → munged_word rule ≡ munged_at s.sub s.cmd → size ≡ s.size → board ≡ record { conversions = s.conversions; complete = s.complete } → IsInStep s ring board
+fresh-in_step s ring board rule size fresh munges its_size all = record {
   level = record { m_w = fresh.m ∙ sym fresh.w; w_a = fresh.w ∙ sym fresh.a };
-  rule = fresh.its_rule ∙ its_rule;
+  munge = ap munged_word fresh.its_rule ∙ munges;
   size = fresh.its_size ∙ its_size;
   r_w = omega (arith, fresh.r);
   within = omega (arith, fresh.w);
@@ -121,11 +123,11 @@ fresh-in_step s ring board rule size fresh its_rule its_size all = record {
 -- where none runs a command begins
 pub begun : {E : Type 0} (file : ℕ) (s : Schedule) (running : Option Running) (command : Running) (old new : List ℕ) (result : Result (Unit {0}) E) → running ≡ None → command ≡ started file s →
     OnOk result (new ≡ old ++ codes "ok\n") → OnOk result (Replies (cmd_reply file s running) (Some command) old new)
-begun file s running command old new (Ok u) idle same told = record {
+begun file s running command old new (Ok u) idle same reported = record {
   after = ap Some same ∙ sym (ap (λ (r : Option Running). (cmd_reply file s r).running) idle);
-  told = told ∙ sym (ap (λ (r : Option Running). old ++ answer_text (cmd_reply file s r).answer) idle);
+  reported = reported ∙ sym (ap (λ (r : Option Running). old ++ answer_text (cmd_reply file s r).answer) idle);
 }
-begun file s running command old new (Err e) idle same told = tt
+begun file s running command old new (Err e) idle same reported = tt
 
 -- the plan of a call, by what it is made from
 pub plan-same : (s : Setting) (sub : SubText) (time : ℕ) (cmd : CmdText) (i : ℕ) → i ≡ cmd.sub → sub ≡ get_or s.board.subs i sub → cmd.sub < length s.board.subs →
@@ -139,6 +141,6 @@ pub stepped : {E : Type 0} (sub i : ℕ) (subs : List (Option Running)) (made me
     OnOk result (Replies made running old new) → OnOk result (Steps (acted sub subs meant) (set subs i running) old new)
 stepped sub i subs made meant running old new (Ok u) at same replies = record {
   after = ap₂ (λ n (r : Option Running). set subs n r) at (replies.after ∙ ap (λ (r : Reply). r.running) same);
-  told = replies.told ∙ ap (λ (r : Reply). old ++ answer_text r.answer) same;
+  reported = replies.reported ∙ ap (λ (r : Reply). old ++ answer_text r.answer) same;
 }
 stepped sub i subs made meant running old new (Err e) at same replies = tt

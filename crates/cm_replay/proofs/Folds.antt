@@ -13,7 +13,7 @@ use Rattle.cm_replay.specs.declared.session.Op.TheVariants as ops
 use Rattle.cm_replay.specs.declared.session.SessionLine.{SessionLine}
 use Rattle.cm_replay.proofs.Laws.{length-brought_all}
 
--- what is left is the next line and those behind it
+-- what is left is the next line and those after it
 pub next-line : (lines : List SessionLine) (i : ℕ) (line : SessionLine) → i < length lines → line ≡ get_or lines i line → drop i lines ≡ line ∷ drop (i + 1) lines
 next-line lines i line within is =
     drop-cons lines i line within ∙ ap (λ (x : SessionLine). x ∷ drop (suc i) lines) (sym is) ∙ ap (λ (n : ℕ). line ∷ drop n lines) (sym (add-one i))
@@ -26,7 +26,7 @@ fits_at s time (x ∷ lines) (suc i) line order within is = fits_at s x.time lin
 
 length-act : (s : Setting) (line : SessionLine) (op : Op) (subs : List (Option Running)) → length (act s line op subs).subs ≡ length subs
 length-act s line ops.OpenFile subs = refl
-length-act s line (ops.Cmd accepted) subs = length-set subs accepted.cmd.sub _
+length-act s line (ops.Cmd cmd) subs = length-set subs cmd.sub _
 length-act s line (ops.Read sub n) subs = length-set subs sub _
 
 pub length-step : (s : Setting) (line : SessionLine) (subs : List (Option Running)) → length (step s line subs).subs ≡ length subs
@@ -38,13 +38,13 @@ pub line-answered : (s : Setting) (a b : Option (List ℕ)) (lines : List Sessio
     IsUnderWay a b more (texts (answers s new (drop (i + 1) lines))) whole
 line-answered s a b lines i line subs new text more whole within is made way =
     subst (λ (n : List (Option Running)). IsUnderWay a b more (texts (answers s n (drop (i + 1) lines))) whole) (sym made.after)
-    (under_way-more a b text more (answer_text (step s line subs).answer) (texts (answers s (step s line subs).subs (drop (i + 1) lines))) whole made.told
+    (under_way-more a b text more (answer_text (step s line subs).answer) (texts (answers s (step s line subs).subs (drop (i + 1) lines))) whole made.reported
     (subst (λ (ls : List SessionLine). IsUnderWay a b text (texts (answers s subs ls)) whole) (next-line lines i line within is) way))
 
 pub line-ready : (s : Setting) (lines : List SessionLine) (i : ℕ) (line : SessionLine) (subs : List (Option Running)) → i < length lines → line ≡ get_or lines i line → StayReady s subs (drop i lines) →
     StayReady s subs (line ∷ drop (i + 1) lines)
 line-ready s lines i line subs within is ready = subst (StayReady s subs) (next-line lines i line within is) ready
 
--- behind the last line nothing is left to answer
+-- after the last line nothing is left to answer
 pub all-answered : (s : Setting) (subs : List (Option Running)) (lines : List SessionLine) (i : ℕ) → length lines ≤ i → texts (answers s subs (drop i lines)) ≡ []
-all-answered s subs lines i behind = ap (λ (ls : List SessionLine). texts (answers s subs ls)) (drop_all i lines behind)
+all-answered s subs lines i after = ap (λ (ls : List SessionLine). texts (answers s subs ls)) (drop_all i lines after)

@@ -77,15 +77,15 @@ later-lawful before time c later lawful = record {
   end = lawful.end;
 }
 
-pub brought-keeps : (before time : ℕ) (told : ℕ) (running : Option Running) → before ≤ time → Keeps before told running → Keeps time told (option_map (brought time) running)
-brought-keeps before time told None later kept = tt
-brought-keeps before time told (Some c) later kept = by_end c.end refl
+pub brought-keeps : (before time : ℕ) (reported : ℕ) (running : Option Running) → before ≤ time → Keeps before reported running → Keeps time reported (option_map (brought time) running)
+brought-keeps before time reported None later kept = tt
+brought-keeps before time reported (Some c) later kept = by_end c.end refl
   where
-    by_end : (e : Option End) → c.end ≡ e → Keeps time told (Some (brought time c))
+    by_end : (e : Option End) → c.end ≡ e → Keeps time reported (Some (brought time c))
     by_end None runs = rw (moves time c runs) (moved_on-lawful before time c later kept.0, kept.1)
     by_end (Some e) ended = rw (stays time c e ended) (later-lawful before time c later kept.0, kept.1)
 
--- what a line did is well where its answer continues what was told, and the command stays lawful
+-- what a line did is well where its answer continues what was reported, and the command stays lawful
 abbrev IsWell : ℕ → ℕ → Option Running → Reply → Type 0
 IsWell time gone running reply = Continues reply.answer gone running × Keeps time (gone_after gone reply.answer) reply.running
 
@@ -182,17 +182,17 @@ acted-well time sub gone subs reply within kept well = record {
   many = length-set subs sub reply.running;
 }
 
-pub act-well : (s : Setting) (line : SessionLine) (op : Op) (gone : ℕ → ℕ) (subs : List (Option Running)) → signals.IsSound s.signals → line.time ≤ s.signals.horizon → Fits s.board op →
+pub act-well : (s : Setting) (line : SessionLine) (op : Op) (gone : ℕ → ℕ) (subs : List (Option Running)) → signals.IsSoundSignals s.signals → line.time ≤ s.signals.horizon → Fits s.board op →
     length subs ≡ length s.board.subs → AllKeep line.time gone subs → StepsWell line.time (named_sub op) gone subs (act s line op subs)
 act-well s line ops.OpenFile gone subs sound by fits many kept = record {
   answer = tt;
   kept = λ i. subst (λ n. Keeps line.time n (at_sub subs i)) (sym (gone-fine gone i)) (kept i);
   many = refl;
 }
-act-well s line (ops.Cmd accepted) gone subs sound by fits many kept =
-    acted-well line.time accepted.cmd.sub gone subs (cmd_reply line.file (schedule_of (plan_at s line.time accepted.cmd)) (at_sub subs accepted.cmd.sub))
+act-well s line (ops.Cmd cmd) gone subs sound by fits many kept =
+    acted-well line.time cmd.sub gone subs (cmd_reply line.file (schedule_of (plan_at s line.time cmd)) (at_sub subs cmd.sub))
     (omega (arith, fits.within, many)) kept
-    (cmd-well line.file line.time (gone accepted.cmd.sub) (schedule_of (plan_at s line.time accepted.cmd)) (at_sub subs accepted.cmd.sub) (planned s line.time accepted.cmd sound by fits).cut (kept accepted.cmd.sub))
+    (cmd-well line.file line.time (gone cmd.sub) (schedule_of (plan_at s line.time cmd)) (at_sub subs cmd.sub) (planned s line.time cmd sound by fits).cut (kept cmd.sub))
 act-well s line (ops.Read sub n) gone subs sound by fits many kept =
     acted-well line.time sub gone subs (read_reply n (at_sub subs sub)) (omega (arith, fits, many)) kept (read-well n line.time (gone sub) (at_sub subs sub) (kept sub))
 
@@ -200,12 +200,12 @@ pub length-brought_all : (time : ℕ) (subs : List (Option Running)) → length 
 length-brought_all time subs = length-map subs (option_map (brought time))
 
 -- one line, with all commands brought to its time
-pub step-well : (s : Setting) (before : ℕ) (line : SessionLine) (gone : ℕ → ℕ) (subs : List (Option Running)) → signals.IsSound s.signals → before ≤ line.time → line.time ≤ s.signals.horizon → Fits s.board line.op →
+pub step-well : (s : Setting) (before : ℕ) (line : SessionLine) (gone : ℕ → ℕ) (subs : List (Option Running)) → signals.IsSoundSignals s.signals → before ≤ line.time → line.time ≤ s.signals.horizon → Fits s.board line.op →
     length subs ≡ length s.board.subs → AllKeep before gone subs → StepsWell line.time (named_sub line.op) gone (brought_all line.time subs) (step s line subs)
 step-well s before line gone subs sound after by fits many kept =
     act-well s line line.op gone (brought_all line.time subs) sound by fits (length-brought_all line.time subs ∙ many) (all-brought before line.time gone subs after kept)
 
-goes_well : (s : Setting) (time : ℕ) (gone : ℕ → ℕ) (subs : List (Option Running)) (lines : List SessionLine) → signals.IsSound s.signals → length subs ≡ length s.board.subs → AllKeep time gone subs → InOrder s time lines → GoesWell s gone subs lines
+goes_well : (s : Setting) (time : ℕ) (gone : ℕ → ℕ) (subs : List (Option Running)) (lines : List SessionLine) → signals.IsSoundSignals s.signals → length subs ≡ length s.board.subs → AllKeep time gone subs → InOrder s time lines → GoesWell s gone subs lines
 goes_well s time gone subs [] sound many kept order = tt
 goes_well s time gone subs (line ∷ rest) sound many kept order =
     let well = step-well s time line gone subs sound order.0 order.1 order.2 many kept in (
@@ -237,7 +237,7 @@ ready time later gone None kept after small = small
 ready time later gone (Some c) kept after small = (small, omega (arith, kept.0.w_come, come-later time later c.schedule.conversions after))
 
 -- a lawful session stays ready
-stay_ready : (s : Setting) (time : ℕ) (gone : ℕ → ℕ) (subs : List (Option Running)) (lines : List SessionLine) → signals.IsSound s.signals → length subs ≡ length s.board.subs → AllKeep time gone subs → InOrder s time lines → StayReady s subs lines
+stay_ready : (s : Setting) (time : ℕ) (gone : ℕ → ℕ) (subs : List (Option Running)) (lines : List SessionLine) → signals.IsSoundSignals s.signals → length subs ≡ length s.board.subs → AllKeep time gone subs → InOrder s time lines → StayReady s subs lines
 stay_ready s time gone subs [] sound many kept order = tt
 stay_ready s time gone subs (line ∷ rest) sound many kept order =
     let well = step-well s time line gone subs sound order.0 order.1 order.2 many kept in

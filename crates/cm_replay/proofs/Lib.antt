@@ -4,7 +4,7 @@ pub mod Come
 pub mod Commands
 pub mod Fillings
 pub mod Folds
-pub mod Fronts
+pub mod Prefixes
 pub mod Laws
 pub mod Mapped
 pub mod Plans

@@ -1,43 +1,32 @@
 -- What is planned for an accepted command.
-use Rattle.std.proofs.Common.{◌≡◌, ℕ, zero, suc, ◌+◌, ◌%◌, ◌<◌, ◌≤◌, Bool, true, false, List, [], ◌∷◌, length, get_or, None, Option, Some, refl, sym, ap, ◌∙◌, subst, arith, inl, inr, mod-lt}
+use Rattle.std.proofs.Common.{◌≡◌, ℕ, zero, suc, ◌+◌, ◌%◌, ◌<◌, ◌≤◌, Bool, true, false, List, [], ◌∷◌, length, get_or, refl, sym, ap, ◌∙◌, subst, arith, mod-lt}
 use Rattle.std.specs.Prelude.{if◌then◌else◌, slice_index}
 use Rattle.std.proofs.lemmas.Bool.{cond-false}
 use Rattle.cm_cmd.specs.Command.{CmdText}
 use Rattle.cm_cmd.specs.Entry.{chan}
-use Rattle.cm_board.specs.Board.{maxdata_of, munge_of}
+use Rattle.cm_board.specs.Board.{maxdata_of}
 use Rattle.cm_sample.specs.Munging.{munged}
-use Rattle.cm_sample.specs.Rule.{IsRule, munged_word}
-use Rattle.cm_sample.specs.declared.rule.MungeRule.{MungeRule}
 use Rattle.cm_signal.specs.Signals as signals
-use Rattle.cm_expand.specs.Fit.{IsExpansion, IsFit}
-use Rattle.cm_expand.specs.Items.{conv_at, input_at, items_of, map_from, raw_of}
+use Rattle.cm_expand.specs.Fit.{IsExpansion}
+use Rattle.cm_sample.specs.Rule.{map_from}
+use Rattle.cm_expand.specs.Items.{conv_at, input_at, items_of, raw_of}
 use Rattle.cm_expand.specs.Laws.{AreUpTo, NeverFall}
 use Rattle.cm_expand.specs.Plan.{PlanText, times_of}
-use Rattle.cm_expand.specs.Rule.{is_output, is_raw, rule_of}
-use Rattle.cm_expand.specs.declared.conv.Conv.{Conv}
+use Rattle.cm_expand.specs.Rule.{is_output, is_raw, munged_at}
 use Rattle.cm_expand.proofs.Counted.{items_counted}
-use Rattle.cm_expand.proofs.Codes.{may_shift, munge_fits}
 use Rattle.cm_expand.proofs.Fits.{fit}
 use Rattle.cm_expand.proofs.Sound.{IsSoundPlan, expansion_of, length-times_of}
-use Rattle.cm_replay.specs.Conversions.{NeverFalls, NoneBefore, come, munged_from}
-use Rattle.cm_replay.specs.Format.{Format, IsFormat, IsSample}
+use Rattle.cm_replay.specs.Conversions.{NeverFallsFrom, come, munged_from}
+use Rattle.cm_replay.specs.Format.{IsSample}
 use Rattle.cm_replay.specs.Job.{CanRun}
 use Rattle.cm_replay.specs.Planned.{IsSchedule}
 use Rattle.cm_replay.specs.Schedules.{format_of, schedule_of}
 use Rattle.cm_replay.specs.Session.{Setting, plan_at}
 use Rattle.cm_replay.proofs.Come.{come-first}
 
-sooner : (low time : ℕ) (cs : List Conv) → low ≤ time → NoneBefore time cs → NoneBefore low cs
-sooner low time [] h none = tt
-sooner low time (c ∷ cs) h none = (omega (arith, none.0), sooner low time cs h none.1)
-
-none_before : (p : PlanText) (place low : ℕ) (ts : List ℕ) → NeverFall low ts → NoneBefore low (map_from (conv_at p) place ts)
-none_before p place low [] order = tt
-none_before p place low (t ∷ ts) order = (order.0, sooner low t (map_from (conv_at p) (suc place) ts) order.0 (none_before p (suc place) t ts order.1))
-
-never_falls : (p : PlanText) (place low : ℕ) (ts : List ℕ) → NeverFall low ts → NeverFalls (map_from (conv_at p) place ts)
+never_falls : (p : PlanText) (place low : ℕ) (ts : List ℕ) → NeverFall low ts → NeverFallsFrom low (map_from (conv_at p) place ts)
 never_falls p place low [] order = tt
-never_falls p place low (t ∷ ts) order = (none_before p (suc place) t ts order.1, never_falls p (suc place) t ts order.1)
+never_falls p place low (t ∷ ts) order = (order.0, never_falls p (suc place) t ts order.1)
 
 all_come : (p : PlanText) (place high : ℕ) (ts : List ℕ) → AreUpTo high ts → come high (map_from (conv_at p) place ts) ≡ length (map_from (conv_at p) place ts)
 all_come p place high [] up = refl
@@ -49,8 +38,8 @@ code_by true out word other code most r o h = cc
 code_by false true word other code most r o h = cc
 code_by false false word other code most r o h = h
 
--- the munged word of each place of an input can be told
-one_sample : (p : PlanText) (place time : ℕ) → IsExpansion p → 1 ≤ length p.cmd.list → is_output p.sub.kind ≡ false → IsSample (format_of p) place (munged_word (rule_of p.sub p.cmd) place (conv_at p place time).raw)
+-- the munged word of each place of an input can be reported
+one_sample : (p : PlanText) (place time : ℕ) → IsExpansion p → 1 ≤ length p.cmd.list → is_output p.sub.kind ≡ false → IsSample (format_of p) place (munged_at p.sub p.cmd place (conv_at p place time).raw)
 one_sample p place time is some input = λ raw.
     let index : place % length p.cmd.list < length p.cmd.list = mod-lt place (omega arith) in
     let entry = slice_index p.cmd.list (place % length p.cmd.list) in
@@ -61,14 +50,14 @@ one_sample p place time is some input = λ raw.
     code_by (is_raw p.cmd.flags) (is_output p.sub.kind) _ _ _ _ raw input same
 
 samples_from : (p : PlanText) (place : ℕ) (ts : List ℕ) → IsExpansion p → 1 ≤ length p.cmd.list → is_output p.sub.kind ≡ false → (i : ℕ) → i < length ts →
-    IsSample (format_of p) (place + i) (get_or (munged_from (rule_of p.sub p.cmd) place (map_from (conv_at p) place ts)) i 0)
+    IsSample (format_of p) (place + i) (get_or (munged_from (munged_at p.sub p.cmd) place (map_from (conv_at p) place ts)) i 0)
 samples_from p place [] is some input i below = absurd (omega arith)
 samples_from p place (t ∷ ts) is some input zero below =
     let here : place ≡ place + 0 = omega arith in
-    subst (λ n. IsSample (format_of p) n (munged_word (rule_of p.sub p.cmd) place (conv_at p place t).raw)) here (one_sample p place t is some input)
+    subst (λ n. IsSample (format_of p) n (munged_at p.sub p.cmd place (conv_at p place t).raw)) here (one_sample p place t is some input)
 samples_from p place (t ∷ ts) is some input (suc i) below =
     let here : suc place + i ≡ place + suc i = omega arith in
-    subst (λ n. IsSample (format_of p) n (get_or (munged_from (rule_of p.sub p.cmd) (suc place) (map_from (conv_at p) (suc place) ts)) i 0)) here
+    subst (λ n. IsSample (format_of p) n (get_or (munged_from (munged_at p.sub p.cmd) (suc place) (map_from (conv_at p) (suc place) ts)) i 0)) here
     (samples_from p (suc place) ts is some input i (omega arith))
 
 -- the schedule of each sound plan of an input keeps its rules
@@ -84,15 +73,14 @@ planned-schedule p sound input =
       soon = omega (arith, sound.signals.horizon);
       nonempty = sound.sub.buffer.low;
       small = sound.sub.buffer.high;
-      rule = record { len = fits.some; shift = may_shift p.sub.munge (munge_fits p.sub sound.sub.munge).0 };
       format = record { some = fits.some; channels = fits.channels; ranges = fits.ranges };
       codes = λ place below.
           let here : 0 + place ≡ place = omega arith in
-          subst (λ n. IsSample (format_of p) n (get_or (munged_from (rule_of p.sub p.cmd) 0 (items_of p)) place 0)) here
+          subst (λ n. IsSample (format_of p) n (get_or (munged_from (munged_at p.sub p.cmd) 0 (items_of p)) place 0)) here
           (samples_from p 0 (times_of p) is fits.some input place (omega (arith, many)));
     }
 
-pub sound_plan : (s : Setting) (time : ℕ) (cmd : CmdText) → signals.IsSound s.signals → time ≤ s.signals.horizon → CanRun s.board cmd → IsSoundPlan (plan_at s time cmd)
+pub sound_plan : (s : Setting) (time : ℕ) (cmd : CmdText) → signals.IsSoundSignals s.signals → time ≤ s.signals.horizon → CanRun s.board cmd → IsSoundPlan (plan_at s time cmd)
 sound_plan s time cmd sound by can = record {
   sub = can.sound;
   signals = sound;
@@ -100,5 +88,5 @@ sound_plan s time cmd sound by can = record {
 }
 
 -- the schedule of each accepted command keeps its rules
-pub planned : (s : Setting) (time : ℕ) (cmd : CmdText) → signals.IsSound s.signals → time ≤ s.signals.horizon → CanRun s.board cmd → IsSchedule (schedule_of (plan_at s time cmd))
+pub planned : (s : Setting) (time : ℕ) (cmd : CmdText) → signals.IsSoundSignals s.signals → time ≤ s.signals.horizon → CanRun s.board cmd → IsSchedule (schedule_of (plan_at s time cmd))
 planned s time cmd sound by can = planned-schedule (plan_at s time cmd) (sound_plan s time cmd sound by can) can.input

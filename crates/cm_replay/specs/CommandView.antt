@@ -1,8 +1,10 @@
 -- How contracts see a command: as a record of its plan and its places.
 use Rattle.std.specs.Prelude.{◌≡◌, ◌+◌, ◌≤◌, length, take, drop}
 use Rattle.cm_expand.specs.PlanView.{plan_text}
+use Rattle.cm_expand.specs.Rule.{munged_at}
 use Rattle.cm_ring_core.specs.Local.{Ring}
 use Rattle.cm_ring_core.specs.Local.{IsLevel}
+use Rattle.cm_sample.specs.Rule.{munged_word}
 use Rattle.cm_replay.specs.Planned.{IsSchedule}
 use Rattle.cm_replay.specs.Running.{Running, Schedule, samples}
 use Rattle.cm_replay.specs.Schedules.{schedule_of}
@@ -23,10 +25,10 @@ running_of c = record {
   end = c.end;
 }
 
--- the ring and the board stand where the schedule says: samples from r to w are in the ring, and conversions from w on are to come
+-- the ring and the board stand where the schedule says: the ring munges as the command asks, samples from r to w are in the ring, and conversions from w on are to come
 pub record IsInStep (s : Schedule) (ring : Ring) (board : ToCome) : Type 0 where
   pub level : IsLevel ring
-  pub rule : ring.rule ≡ s.rule
+  pub munge : munged_word ring.rule ≡ munged_at s.sub s.cmd
   pub size : ring.size ≡ s.size
   pub r_w : ring.r ≤ ring.w
   pub within : ring.w ≤ length s.conversions

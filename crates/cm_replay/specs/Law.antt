@@ -16,6 +16,7 @@ abbrev pub IsDue : End → ℕ → ℕ → Type 0
 IsDue (Overrun k) w all = (w ≡ k) × (k < all)
 IsDue quiet w all = w ≡ all
 
+-- an end that is reported is due
 abbrev pub IsDueIfAny : Option End → ℕ → ℕ → Type 0
 IsDueIfAny None w all = Unit {0}
 IsDueIfAny (Some e) w all = IsDue e w all
@@ -36,7 +37,7 @@ abbrev pub Keeps : ℕ → ℕ → Option Running → Type 0
 Keeps time gone None = Unit {0}
 Keeps time gone (Some c) = IsLawful time c × (gone ≡ c.r)
 
--- an answer has the next samples, or tells an end where nothing is left
+-- an answer has the next samples, or reports an end where nothing is left
 abbrev pub Continues : Answer → ℕ → Option Running → Type 0
 Continues (Taken f place words) gone (Some c) = (place ≡ gone) × (words ≡ take (length words) (drop place (samples c.schedule)))
 Continues (Ended e) gone (Some c) = (c.r ≡ c.w) × IsDue e c.w (length c.schedule.conversions)
@@ -53,7 +54,7 @@ gone_after gone other = gone
 -- the subdevice of which a line speaks
 abbrev pub named_sub : Op → ℕ
 named_sub ops.OpenFile = 0
-named_sub (ops.Cmd accepted) = accepted.cmd.sub
+named_sub (ops.Cmd cmd) = cmd.sub
 named_sub (ops.Read sub n) = sub
 
 -- how many samples of each subdevice are gone after an answer
@@ -73,33 +74,34 @@ abbrev pub SessionLaw : Type 0
 SessionLaw = (job : JobText) → IsJob job → GoesWell (setting_of job) (λ i. 0) (idle_subs (setting_of job)) job.lines
 
 -- the samples that were marked as read since the last command started
-abbrev pub told_after : List ℕ → Answer → List ℕ
-told_after told Begun = []
-told_after told (Taken f place words) = told ++ words
-told_after told other = told
+abbrev pub reported_after : List ℕ → Answer → List ℕ
+reported_after reported Begun = []
+reported_after reported (Taken f place words) = reported ++ words
+reported_after reported other = reported
 
-abbrev pub told_of : (ℕ → List ℕ) → ℕ → Answer → ℕ → List ℕ
-told_of told sub answer i = if nat_eq i sub then told_after (told i) answer else told i
+-- the samples of each subdevice that were marked as read since its last command started, after an answer
+abbrev pub reported_of : (ℕ → List ℕ) → ℕ → Answer → ℕ → List ℕ
+reported_of reported sub answer i = if nat_eq i sub then reported_after (reported i) answer else reported i
 
--- what was marked as read of a command is the front of its samples up to place r
-abbrev pub IsFront : List ℕ → Option Running → Type 0
-IsFront told None = Unit {0}
-IsFront told (Some c) = told ≡ take c.r (samples c.schedule)
+-- what was marked as read of a command is the prefix of its samples up to place r
+abbrev pub IsPrefix : List ℕ → Option Running → Type 0
+IsPrefix reported None = Unit {0}
+IsPrefix reported (Some c) = reported ≡ take c.r (samples c.schedule)
 
--- an end is told where all was read that was written: the whole, or exactly `k` samples of more
+-- an end is reported where all was read that was written: the whole, or exactly `k` samples of more
 abbrev pub EndsWell : Answer → List ℕ → Option Running → Type 0
-EndsWell (Ended (Overrun k)) told (Some c) = (length told ≡ k) × (k < length (samples c.schedule))
-EndsWell (Ended quiet) told (Some c) = told ≡ samples c.schedule
-EndsWell other told running = Unit {0}
+EndsWell (Ended (Overrun k)) reported (Some c) = (length reported ≡ k) × (k < length (samples c.schedule))
+EndsWell (Ended quiet) reported (Some c) = reported ≡ samples c.schedule
+EndsWell other reported running = Unit {0}
 
--- at every line what was marked as read is a front of the munged expansion, and the whole where the answer is `done` or `dry`
-abbrev pub ReadsFronts : Setting → (ℕ → List ℕ) → List (Option Running) → List SessionLine → Type 0
-ReadsFronts s told subs [] = Unit {0}
-ReadsFronts s told subs (line ∷ rest) =
-    ((i : ℕ) → IsFront (told i) (at_sub (brought_all line.time subs) i))
-    × EndsWell (step s line subs).answer (told (named_sub line.op)) (at_sub (brought_all line.time subs) (named_sub line.op))
-    × ReadsFronts s (told_of told (named_sub line.op) (step s line subs).answer) (step s line subs).subs rest
+-- at every line what was marked as read is a prefix of the munged expansion, and the whole where the answer is `done` or `dry`
+abbrev pub ReadsPrefixes : Setting → (ℕ → List ℕ) → List (Option Running) → List SessionLine → Type 0
+ReadsPrefixes s reported subs [] = Unit {0}
+ReadsPrefixes s reported subs (line ∷ rest) =
+    ((i : ℕ) → IsPrefix (reported i) (at_sub (brought_all line.time subs) i))
+    × EndsWell (step s line subs).answer (reported (named_sub line.op)) (at_sub (brought_all line.time subs) (named_sub line.op))
+    × ReadsPrefixes s (reported_of reported (named_sub line.op) (step s line subs).answer) (step s line subs).subs rest
 
--- what is marked as read is a prefix of the munged expansion in trigger order, and the whole where `done` or `dry` is told
+-- what is marked as read is a prefix of the munged expansion in trigger order, and the whole where `done` or `dry` is reported
 abbrev pub PrefixLaw : Type 0
-PrefixLaw = (job : JobText) → IsJob job → ReadsFronts (setting_of job) (λ i. []) (idle_subs (setting_of job)) job.lines
+PrefixLaw = (job : JobText) → IsJob job → ReadsPrefixes (setting_of job) (λ i. []) (idle_subs (setting_of job)) job.lines

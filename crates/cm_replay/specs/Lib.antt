@@ -12,4 +12,5 @@ pub mod Reply
 pub mod Running
 pub mod Schedules
 pub mod Session
+pub mod SettingView
 pub mod ToCome

@@ -1,11 +1,10 @@
 -- What the schedule of each accepted command keeps.
 use Rattle.std.specs.Prelude.{◌≡◌, ℕ, ◌<◌, ◌≤◌, ◌^◌, length, slice_index}
-use Rattle.cm_sample.specs.Rule.{IsRule}
 use Rattle.cm_replay.specs.Conversions.{come, NeverFalls}
 use Rattle.cm_replay.specs.Format.{IsFormat, IsSample}
 use Rattle.cm_replay.specs.Running.{Schedule, samples}
 
--- times never fall and end at the horizon, the buffer can be opened, and each sample can be told
+-- times never fall and end at the horizon, the buffer can be opened, and each sample can be reported
 pub record IsSchedule (s : Schedule) : Type 0 where
   pub order : NeverFalls s.conversions
   pub cut : come s.horizon s.conversions ≡ length s.conversions
@@ -13,6 +12,5 @@ pub record IsSchedule (s : Schedule) : Type 0 where
   pub soon : s.horizon < 2 ^ 62
   pub nonempty : 1 ≤ s.size
   pub small : s.size ≤ 65536
-  pub rule : IsRule s.rule
   pub format : IsFormat s.format
   pub codes : (place : ℕ) → place < length s.conversions → IsSample s.format place (slice_index (samples s) place)

@@ -10,12 +10,12 @@ use Rattle.cm_replay.specs.declared.session.SessionLine.{SessionLine}
 -- the command is the reply's, and the reply's answer is appended to the text
 pub record Replies (reply : Reply) (running : Option Running) (old new : List ℕ) : Type 0 where
   pub after : running ≡ reply.running
-  pub told : new ≡ old ++ answer_text reply.answer
+  pub reported : new ≡ old ++ answer_text reply.answer
 
 -- the same for the commands of all subdevices
 pub record Steps (step : Step) (subs : List (Option Running)) (old new : List ℕ) : Type 0 where
   pub after : subs ≡ step.subs
-  pub told : new ≡ old ++ answer_text step.answer
+  pub reported : new ≡ old ++ answer_text step.answer
 
 -- a command can be brought to a time: all that is written has come by then
 abbrev pub IsReady : ℕ → Option Running → Type 0

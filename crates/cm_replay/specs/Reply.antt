@@ -25,9 +25,9 @@ abbrev pub cmd_reply : ℕ → Schedule → Option Running → Reply
 cmd_reply file schedule None = record { answer = Begun; running = Some (started file schedule) }
 cmd_reply file schedule (Some c) = record { answer = Refused 16; running = Some c }
 
--- the end that is told: only where nothing is left to read
-abbrev pub told_end : Running → Option End
-told_end c = if nat_eq c.r c.w then c.end else None
+-- the end that is reported: only where nothing is left to read
+abbrev pub reported_end : Running → Option End
+reported_end c = if nat_eq c.r c.w then c.end else None
 
 -- a command of which up to `n` more samples were read
 abbrev pub read_on : ℕ → Running → Running
@@ -40,7 +40,7 @@ taken n c = record {
   running = Some (read_on n c);
 }
 
--- where an end is told, the subdevice is idle afterwards
+-- where an end is reported, the subdevice is idle afterwards
 abbrev pub read_command : ℕ → Running → Option End → Reply
 read_command n c None = taken n c
 read_command n c (Some e) = record { answer = Ended e; running = None }
@@ -48,13 +48,15 @@ read_command n c (Some e) = record { answer = Ended e; running = None }
 -- what a read of up to `n` samples does
 abbrev pub read_reply : ℕ → Option Running → Reply
 read_reply n None = record { answer = Idle; running = None }
-read_reply n (Some c) = read_command n c (told_end c)
+read_reply n (Some c) = read_command n c (reported_end c)
 
+-- the answer that reports an end
 abbrev pub end_text : End → List ℕ
 end_text Done = codes "ok 0 done\n"
 end_text Dry = codes "ok 0 dry\n"
 end_text (Overrun k) = codes "err 32 overrun " ++ decimal k ++ codes "\n"
 
+-- the text of an answer
 abbrev pub answer_text : Answer → List ℕ
 answer_text Fine = codes "ok\n"
 answer_text Begun = codes "ok\n"

@@ -1,19 +1,22 @@
 -- A command that runs, and what the passing of time does to it.
 use Rattle.std.specs.Prelude.{ℕ, ◌+◌, min, Bool, nat_eq, nat_lt, List, length, Option, Some, None, if◌then◌else◌}
+use Rattle.cm_board.specs.Board.{SubText}
+use Rattle.cm_cmd.specs.Command.{CmdText}
+use Rattle.cm_expand.specs.Rule.{munged_at}
 use Rattle.cm_expand.specs.declared.conv.Conv.{Conv}
-use Rattle.cm_sample.specs.declared.rule.MungeRule.{MungeRule}
 use Rattle.cm_replay.specs.Conversions.{come, munged_from}
 use Rattle.cm_replay.specs.Format.{Format}
 use Rattle.cm_replay.specs.declared.ending.End.{End}
 use Rattle.cm_replay.specs.declared.ending.End.TheVariants.{Done, Dry, Overrun}
 
--- what is planned for a command: its expansion, whether nothing of it is cut off, the buffer that takes it, and how its samples are told
+-- what is planned for a command of a subdevice: its expansion, whether nothing of it is cut off, the buffer that takes it, and how its samples are reported
 pub record Schedule : Type 0 where
+  pub sub : SubText
+  pub cmd : CmdText
   pub conversions : List Conv
   pub complete : Bool
   pub horizon : ℕ
   pub size : ℕ
-  pub rule : MungeRule
   pub format : Format
 
 -- a command that runs: its file, what is planned for it, its places, and its end where it has come
@@ -30,9 +33,9 @@ pub record Running : Type 0 where
 abbrev pub started : ℕ → Schedule → Running
 started file schedule = record { file = file; schedule = schedule; r = 0; ra = 0; w = 0; a = 0; end = None }
 
--- all samples of a command, munged
+-- all samples of a command, each munged as its list entry asks
 abbrev pub samples : Schedule → List ℕ
-samples s = munged_from s.rule 0 s.conversions
+samples s = munged_from (munged_at s.sub s.cmd) 0 s.conversions
 
 abbrev pub some_if : {T : Type 0} → Bool → T → Option T
 some_if test x = if test then Some x else None

@@ -2,7 +2,7 @@
 use Rattle.cm_expand.specs.Items.{items_of}
 use Rattle.cm_expand.specs.Plan.{is_complete}
 use Rattle.cm_expand.specs.Plan.{PlanText}
-use Rattle.cm_expand.specs.Rule.{is_raw, rule_of}
+use Rattle.cm_expand.specs.Rule.{is_raw}
 use Rattle.cm_replay.specs.Format.{Format}
 use Rattle.cm_replay.specs.Running.{Schedule}
 
@@ -11,10 +11,11 @@ format_of p = record { sub = p.sub; list = p.cmd.list; raw = is_raw p.cmd.flags 
 
 abbrev pub schedule_of : PlanText → Schedule
 schedule_of p = record {
+  sub = p.sub;
+  cmd = p.cmd;
   conversions = items_of p;
   complete = is_complete p;
   horizon = p.signals.horizon;
   size = p.sub.buffer;
-  rule = rule_of p.sub p.cmd;
   format = format_of p;
 }

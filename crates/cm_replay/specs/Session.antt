@@ -62,23 +62,26 @@ brought_all time subs = map (option_map (brought time)) subs
 abbrev pub at_sub : List (Option Running) → ℕ → Option Running
 at_sub subs sub = get_or subs sub None
 
+-- the step of a session in which one subdevice replies
 abbrev pub acted : ℕ → List (Option Running) → Reply → Step
 acted sub subs reply = record { answer = reply.answer; subs = set subs sub reply.running }
 
 -- what a line does once all commands are brought to its time
 abbrev pub act : Setting → SessionLine → Op → List (Option Running) → Step
 act s line ops.OpenFile subs = record { answer = Fine; subs = subs }
-act s line (ops.Cmd accepted) subs = acted accepted.cmd.sub subs (cmd_reply line.file (schedule_of (plan_at s line.time accepted.cmd)) (at_sub subs accepted.cmd.sub))
+act s line (ops.Cmd cmd) subs = acted cmd.sub subs (cmd_reply line.file (schedule_of (plan_at s line.time cmd)) (at_sub subs cmd.sub))
 act s line (ops.Read sub n) subs = acted sub subs (read_reply n (at_sub subs sub))
 
 -- the session step
 abbrev pub step : Setting → SessionLine → List (Option Running) → Step
 step s line subs = act s line line.op (brought_all line.time subs)
 
+-- the answers to the lines of a session, one for each
 abbrev pub answers : Setting → List (Option Running) → List SessionLine → List Answer
 answers s subs [] = []
 answers s subs (line ∷ rest) = (step s line subs).answer ∷ answers s (step s line subs).subs rest
 
+-- the texts of answers, one after another
 abbrev pub texts : List Answer → List ℕ
 texts [] = []
 texts (a ∷ rest) = answer_text a ++ texts rest

@@ -1,23 +1,17 @@
 -- What a board still has to give.
-use Rattle.std.specs.Prelude.{◌≡◌, ℕ, ◌≤◌, Bool, nat_eq, nat_le, List, [], ◌∷◌, Option, Some, None, if◌then◌else◌}
+use Rattle.std.specs.Prelude.{ℕ, Bool, nat_eq, nat_le, List, [], ◌∷◌, Option, Some, if◌then◌else◌}
 use Rattle.cm_expand.specs.Items.{items_of}
 use Rattle.cm_expand.specs.Plan.{is_complete}
 use Rattle.cm_expand.specs.Plan.{PlanText}
-use Rattle.cm_replay.specs.Conversions.{come}
 use Rattle.cm_replay.specs.Running.{some_if}
 use Rattle.cm_expand.specs.declared.conv.Conv.{Conv}
 use Rattle.cm_replay.specs.declared.ending.End.{End}
 use Rattle.cm_replay.specs.declared.ending.End.TheVariants.{Done, Dry, Overrun}
 
--- the conversions to come, and whether none behind them is cut off
+-- the conversions to come, and whether none after them is cut off
 pub record ToCome : Type 0 where
   pub conversions : List Conv
   pub complete : Bool
-
--- what gives the next conversion where it has come by a time
-abbrev pub GivesBy : ℕ → Option Conv → List Conv → List Conv → Type 0
-GivesBy time None old new = (new ≡ old) × (come time old ≡ 0)
-GivesBy time (Some c) old new = (old ≡ c ∷ new) × (c.time ≤ time)
 
 -- the end that comes when nothing is left to come
 abbrev pub quiet_end_shown : Bool → ℕ → ℕ → Option End

@@ -6,7 +6,7 @@ use cm_signal::signals::Signals;
 use std::marker::Model;
 
 /// A board, its signals, and the lines of a session over them: no line is before an earlier one or
-/// behind the horizon, and each names a subdevice of the board, which accepts the line's command.
+/// after the horizon, and each names a subdevice of the board, which accepts the line's command.
 #[derive(Drop)]
 pub struct Job {
     pub board: BoardDesc,

@@ -8,7 +8,7 @@ pub fn sessions_go_well()
 {}
 
 /// What a client marks as read is a prefix of the command's munged expansion in trigger order. It is
-/// the whole where `done` or `dry` is told, and `overrun k` follows exactly k samples of more.
+/// the whole where `done` or `dry` is reported, and `overrun k` follows exactly k samples of more.
 pub fn what_is_read_is_a_prefix()
     ensures { PrefixLaw }
 {}

@@ -9,4 +9,7 @@ pub mod job;
 pub mod law;
 pub mod replay;
 pub mod session;
+pub mod setting;
+#[cfg(test)]
+mod tests;
 pub mod text;

@@ -1,4 +1,6 @@
 pub mod Cells
 pub mod Munged
 pub mod Rings
+pub mod Stored
 pub mod Views
+pub mod Written

@@ -5,7 +5,6 @@ use Rattle.std.proofs.lemmas.Bool.{cases_eq}
 use Rattle.std.proofs.lemmas.Bool.Decides.{nat_tests}
 use Rattle.cm_sample.specs.Rule.{munged_word, map_from}
 use Rattle.cm_ring_core.specs.Between.{munged_between}
-use Rattle.cm_ring_core.specs.Local.{Ring, IsRing}
 use Rattle.cm_sample.specs.declared.rule.MungeRule.{MungeRule}
 
 pub length-map_from : (f : ℕ → ℕ → ℕ) (place : ℕ) (xs : List ℕ) → length (map_from f place xs) ≡ length xs
@@ -25,7 +24,7 @@ pub map_from-none : (rule : MungeRule) (m place : ℕ) (xs : List ℕ) → map_f
 map_from-none rule m place [] = refl
 map_from-none rule m place (x ∷ xs) = ap₂ ◌∷◌ (none_munged rule m place x) (map_from-none rule m (suc place) xs)
 
--- a place before the next one is munged already, and one behind it is not
+-- a place before the next one is munged already, and one after it is not
 other_place : (rule : MungeRule) (low m place word : ℕ) → (place ≡ m → ⊥) → munged_between rule low (m + 1) place word ≡ munged_between rule low m place word
 other_place rule low m place word apart = grind (arith, nat_tests)
 
@@ -61,17 +60,3 @@ map_from-next rule low m place xs from_low from_place within =
           ∙ sym (other_place rule low m (place + i) (get_or xs i 0) (λ e. apart (omega arith)))
           ∙ sym (get_or-map_from (munged_between rule low (m + 1)) place xs i d 0 below)
     ]
-
--- one place more, as contracts see the ring
-pub munged_more : (old now new : Ring) (counter : ℕ) (cells : List ℕ) → IsRing old → old.m ≤ counter → counter < old.w →
-    now ≡ record old { m = counter; cells = now.cells; held = map_from (munged_between old.rule old.m counter) old.r old.held } →
-    new ≡ record now { m = now.m + 1; cells = cells; held = set now.held (now.m - now.r) (munged_word now.rule now.m (get_or now.held (now.m - now.r) 0)) } →
-    new ≡ record old { m = counter + 1; cells = new.cells; held = map_from (munged_between old.rule old.m (counter + 1)) old.r old.held }
-munged_more old now new counter cells ring from_m to_w so_far step =
-    let whole =
-    step
-    ∙ ap (λ (at : Ring). record at { m = at.m + 1; cells = cells; held = set at.held (at.m - at.r) (munged_word at.rule at.m (get_or at.held (at.m - at.r) 0)) }) so_far
-    ∙ ap (λ held. record old { m = counter + 1; cells = cells; held = held }) (map_from-next old.rule old.m counter old.r old.held from_m
-    (omega (arith, ring.r_ra, ring.ra_m)) (omega (arith, ring.r_ra, ring.ra_m, ring.w_a, ring.count)))
-    in
-    whole ∙ ap (λ cells'. record old { m = counter + 1; cells = cells'; held = map_from (munged_between old.rule old.m (counter + 1)) old.r old.held }) (sym (ap (λ (at : Ring). at.cells) whole))

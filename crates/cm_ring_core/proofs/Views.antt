@@ -1,18 +1,24 @@
 -- The ring's fields against what contracts see.
-use Rattle.std.proofs.Common.{◌≡◌, ℕ, ◌+◌, ◌-◌, ◌%◌, ◌<◌, ◌≤◌, List, length, get_or, set, take, drop, refl, sym, ap, ◌∙◌, arith, length-set}
+use Rattle.std.proofs.Common.{◌≡◌, ℕ, ◌+◌, ◌-◌, ◌%◌, ◌<◌, ◌≤◌, List, length, get_or, set, take, drop, refl, sym, ap, ap₂, ◌∙◌, arith, length-set}
 use native.Mathlib.Nat.{mod-add-mod}
-use Rattle.cm_ring_core.specs.Held.{held_at}
+use Rattle.cm_ring_core.specs.Held.{held_at, stored_from}
 use Rattle.cm_ring_core.specs.Local.{IsRing}
-use Rattle.cm_ring_core.specs.LocalView.{ring_of, IsSound}
+use Rattle.cm_ring_core.specs.LocalView.{ring_of, IsSoundRing}
 use Rattle.cm_ring_core.specs.declared.local.LocalRing.TheInside.{Inside}
 use Rattle.cm_ring_core.proofs.Cells.{length-held_at, get_or-held_at, Held-held_at, held_at-set, take-held_at, drop-held_at}
-use Rattle.std.specs.Vec.{with_item}
+use Rattle.cm_ring_core.proofs.Munged.{length-map_from}
+use Rattle.cm_ring_core.proofs.Rings.{same_ring}
+use Rattle.cm_ring_core.proofs.Stored.{held_at-stored_from, length-stored_from}
+use Rattle.cm_ring_core.specs.Pushed.{munged_from, pushed}
+use Rattle.cm_sample.specs.Rule.{munged_word}
+use Rattle.std.specs.Vec.{with_item, with_items}
+use Rattle.std.proofs.lemmas.List.{with_items_is}
 
--- the cell that is so many steps behind the first one is that place's cell
+-- the cell that is so many steps after the first one is that place's cell
 pub place_cell : (size first r i cell : ℕ) → first ≡ r % size → cell ≡ (first + i) % size → cell ≡ (r + i) % size
 place_cell size first r i cell at_first at_cell = at_cell ∙ ap (λ f. (f + i) % size) at_first ∙ mod-add-mod r size i
 
-pub IsRing-ring_of : (l : Inside) → IsSound l → IsRing (ring_of l)
+pub IsRing-ring_of : (l : Inside) → IsSoundRing l → IsRing (ring_of l)
 IsRing-ring_of l s =
     let count = length-held_at l.cells.items (length l.cells.items) l.r (l.a - l.r) in
     record {
@@ -44,7 +50,7 @@ write_cell cells first r count i cell word at_first at_cell below fits =
     ∙ held_at-set cells (length cells) r count i word fits below refl
 
 -- a write into a place's cell, as contracts see it
-pub wrote : (l : Inside) → IsSound l → (i p cell word : ℕ) → cell ≡ (l.first + i) % length l.cells.items → p ≡ l.r + i → i < l.a - l.r →
+pub wrote : (l : Inside) → IsSoundRing l → (i p cell word : ℕ) → cell ≡ (l.first + i) % length l.cells.items → p ≡ l.r + i → i < l.a - l.r →
     ring_of (record l { cells = with_item l.cells cell word })
     ≡ record (ring_of l) { cells = set l.cells.items (p % length l.cells.items) word; held = set (ring_of l).held i word }
 wrote l s i p cell word at_cell at_place below =
@@ -55,12 +61,32 @@ wrote l s i p cell word at_cell at_place below =
     λ j. record (ring_of l) { size = length-set l.cells.items cell word j; cells = its_cells j; held = its_held j }
 
 -- a longer ring still has its old samples
-pub kept : (l : Inside) → IsSound l → (n : ℕ) → take (length (ring_of l).held) (held_at l.cells.items (length l.cells.items) l.r (l.a + n - l.r)) ≡ (ring_of l).held
+pub kept : (l : Inside) → IsSoundRing l → (n : ℕ) → take (length (ring_of l).held) (held_at l.cells.items (length l.cells.items) l.r (l.a + n - l.r)) ≡ (ring_of l).held
 kept l s n =
     ap (λ k. take k (held_at l.cells.items (length l.cells.items) l.r (l.a + n - l.r))) (length-held_at l.cells.items (length l.cells.items) l.r (l.a - l.r))
     ∙ take-held_at l.cells.items (length l.cells.items) l.r (l.a - l.r) (l.a + n - l.r) (omega arith)
 
 -- without its first samples the ring has the others
-pub dropped : (l : Inside) → IsSound l → (n : ℕ) → held_at l.cells.items (length l.cells.items) (l.r + n) (l.a - (l.r + n)) ≡ drop n (ring_of l).held
+pub dropped : (l : Inside) → IsSoundRing l → (n : ℕ) → held_at l.cells.items (length l.cells.items) (l.r + n) (l.a - (l.r + n)) ≡ drop n (ring_of l).held
 dropped l s n =
     ap (held_at l.cells.items (length l.cells.items) (l.r + n)) (omega arith) ∙ sym (drop-held_at l.cells.items (length l.cells.items) l.r (l.a - l.r) n)
+
+-- words after all that is held, as contracts see the ring
+pub grew : (l : Inside) → IsSoundRing l → l.m ≡ l.w → l.w ≡ l.a → (words cells : List ℕ) → l.a + length words ≤ l.r + length l.cells.items →
+    cells ≡ stored_from l.cells.items (length l.cells.items) l.w (munged_from l.rule l.w words) →
+    ring_of (record l { cells = with_items l.cells cells; m = l.w + length words; w = l.w + length words; a = l.w + length words }) ≡ pushed (ring_of l) words
+grew l s m_w w_a words cells room stored =
+    let old = l.cells.items in
+    let count = l.a - l.r in
+    let munged = munged_from l.rule l.w words in
+    let here : l.w ≡ l.r + count = omega (arith, s.r_ra, s.ra_m) in
+    let many : length munged ≡ length words = length-map_from (munged_word l.rule) l.w words in
+    let longer : l.w + length words - l.r ≡ count + length munged = omega arith in
+    let same : length cells ≡ length old = ap (length {A = ℕ}) stored ∙ length-stored_from old (length old) l.w munged in
+    let items : (with_items l.cells cells).items ≡ cells = with_items_is l.cells cells (same ∙ sym l.cells.ok.0) in
+    let its_size = ap (length {A = ℕ}) items ∙ same in
+    let its_cells = items ∙ stored in
+    same_ring _ _ refl its_size refl refl refl refl refl its_cells
+    (ap₂ (λ cs n. held_at cs n l.r (l.w + length words - l.r)) its_cells its_size
+    ∙ ap₂ (λ p n. held_at (stored_from old (length old) p munged) (length old) l.r n) here longer
+    ∙ held_at-stored_from old (length old) l.r count munged refl (omega (arith, s.r_ra, s.ra_m)))

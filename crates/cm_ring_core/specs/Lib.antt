@@ -2,3 +2,4 @@ pub mod Between
 pub mod Held
 pub mod Local
 pub mod LocalView
+pub mod Pushed

@@ -40,6 +40,7 @@ pub record IsFresh (ring : Ring) (rule : MungeRule) (size : ℕ) : Type 0 where
   pub m : ring.m ≡ 0
   pub w : ring.w ≡ 0
   pub a : ring.a ≡ 0
+  pub its_cells : length ring.cells ≡ size
   pub held : ring.held ≡ []
 
 -- all that is allocated is written and munged
@@ -51,5 +52,6 @@ pub record IsLevel (ring : Ring) : Type 0 where
 abbrev pub room_of : Ring → ℕ
 room_of ring = ring.r + ring.size - ring.a
 
+-- the five places of a ring, without its samples
 abbrev pub places_of : Ring → Places
 places_of ring = record { r = ring.r; ra = ring.ra; m = ring.m; w = ring.w; a = ring.a }

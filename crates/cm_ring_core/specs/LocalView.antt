@@ -5,6 +5,7 @@ use Rattle.cm_ring_core.specs.Held.{held_at}
 use Rattle.cm_ring_core.specs.Local.{Ring}
 use Rattle.cm_ring_core.specs.declared.local.LocalRing.TheInside.{Inside}
 
+-- a ring as contracts see it
 abbrev pub ring_of : Inside → Ring
 ring_of l = record {
   rule = l.rule;
@@ -19,7 +20,7 @@ ring_of l = record {
 }
 
 -- the places are in order, no more is allocated than the cells can hold, and `first` is the cell of place r
-pub record IsSound (l : Inside) : Type 0 where
+pub record IsSoundRing (l : Inside) : Type 0 where
   pub rule : IsRule l.rule
   pub nonempty : 1 ≤ length l.cells.items
   pub small : length l.cells.items ≤ 65536

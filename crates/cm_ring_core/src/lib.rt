@@ -2,3 +2,5 @@
 #![tactic(auto)]
 
 pub mod local;
+#[cfg(test)]
+mod tests;

@@ -14,10 +14,6 @@ pub record IsRule (rule : MungeRule) : Type 0 where
   pub shift : MayShift rule.kind
 
 -- each item with its place, which counts from `place`
-abbrev pub map_from : (ℕ → ℕ → ℕ) → ℕ → List ℕ → List ℕ
+abbrev pub map_from : {X : Type 0} → (ℕ → ℕ → X) → ℕ → List ℕ → List X
 map_from f place [] = []
 map_from f place (x ∷ xs) = f place x ∷ map_from f (suc place) xs
-
--- the munged words of a plan from its first place on
-abbrev pub munged_all : MungeRule → List ℕ → List ℕ
-munged_all rule words = map_from (munged_word rule) 0 words

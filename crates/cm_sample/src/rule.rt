@@ -28,6 +28,7 @@ impl MungeRule {
         requires shift { MayShift self.now.kind }
         ensures { result ≡ munged_word self.now place word }
     {
+        // Each place of a buffer is munged alike today.
         let _ = place;
         if self.raw {
             word

@@ -10,7 +10,7 @@ use Rattle.std.proofs.Math.Seq.{get_or-append_right}
 use Rattle.std.proofs.lemmas.List.Elements.{All-nil, All-push}
 use Rattle.std.proofs.lemmas.List.{get_or-set_same, get_or-set_other, length-set}
 use Rattle.cm_signal.specs.Said.{HasPeriod}
-use Rattle.cm_signal.specs.Signals.{SignalsText, IsSound, IsWave, AreEdges, edge_count, edges_at, have_own, is_at}
+use Rattle.cm_signal.specs.Signals.{SignalsText, IsSoundSignals, IsWave, AreEdges, edge_count, edges_at, have_own, is_at}
 use Rattle.cm_signal.specs.SignalsPart.{is_fine, has_room, rises_from, silent}
 use Rattle.cm_signal.specs.declared.signals.IntAt.{IntAt}
 use Rattle.cm_signal.specs.declared.wave.Wave.{Wave}
@@ -69,25 +69,25 @@ own_more (x ∷ xs) w own other =
     let none = or_from _ _ (not_true (list_any (is_at x.sub x.chan) xs) parts.0) (or_from (is_at x.sub x.chan w) false (same_channel w x apart.0) refl) in
     and_from _ _ (not_false _ (list_any-append (is_at x.sub x.chan) xs (w ∷ []) ∙ none)) (own_more xs w parts.1 apart.1)
 
--- the least time behind others
-behind : ℕ → List ℕ → ℕ
-behind least [] = least
-behind least (x ∷ xs) = behind (x + 1) xs
+-- the least time after others
+after : ℕ → List ℕ → ℕ
+after least [] = least
+after least (x ∷ xs) = after (x + 1) xs
 
-rises_append : (least : ℕ) (xs ys : List ℕ) → rises_from least xs ≡ true → rises_from least (xs ++ ys) ≡ rises_from (behind least xs) ys
-unfolding behind
+rises_append : (least : ℕ) (xs ys : List ℕ) → rises_from least xs ≡ true → rises_from least (xs ++ ys) ≡ rises_from (after least xs) ys
+unfolding after
 rises_append least [] ys e = refl
 rises_append least (x ∷ xs) ys e =
     let parts = both (nat_le least x) (rises_from (x + 1) xs) e in
     ap (λ t. t && rises_from (x + 1) (xs ++ ys)) parts.0 ∙ rises_append (x + 1) xs ys parts.1
 
-behind_last : (least : ℕ) (xs : List ℕ) → 0 < length xs → behind least xs ≡ get_or xs (length xs - 1) 0 + 1
-unfolding behind
-behind_last least [] some = absurd (omega arith)
-behind_last least (x ∷ []) some = refl
-behind_last least (x ∷ y ∷ more) some =
+after_last : (least : ℕ) (xs : List ℕ) → 0 < length xs → after least xs ≡ get_or xs (length xs - 1) 0 + 1
+unfolding after
+after_last least [] some = absurd (omega arith)
+after_last least (x ∷ []) some = refl
+after_last least (x ∷ y ∷ more) some =
     let last : suc (length (y ∷ more) - 1) ≡ length (x ∷ y ∷ more) - 1 = omega arith in
-    behind_last (x + 1) (y ∷ more) (omega arith) ∙ ap (λ n. get_or (x ∷ y ∷ more) n 0 + 1) last
+    after_last (x + 1) (y ∷ more) (omega arith) ∙ ap (λ n. get_or (x ∷ y ∷ more) n 0 + 1) last
 
 -- rising times rise from each number that isn't above the first
 rising : (least : ℕ) (xs : List ℕ) → IsStrictlyIncreasing xs → (0 < length xs → least ≤ get_or xs 0 0) → rises_from least xs ≡ true
@@ -99,8 +99,8 @@ rising least (x ∷ xs) rise low =
     let there = ap (λ n. get_or (x ∷ xs) n 0) next in
     omega arith) (λ h. let first = rise 0 (omega arith) in omega arith))
 
-pub rises_behind_is : (xs ys : List ℕ) → IsStrictlyIncreasing xs → 0 < length xs → rises_from 0 (xs ++ ys) ≡ rises_from (get_or xs (length xs - 1) 0 + 1) ys
-rises_behind_is xs ys rise some = rises_append 0 xs ys (rising 0 xs rise (λ h. omega arith)) ∙ ap (λ n. rises_from n ys) (behind_last 0 xs some)
+pub rises_after_is : (xs ys : List ℕ) → IsStrictlyIncreasing xs → 0 < length xs → rises_from 0 (xs ++ ys) ≡ rises_from (get_or xs (length xs - 1) 0 + 1) ys
+rises_after_is xs ys rise some = rises_append 0 xs ys (rising 0 xs rise (λ h. omega arith)) ∙ ap (λ n. rises_from n ys) (after_last 0 xs some)
 
 -- times that rise from a number rise
 pub increasing : (least : ℕ) (xs : List ℕ) → rises_from least xs ≡ true → IsStrictlyIncreasing xs
@@ -131,8 +131,8 @@ count_set (x ∷ xs) zero new h = omega arith
 count_set (x ∷ xs) (suc line) new h = let rest = count_set xs line new (omega arith) in omega arith
 
 -- signals with other edges on a line
-pub sound_with : (s : SignalsText) (line : ℕ) (new : List ℕ) → IsSound s → line < 16 → AreEdges s.horizon new → edge_count s.edges + length new ≤ 10 ^ 5 + length (edges_at s line) →
-    IsSound (record s { edges = slice_set s.edges line new })
+pub sound_with : (s : SignalsText) (line : ℕ) (new : List ℕ) → IsSoundSignals s → line < 16 → AreEdges s.horizon new → edge_count s.edges + length new ≤ 10 ^ 5 + length (edges_at s line) →
+    IsSoundSignals (record s { edges = slice_set s.edges line new })
 sound_with s line new sound h are room =
     let lines = sound.lines in
     let counted = count_set s.edges line new (omega arith) in
@@ -151,7 +151,7 @@ sound_with s line new sound h are room =
     }
 
 -- the edges of a line with those of one text line more
-pub more_edges : (s : SignalsText) (line : ℕ) (times : List ℕ) → IsSound s → line < 16 → has_room s times ≡ true → rises_from 0 (edges_at s line ++ times) ≡ true → AreEdges s.horizon (edges_at s line ++ times)
+pub more_edges : (s : SignalsText) (line : ℕ) (times : List ℕ) → IsSoundSignals s → line < 16 → has_room s times ≡ true → rises_from 0 (edges_at s line ++ times) ≡ true → AreEdges s.horizon (edges_at s line ++ times)
 more_edges s line times sound h room rise =
     let lines = sound.lines in
     let parts = both (list_all (λ time. nat_le time s.horizon) times) (nat_le (edge_count s.edges + length times) 100000) room in
@@ -170,7 +170,7 @@ more_edges s line times sound h room rise =
     }
 
 -- a place that a line names has at most so many edges, all of them early
-pub early : (s : SignalsText) (times : List ℕ) → IsSound s → has_room s times ≡ true → (k : ℕ) → k < length times → get_or times k 0 ≤ 10 ^ 12
+pub early : (s : SignalsText) (times : List ℕ) → IsSoundSignals s → has_room s times ≡ true → (k : ℕ) → k < length times → get_or times k 0 ≤ 10 ^ 12
 early s times sound room k h =
     let parts = both (list_all (λ time. nat_le time s.horizon) times) (nat_le (edge_count s.edges + length times) 100000) room in
     let low = leb-true _ s.horizon (all_at (λ time. nat_le time s.horizon) times k parts.0 h) in
@@ -178,7 +178,7 @@ early s times sound room k h =
     omega arith
 
 -- one wave more
-pub more_waves : (s : SignalsText) (w : WaveAt) → IsSound s → HasPeriod w.wave → list_any (is_at w.sub w.chan) s.waves ≡ false → is_fine w.wave ≡ true → IsSound (record s { waves = s.waves ++ w ∷ [] })
+pub more_waves : (s : SignalsText) (w : WaveAt) → IsSoundSignals s → HasPeriod w.wave → list_any (is_at w.sub w.chan) s.waves ≡ false → is_fine w.wave ≡ true → IsSoundSignals (record s { waves = s.waves ++ w ∷ [] })
 more_waves s w sound period other fine = record {
   horizon = sound.horizon;
   lines = sound.lines;
@@ -191,8 +191,8 @@ more_waves s w sound period other fine = record {
 }
 
 -- the edges of a line as they were, or with more
-pub edges_either : (s : SignalsText) (line : ℕ) (times : List ℕ) (done : Bool) → IsSound s → line < 16 → has_room s times ≡ true → rises_from 0 (edges_at s line ++ times) ≡ true →
-    IsSound (record s { edges = slice_set s.edges line (cond done (edges_at s line ++ times) (edges_at s line)) })
+pub edges_either : (s : SignalsText) (line : ℕ) (times : List ℕ) (done : Bool) → IsSoundSignals s → line < 16 → has_room s times ≡ true → rises_from 0 (edges_at s line ++ times) ≡ true →
+    IsSoundSignals (record s { edges = slice_set s.edges line (cond done (edges_at s line ++ times) (edges_at s line)) })
 edges_either s line times true sound h room rise =
     let parts = both (list_all (λ time. nat_le time s.horizon) times) (nat_le (edge_count s.edges + length times) 100000) room in
     let few = leb-true _ 100000 parts.1 in
@@ -216,7 +216,7 @@ none_counted zero = refl
 none_counted (suc n) = let rest = none_counted n in omega arith
 
 -- silence
-pub silent_sound : (horizon : ℕ) → horizon ≤ 10 ^ 12 → IsSound (silent horizon)
+pub silent_sound : (horizon : ℕ) → horizon ≤ 10 ^ 12 → IsSoundSignals (silent horizon)
 unfolding have_own
 silent_sound horizon h = record {
   horizon = h;
@@ -230,7 +230,7 @@ silent_sound horizon h = record {
 }
 
 pub silent_like : (horizon : ℕ) (waves : List WaveAt) (edges : List (List ℕ)) (ints : List IntAt) → waves ≡ [] → edges ≡ replicate 16 [] → ints ≡ [] → horizon ≤ 10 ^ 12 →
-    IsSound (record { horizon = horizon; waves = waves; edges = edges; ints = ints })
+    IsSoundSignals (record { horizon = horizon; waves = waves; edges = edges; ints = ints })
 silent_like horizon waves edges ints no_waves no_edges no_ints h =
     let same : ◌≡◌ {A = SignalsText} (record { horizon = horizon; waves = waves; edges = edges; ints = ints }) (silent horizon) = λ i. record { horizon = horizon; waves = no_waves i; edges = no_edges i; ints = no_ints i } in
-    subst IsSound (sym same) (silent_sound horizon h)
+    subst IsSoundSignals (sym same) (silent_sound horizon h)

@@ -1,3 +1,4 @@
 pub mod Grown
 pub mod Parts
 pub mod Progressions
+pub mod Refusal

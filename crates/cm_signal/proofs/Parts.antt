@@ -1,62 +1,124 @@
 -- The signals part from its lines.
-use Rattle.std.proofs.Common.{◌≡◌, ℕ, ◌+◌, List, drop, true, ap, sym, ◌∙◌, subst, Result, Ok, Err}
+use Rattle.std.proofs.Common.{◌≡◌, ℕ, suc, ◌+◌, List, [], ◌∷◌, take, drop, Bool, true, false, cond, not, refl, ap, sym, ◌∙◌, Result, Ok, Err, arith, subst}
 use Rattle.std.specs.Prelude.{codes, IsErrAnd}
 use Rattle.std.specs.List.{position_or_len}
 use Rattle.cm_base.specs.Lines.{LineText}
 use Rattle.cm_base.specs.Parts.{fixed}
 use Rattle.cm_base.specs.ReadStop.{Gives, Stops}
-use Rattle.cm_base.specs.Reading.{◌>>=◌, read_on}
+use Rattle.cm_base.specs.Reading.{◌>>=◌, at_line, read_on}
 use Rattle.cm_base.specs.Words.{alone}
 use Rattle.cm_base.specs.declared.faults.ReadStop.{ReadStop}
 use Rattle.cm_base.specs.declared.faults.ReadStop.TheVariants as stops
 use Rattle.cm_base.specs.declared.faults.Refused.{Refused}
 use Rattle.cm_board.specs.Board.{BoardText, SubText}
 use Rattle.cm_signal.specs.Signals.{SignalsText}
-use Rattle.cm_signal.specs.SignalsPart.{horizon_words, is_session, lines_behind, lines_inside, said_behind, signals_of, silent}
+use Rattle.cm_signal.specs.SignalsPart.{horizon_words, is_session, lines_after, lines_inside, said_after, signals_after, signals_of, silent}
 
--- what the lines behind the `signals` line add, and the end of the part
-abbrev closed : ℕ → List LineText → SignalsText → Result (SignalsText × ℕ) Refused
-closed end rest signals = fixed end (codes "session") (alone true) (lines_behind rest) >>= λ none. Ok (signals, 2 + position_or_len is_session rest)
+-- signals of so many lines more
+abbrev pub raised : ℕ → Result (SignalsText × ℕ) Refused → Result (SignalsText × ℕ) Refused
+raised count r = r >>= λ s. Ok (s.0, count + s.1)
 
-abbrev filled : BoardText → ℕ → List LineText → ℕ → Result (SignalsText × ℕ) Refused
-filled board end rest horizon = read_on (said_behind board.subs) (silent horizon) (lines_inside rest) >>= closed end rest
+raised_twice : (m n : ℕ) (r : Result (SignalsText × ℕ) Refused) → raised m (raised n r) ≡ raised (m + n) r
+raised_twice m n (Ok s) = ap (λ (k : ℕ). let r : Result (SignalsText × ℕ) Refused = Ok (s.0, k) in r) (omega arith)
+raised_twice m n (Err e) = refl
 
-begun : (board : BoardText) (end horizon : ℕ) (lines : List LineText) → fixed end (codes "signals") horizon_words lines ≡ Ok horizon → signals_of board end lines ≡ filled board end (drop 1 lines) horizon
-begun board end horizon lines e = ap (λ r. r >>= filled board end (drop 1 lines)) e
+-- the signals of lines of which so many are inside
+abbrev cut_at : List SubText → ℕ → SignalsText → List LineText → ℕ → Result (SignalsText × ℕ) Refused
+cut_at subs end before lines n = read_on (said_after subs) before (take n lines) >>= λ signals. fixed end (codes "session") (alone true) (drop n lines) >>= λ closed. Ok (signals, 1 + n)
 
-same_read : (subs others : List SubText) (horizon : ℕ) (start : SignalsText) (inside rest : List LineText) → others ≡ subs → start ≡ silent horizon → inside ≡ lines_inside rest →
-    read_on (said_behind subs) (silent horizon) (lines_inside rest) ≡ read_on (said_behind others) start inside
-same_read subs others horizon start inside rest o s e =
-    ap (λ (ss : List SubText). read_on (said_behind ss) (silent horizon) (lines_inside rest)) (sym o)
-    ∙ ap (λ (t : SignalsText). read_on (said_behind others) t (lines_inside rest)) (sym s) ∙ ap (read_on (said_behind others) start) (sym e)
+reported_raised : {C : Type 0} (read : Result SignalsText Refused) (closed : Result C Refused) (k n : ℕ) → k ≡ 1 + n →
+    (read >>= λ s. closed >>= λ c. Ok (s, k)) ≡ raised 1 (read >>= λ s. closed >>= λ c. Ok (s, n))
+reported_raised (Ok s) (Ok c) k n e = ap (λ (m : ℕ). let r : Result (SignalsText × ℕ) Refused = Ok (s, m) in r) e
+reported_raised (Ok s) (Err e) k n same = refl
+reported_raised (Err e) closed k n same = refl
 
--- the parts of a text as they are cut
-pub record AreCut (board : BoardText) (end horizon : ℕ) (lines inside rest : List LineText) (subs : List SubText) (start : SignalsText) : Type 0 where
-  pub head : fixed end (codes "signals") horizon_words lines ≡ Ok horizon
-  pub rest_is : rest ≡ drop 1 lines
-  pub inside_is : inside ≡ lines_inside rest
-  pub subs_are : subs ≡ board.subs
-  pub silence : start ≡ silent horizon
+one_more : (n : ℕ) → 1 + n ≡ suc n
+one_more n = omega arith
+
+-- the `session` line ends the part
+pub session_here : (subs : List SubText) (end : ℕ) (before : SignalsText) (line : LineText) (rest : List LineText) → is_session line ≡ true →
+    signals_after subs end before (line ∷ rest) ≡ (fixed 0 (codes "session") (alone true) (line ∷ []) >>= λ closed. Ok (before, 1))
+session_here subs end before line rest e = ap (λ (b : Bool). cut_at subs end before (line ∷ rest) (cond (not b) (1 + position_or_len is_session rest) 0)) e
+
+inside : (subs : List SubText) (end : ℕ) (before : SignalsText) (line : LineText) (rest : List LineText) → is_session line ≡ false →
+    signals_after subs end before (line ∷ rest) ≡ cut_at subs end before (line ∷ rest) (suc (position_or_len is_session rest))
+inside subs end before line rest e =
+    ap (λ (b : Bool). cut_at subs end before (line ∷ rest) (cond (not b) (1 + position_or_len is_session rest) 0)) e
+    ∙ ap (cut_at subs end before (line ∷ rest)) (one_more (position_or_len is_session rest))
+
+-- a line more is read
+pub line_inside : (subs : List SubText) (end : ℕ) (before more : SignalsText) (line : LineText) (rest : List LineText) → is_session line ≡ false →
+    at_line line.number (said_after subs before line) ≡ Ok more → signals_after subs end before (line ∷ rest) ≡ raised 1 (signals_after subs end more rest)
+line_inside subs end before more line rest e said =
+    let n = position_or_len is_session rest in
+    inside subs end before line rest e
+    ∙ ap (λ (r : Result SignalsText Refused). (r >>= λ m. read_on (said_after subs) m (take n rest)) >>= λ signals. fixed end (codes "session") (alone true) (drop n rest) >>= λ closed. Ok (signals, 1 + suc n)) said
+    ∙ reported_raised (read_on (said_after subs) more (lines_inside rest)) (fixed end (codes "session") (alone true) (lines_after rest)) (1 + suc n) (1 + n) (omega arith)
+
+-- after others too
+pub line_more : (subs : List SubText) (end : ℕ) (first before more : SignalsText) (all : List LineText) (line : LineText) (now rest : List LineText) (count : ℕ) →
+    signals_after subs end first all ≡ raised count (signals_after subs end before now) → now ≡ line ∷ rest → is_session line ≡ false → at_line line.number (said_after subs before line) ≡ Ok more →
+    signals_after subs end first all ≡ raised (count + 1) (signals_after subs end more rest)
+line_more subs end first before more all line now rest count reported here e said =
+    reported ∙ ap (λ (ls : List LineText). raised count (signals_after subs end before ls)) here
+    ∙ ap (raised count) (line_inside subs end before more line rest e said)
+    ∙ raised_twice count 1 (signals_after subs end more rest)
+
+raised_stops : (stop : ReadStop) (count : ℕ) (r : Result (SignalsText × ℕ) Refused) → Stops stop r → Stops stop (raised count r)
+raised_stops stops.NoMemory count r said = tt
+raised_stops (stops.Refused why) count r said = ap (raised count) said
 
 -- a line of the part that is refused
-pub part_stops : (board : BoardText) (end horizon : ℕ) (lines inside rest : List LineText) (subs : List SubText) (start : SignalsText) (stop : ReadStop) → AreCut board end horizon lines inside rest subs start →
-    Stops stop (read_on (said_behind subs) start inside) → Stops stop (signals_of board end lines)
-part_stops board end horizon lines inside rest subs start stops.NoMemory cut said = tt
-part_stops board end horizon lines inside rest subs start (stops.Refused r) cut said =
-    begun board end horizon lines cut.head ∙ ap (λ (more : List LineText). filled board end more horizon) (sym cut.rest_is)
-    ∙ ap (λ read. read >>= closed end rest) (same_read board.subs subs horizon start inside rest cut.subs_are cut.silence cut.inside_is ∙ said)
+pub line_stops : (subs : List SubText) (end : ℕ) (before : SignalsText) (line : LineText) (rest : List LineText) (stop : ReadStop) → is_session line ≡ false →
+    Stops stop (at_line line.number (said_after subs before line)) → Stops stop (signals_after subs end before (line ∷ rest))
+line_stops subs end before line rest stops.NoMemory e said = tt
+line_stops subs end before line rest (stops.Refused why) e said =
+    let n = position_or_len is_session rest in
+    inside subs end before line rest e
+    ∙ ap (λ (r : Result SignalsText Refused). (r >>= λ m. read_on (said_after subs) m (take n rest)) >>= λ signals. fixed end (codes "session") (alone true) (drop n rest) >>= λ closed. Ok (signals, 1 + suc n)) said
 
--- the whole part
-pub part_told : (board : BoardText) (end horizon : ℕ) (lines inside rest : List LineText) (subs : List SubText) (start signals : SignalsText) (behind : List LineText) (count : ℕ) →
-    AreCut board end horizon lines inside rest subs start → read_on (said_behind subs) start inside ≡ Ok signals →
-    behind ≡ lines_behind rest → fixed end (codes "session") (alone true) behind ≡ Ok true → count ≡ position_or_len is_session rest → signals_of board end lines ≡ Ok (signals, 2 + count)
-part_told board end horizon lines inside rest subs start signals behind count cut said b f n =
-    begun board end horizon lines cut.head ∙ ap (λ (more : List LineText). filled board end more horizon) (sym cut.rest_is)
-    ∙ ap (λ read. read >>= closed end rest) (same_read board.subs subs horizon start inside rest cut.subs_are cut.silence cut.inside_is ∙ said)
-    ∙ ap (λ read. read >>= λ none. Ok (signals, 2 + position_or_len is_session rest)) (ap (fixed end (codes "session") (alone true)) (sym b) ∙ f)
-    ∙ ap (λ k. Ok (signals, 2 + k)) (sym n)
+-- a line that is refused after others
+pub lines_stop : (subs : List SubText) (end : ℕ) (first before : SignalsText) (all : List LineText) (line : LineText) (now rest : List LineText) (count : ℕ) (stop : ReadStop) →
+    signals_after subs end first all ≡ raised count (signals_after subs end before now) → now ≡ line ∷ rest → is_session line ≡ false → Stops stop (at_line line.number (said_after subs before line)) →
+    Stops stop (signals_after subs end first all)
+lines_stop subs end first before all line now rest count stop reported here e said =
+    subst (Stops stop) (sym (reported ∙ ap (λ (ls : List LineText). raised count (signals_after subs end before ls)) here))
+    (raised_stops stop count (signals_after subs end before (line ∷ rest)) (line_stops subs end before line rest stop e said))
 
 -- an answer that stops for the same reason
 pub gives_err : {X Y : Type 0} (view : X → Y) (r : Result X ReadStop) (stop : ReadStop) (read : Result Y Refused) → IsErrAnd r (λ e. e ≡ stop) → Stops stop read → Gives view r read
 gives_err view (Ok x) stop read h s = absurd h
 gives_err view (Err e) stop read h s = subst (λ st. Stops st read) (sym h) s
+
+-- the whole part, from what is after its first line
+pub part_after : (board : BoardText) (end horizon : ℕ) (lines : List LineText) → fixed end (codes "signals") horizon_words lines ≡ Ok horizon →
+    signals_of board end lines ≡ raised 1 (signals_after board.subs end (silent horizon) (drop 1 lines))
+part_after board end horizon lines e =
+    let rest = drop 1 lines in
+    let n = position_or_len is_session rest in
+    ap (λ (r : Result ℕ Refused). r >>= λ h. read_on (said_after board.subs) (silent h) (lines_inside rest) >>= λ signals. fixed end (codes "session") (alone true) (lines_after rest) >>= λ closed. Ok (signals, 2 + n)) e
+    ∙ reported_raised (read_on (said_after board.subs) (silent horizon) (lines_inside rest)) (fixed end (codes "session") (alone true) (lines_after rest)) (2 + n) (1 + n) (omega arith)
+
+-- what was read after the first line
+pub record IsBegun (board : BoardText) (end horizon : ℕ) (lines rest : List LineText) (subs : List SubText) (start : SignalsText) : Type 0 where
+  pub head : fixed end (codes "signals") horizon_words lines ≡ Ok horizon
+  pub rest_is : rest ≡ drop 1 lines
+  pub subs_are : subs ≡ board.subs
+  pub silence : start ≡ silent horizon
+
+begun : (board : BoardText) (end horizon : ℕ) (lines rest : List LineText) (subs : List SubText) (start : SignalsText) → IsBegun board end horizon lines rest subs start →
+    signals_of board end lines ≡ raised 1 (signals_after subs end start rest)
+begun board end horizon lines rest subs start b =
+    part_after board end horizon lines b.head
+    ∙ ap (λ (ss : List SubText). raised 1 (signals_after ss end (silent horizon) (drop 1 lines))) (sym b.subs_are)
+    ∙ ap (λ (s : SignalsText). raised 1 (signals_after subs end s (drop 1 lines))) (sym b.silence)
+    ∙ ap (λ (ls : List LineText). raised 1 (signals_after subs end start ls)) (sym b.rest_is)
+
+pub part_stops : (board : BoardText) (end horizon : ℕ) (lines rest : List LineText) (subs : List SubText) (start : SignalsText) (stop : ReadStop) → IsBegun board end horizon lines rest subs start →
+    Stops stop (signals_after subs end start rest) → Stops stop (signals_of board end lines)
+part_stops board end horizon lines rest subs start stop b said =
+    subst (Stops stop) (sym (begun board end horizon lines rest subs start b)) (raised_stops stop 1 (signals_after subs end start rest) said)
+
+pub part_reported : (board : BoardText) (end horizon : ℕ) (lines rest : List LineText) (subs : List SubText) (start signals : SignalsText) (count : ℕ) → IsBegun board end horizon lines rest subs start →
+    signals_after subs end start rest ≡ Ok (signals, count) → signals_of board end lines ≡ Ok (signals, 1 + count)
+part_reported board end horizon lines rest subs start signals count b said = begun board end horizon lines rest subs start b ∙ ap (raised 1) said

@@ -46,7 +46,7 @@ have_own [] = true
 have_own (w ∷ ws) = not (list_any (is_at w.sub w.chan) ws) && have_own ws
 
 -- what signals keep
-pub record IsSound (s : SignalsText) : Type 0 where
+pub record IsSoundSignals (s : SignalsText) : Type 0 where
   pub horizon : s.horizon ≤ 10 ^ 12
   pub lines : length s.edges ≡ 16
   pub edges : (line : ℕ) → line < length s.edges → AreEdges s.horizon (slice_index_or s.edges line [])
@@ -68,5 +68,6 @@ abbrev pub level_from : List WaveAt → ℕ → ℕ → ℕ → ℤ
 level_from [] sub chan t = pos 0
 level_from (w ∷ ws) sub chan t = if is_at sub chan w then wave_level w.wave t else level_from ws sub chan t
 
+-- the level at a channel's input at a time, in micro-units
 abbrev pub level : SignalsText → ℕ → ℕ → ℕ → ℤ
 level s sub chan t = level_from s.waves sub chan t

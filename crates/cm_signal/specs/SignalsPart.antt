@@ -39,34 +39,40 @@ input_word subs word = number_below (length subs) word >>= λ sub. limited (nat_
 abbrev pub channel_words : List SubText → List ℕ → List ℕ → Result (ℕ × ℕ) Fault
 channel_words subs sub chan = input_word subs sub >>= λ s. number_below (level_channels (slice_get subs s)) chan >>= λ c. Ok (s, c)
 
+-- a line that gives a channel its wave
 abbrev pub wave_said : ℕ × ℕ → Wave → Said
 wave_said at wave = said.Wave (record { sub = at.0; chan = at.1; wave = wave })
 
+-- the period of a wave: 1 nanosecond to 1,000 seconds
 abbrev pub period_word : List ℕ → Result ℕ Fault
 period_word = number_in 1 1000000000000
 
--- the forms of `wave SUB CHAN KIND ..`, by the words behind the kind
+-- the forms of `wave SUB CHAN KIND ..`, by the words after the kind
 abbrev pub const_words : List SubText → List ℕ → List ℕ → Form Said
 const_words subs sub chan words = one_word words >>= λ w. channel_words subs sub chan >>= λ at. signed_number w >>= λ v. Ok (wave_said at (waves.Const v))
 
+-- a square wave: its low level, its high level and its period
 abbrev pub square_words : List SubText → List ℕ → List ℕ → Form Said
 square_words subs sub chan words =
     three_words words >>= λ w. channel_words subs sub chan >>= λ at.
     signed_number w.0 >>= λ low. signed_number w.1 >>= λ high. period_word w.2 >>= λ period.
     Ok (wave_said at (waves.Square low high period))
 
+-- a saw: its low level, its high level and its period
 abbrev pub saw_words : List SubText → List ℕ → List ℕ → Form Said
 saw_words subs sub chan words =
     three_words words >>= λ w. channel_words subs sub chan >>= λ at.
     signed_number w.0 >>= λ low. signed_number w.1 >>= λ high. period_word w.2 >>= λ period.
     Ok (wave_said at (waves.Saw low high period))
 
+-- a table: its period, and at most 64 levels
 abbrev pub table_words : List SubText → List ℕ → List ℕ → Form Said
 table_words subs sub chan words =
     one_and_more words >>= λ w. channel_words subs sub chan >>= λ at.
     period_word w.0 >>= λ period. values 64 signed_number [] w.1 >>= λ levels.
     Ok (wave_said at (waves.Table period levels))
 
+-- the waves by their names
 abbrev pub wave_forms : List SubText → List (List ℕ × (List ℕ → List ℕ → Form Said))
 wave_forms subs = (codes "const", const_words subs) ∷ (codes "square", square_words subs) ∷ (codes "saw", saw_words subs) ∷ (codes "table", table_words subs) ∷ []
 
@@ -82,7 +88,7 @@ line_word = number_in 0 15
 abbrev pub edges_words : ℕ → Form Said
 edges_words horizon words = one_and_more words >>= λ w. line_word w.0 >>= λ line. each_word (number_in 0 horizon) [] w.1 >>= λ times. Ok (said.Edges line times)
 
--- so many times, each a period behind the one before
+-- so many times, each a period after the one before
 abbrev pub progression : ℕ → ℕ → ℕ → List ℕ
 progression first period zero = []
 progression first period (suc count) = first ∷ progression (first + period) period count
@@ -93,6 +99,7 @@ every_numbers words =
     four_words words >>= λ w. line_word w.0 >>= λ line. or_fault BadNumber (number_of w.1) >>= λ first.
     period_word w.2 >>= λ period. number_in 1 100000 w.3 >>= λ count. Ok (line, first, period, count)
 
+-- edges at equal distances
 abbrev pub every_words : Form Said
 every_words words = every_numbers words >>= λ n. Ok (said.Edges n.0 (progression n.1 n.2 n.3))
 
@@ -107,6 +114,7 @@ abbrev pub signal_forms : List SubText → ℕ → List (List ℕ × Form Said)
 signal_forms subs horizon =
     (codes "wave", wave_words subs) ∷ (codes "edges", edges_words horizon) ∷ (codes "every", every_words) ∷ (codes "int", int_words subs horizon) ∷ []
 
+-- what a line of the signals part says
 abbrev pub said_words : List SubText → ℕ → List (List ℕ) → Result Said Fault
 said_words subs horizon [] = Err BadLine
 said_words subs horizon (key ∷ words) = keyword (signal_forms subs horizon) key >>= λ form. form words
@@ -129,19 +137,19 @@ rises_from least (time ∷ times) = nat_le least time && rises_from (time + 1) t
 abbrev pub has_room : SignalsText → List ℕ → Bool
 has_room s times = list_all (λ time. nat_le time s.horizon) times && nat_le (edge_count s.edges + length times) 100000
 
--- whether a line's wave may stand behind those before it
+-- whether a line's wave may stand after those before it
 abbrev pub checked_wave : SignalsText → WaveAt → Result (Unit {0}) Fault
 checked_wave s w = if list_any (is_at w.sub w.chan) s.waves then Err Double else (if is_fine w.wave then Ok tt else Err Bad)
 
--- whether a line's edges may stand behind those before them
+-- whether a line's edges may stand after those before them
 abbrev pub checked_edges : SignalsText → ℕ → List ℕ → Result (Unit {0}) Fault
 checked_edges s line times = if has_room s times then (if rises_from 0 (edges_at s line ++ times) then Ok tt else Err Bad) else Err Limit
 
--- whether a line's trigger may stand behind those before it
+-- whether a line's trigger may stand after those before it
 abbrev pub checked_int : SignalsText → Result (Unit {0}) Fault
 checked_int s = limited (nat_lt (length s.ints) 1000) tt
 
--- whether a line may stand behind those before it
+-- whether a line may stand after those before it
 abbrev pub checked : SignalsText → Said → Result (Unit {0}) Fault
 checked s (said.Wave w) = checked_wave s w
 checked s (said.Edges line times) = checked_edges s line times
@@ -154,16 +162,18 @@ with_said s (said.Edges line times) = record s { edges = slice_set s.edges line 
 with_said s (said.Int int) = record s { ints = s.ints ++ int ∷ [] }
 
 -- what a line adds to the signals of the lines before it
-abbrev pub said_behind : List SubText → SignalsText → LineText → Result SignalsText Fault
-said_behind subs s line = said_line subs s.horizon line >>= λ what. checked s what >>= λ fits. Ok (with_said s what)
+abbrev pub said_after : List SubText → SignalsText → LineText → Result SignalsText Fault
+said_after subs s line = said_line subs s.horizon line >>= λ what. checked s what >>= λ fits. Ok (with_said s what)
 
 -- no wave, no edge and no trigger
 abbrev pub silent : ℕ → SignalsText
 silent horizon = record { horizon = horizon; waves = []; edges = replicate 16 []; ints = [] }
 
+-- the line that starts the session
 abbrev pub is_session : LineText → Bool
 is_session = begins (codes "session")
 
+-- the horizon: at most 1,000 seconds
 abbrev pub horizon_words : Form ℕ
 horizon_words = one (λ horizon. horizon) (number_in 0 1000000000000)
 
@@ -171,17 +181,25 @@ horizon_words = one (λ horizon. horizon) (number_in 0 1000000000000)
 abbrev pub lines_inside : List LineText → List LineText
 lines_inside = before_first is_session
 
-abbrev pub lines_behind : List LineText → List LineText
-lines_behind lines = drop (position_or_len is_session lines) lines
+-- the lines from `session` on
+abbrev pub lines_after : List LineText → List LineText
+lines_after lines = drop (position_or_len is_session lines) lines
+
+-- the signals with what these lines add up to the `session` line, and how many they are with it
+abbrev pub signals_after : List SubText → ℕ → SignalsText → List LineText → Result (SignalsText × ℕ) Refused
+signals_after subs end before lines =
+    read_on (said_after subs) before (lines_inside lines) >>= λ signals.
+    fixed end (codes "session") (alone true) (lines_after lines) >>= λ closed.
+    Ok (signals, 1 + position_or_len is_session lines)
 
 -- the signals that these lines describe, from the `signals` line to the `session` line, and how many they are
 abbrev pub signals_of : BoardText → ℕ → List LineText → Result (SignalsText × ℕ) Refused
 signals_of board end lines =
     fixed end (codes "signals") horizon_words lines >>= λ horizon.
-    read_on (said_behind board.subs) (silent horizon) (lines_inside (drop 1 lines)) >>= λ signals.
-    fixed end (codes "session") (alone true) (lines_behind (drop 1 lines)) >>= λ closed.
+    read_on (said_after board.subs) (silent horizon) (lines_inside (drop 1 lines)) >>= λ signals.
+    fixed end (codes "session") (alone true) (lines_after (drop 1 lines)) >>= λ closed.
     Ok (signals, 2 + position_or_len is_session (drop 1 lines))
 
--- the same from a place on, with the place of the line behind the `session` line
+-- the same from a place on, with the place of the line after the `session` line
 abbrev pub signals_at : BoardText → ℕ → ℕ → List LineText → Result (SignalsText × ℕ) Refused
 signals_at board end at lines = signals_of board end (drop at lines) >>= λ r. Ok (r.0, at + r.1)

@@ -33,7 +33,7 @@ impl Signals {
         })
     }
 
-    /// Whether a line may stand behind those so far.
+    /// Whether a line may stand after those so far.
     pub fn check(&self, said: &Said) -> Result<(), Fault>
         requires { IsSaid self.now.horizon said.now }
         ensures { seen (λ u. tt) result ≡ checked self.now said.now }
@@ -70,10 +70,11 @@ impl Signals {
         requires { line < 16 }
         ensures { seen (λ u. tt) result ≡ part.checked_edges self.now line times.now }
     {
+        // This read shows what holds of the signals so far: each line has its list of edges.
         let _horizon = self.horizon;
         if !self.has_room(times) {
             Err(Fault::Limit)
-        } else if rises_behind(self.line(line), times) {
+        } else if rises_after(self.line(line), times) {
             Ok(())
         } else {
             Err(Fault::Bad)
@@ -180,8 +181,8 @@ fn are_up_to(times: &[u64], most: u64) -> bool
     times.iter().all(|time| *time <= most)
 }
 
-// Whether times rise strictly behind others that do.
-fn rises_behind(before: &[u64], times: &[u64]) -> bool
+// Whether times rise strictly after others that do.
+fn rises_after(before: &[u64], times: &[u64]) -> bool
     requires rise { IsStrictlyIncreasing before.now }
     requires low { (k : ℕ) → k < length before.now → slice_index before.now k ≤ 10 ^ 12 }
     requires within { (k : ℕ) → k < length times.now → slice_index times.now k ≤ 10 ^ 12 }

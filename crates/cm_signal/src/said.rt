@@ -6,6 +6,7 @@ ghost use Rattle.cm_base.specs.declared.faults.Fault.TheVariants as faults;
 ghost use Rattle.cm_base.specs.LineView.{line_view};
 ghost use Rattle.cm_base.specs.ReadStop.{Gives};
 ghost use Rattle.cm_base.specs.Reading.{at_line};
+ghost use Rattle.cm_signal.specs.Fitting.{Fits};
 ghost use Rattle.cm_signal.specs.Said.{IsSaid};
 ghost use Rattle.cm_signal.specs.SignalsPart as spec;
 
@@ -44,6 +45,7 @@ pub fn read_line(
     requires { length subs.now < 2 ^ 32 }
     ensures value { Gives (λ said. said) result (at_line line.now.number (spec.said_line subs.now horizon (line_view line.now))) }
     ensures limits { IfOk result (IsSaid horizon) }
+    ensures fits { IfOk result (Fits subs.now) }
 {
     let number = line.number;
     if line.bad {
@@ -55,7 +57,7 @@ pub fn read_line(
     }
 }
 
-// What the words behind a key say.
+// What the words after a key say.
 fn read_words(
     alloc: Global,
     number: u32,
@@ -67,6 +69,7 @@ fn read_words(
     requires { length subs.now < 2 ^ 32 }
     ensures value { Gives (λ said. said) result (at_line number (spec.said_words subs.now horizon (key.now ∷ map (λ word. word.now) words.now))) }
     ensures limits { IfOk result (IsSaid horizon) }
+    ensures fits { IfOk result (Fits subs.now) }
 {
     if key == b"wave".as_slice() {
         read_wave(alloc, number, subs, words)
@@ -86,6 +89,7 @@ fn read_wave(alloc: Global, number: u32, subs: &[Sub], words: &[&[u8]]) -> Resul
     requires { length subs.now < 2 ^ 32 }
     ensures value { Gives (λ said. said) result (at_line number (spec.wave_words subs.now (map (λ word. word.now) words.now))) }
     ensures limits { IfOk result (IsSaid 0) }
+    ensures fits { IfOk result (Fits subs.now) }
 {
     let (sub, chan, kind, words) = at_line(number, three_and_more(words))?;
     if kind == b"const".as_slice() {
@@ -106,6 +110,7 @@ fn read_const(subs: &[Sub], sub: &[u8], chan: &[u8], words: &[&[u8]]) -> Result<
     requires { length subs.now < 2 ^ 32 }
     ensures value { result ≡ spec.const_words subs.now sub.now chan.now (map (λ word. word.now) words.now) }
     ensures limits { IfOk result (IsSaid 0) }
+    ensures fits { IfOk result (Fits subs.now) }
 {
     let level = one(words)?;
     let (sub, chan) = read_channel(subs, sub, chan)?;
@@ -118,6 +123,7 @@ fn read_square(subs: &[Sub], sub: &[u8], chan: &[u8], words: &[&[u8]]) -> Result
     requires { length subs.now < 2 ^ 32 }
     ensures value { result ≡ spec.square_words subs.now sub.now chan.now (map (λ word. word.now) words.now) }
     ensures limits { IfOk result (IsSaid 0) }
+    ensures fits { IfOk result (Fits subs.now) }
 {
     let (low, high, period) = three(words)?;
     let (sub, chan) = read_channel(subs, sub, chan)?;
@@ -132,6 +138,7 @@ fn read_saw(subs: &[Sub], sub: &[u8], chan: &[u8], words: &[&[u8]]) -> Result<Sa
     requires { length subs.now < 2 ^ 32 }
     ensures value { result ≡ spec.saw_words subs.now sub.now chan.now (map (λ word. word.now) words.now) }
     ensures limits { IfOk result (IsSaid 0) }
+    ensures fits { IfOk result (Fits subs.now) }
 {
     let (low, high, period) = three(words)?;
     let (sub, chan) = read_channel(subs, sub, chan)?;
@@ -153,6 +160,7 @@ fn read_table(
     requires { length subs.now < 2 ^ 32 }
     ensures value { Gives (λ said. said) result (at_line number (spec.table_words subs.now sub.now chan.now (map (λ word. word.now) words.now))) }
     ensures limits { IfOk result (IsSaid 0) }
+    ensures fits { IfOk result (Fits subs.now) }
 {
     let (period, levels) = at_line(number, one_and_more(words))?;
     let (sub, chan) = at_line(number, read_channel(subs, sub, chan))?;
@@ -166,6 +174,7 @@ fn read_table(
 fn read_edges(alloc: Global, number: u32, horizon: u64, words: &[&[u8]]) -> Result<Said, ReadStop>
     ensures value { Gives (λ said. said) result (at_line number (spec.edges_words horizon (map (λ word. word.now) words.now))) }
     ensures limits { IfOk result (IsSaid 0) }
+    ensures fits { IfOk result (Fits []) }
 {
     let (line, times) = at_line(number, one_and_more(words))?;
     let line = at_line(number, read_line_number(line))?;
@@ -177,6 +186,7 @@ fn read_edges(alloc: Global, number: u32, horizon: u64, words: &[&[u8]]) -> Resu
 fn read_every(alloc: Global, number: u32, words: &[&[u8]]) -> Result<Said, ReadStop>
     ensures value { Gives (λ said. said) result (at_line number (spec.every_words (map (λ word. word.now) words.now))) }
     ensures limits { IfOk result (IsSaid 0) }
+    ensures fits { IfOk result (Fits []) }
 {
     let (line, first, period, count) = at_line(number, read_numbers(words))?;
     let times = progression(alloc, first, period, count)?;
@@ -215,6 +225,7 @@ fn read_int(subs: &[Sub], horizon: u64, words: &[&[u8]]) -> Result<Said, Fault>
     requires { length subs.now < 2 ^ 32 }
     ensures value { result ≡ spec.int_words subs.now horizon (map (λ word. word.now) words.now) }
     ensures limits { IfOk result (IsSaid horizon) }
+    ensures fits { IfOk result (Fits subs.now) }
 {
     let (sub, time, arg) = three(words)?;
     let sub = number_below(sub, subs.len() as u32)?;
@@ -226,7 +237,8 @@ fn read_int(subs: &[Sub], horizon: u64, words: &[&[u8]]) -> Result<Said, Fault>
 // A channel with levels.
 fn read_channel(subs: &[Sub], sub: &[u8], chan: &[u8]) -> Result<(u32, u32), Fault>
     requires { length subs.now < 2 ^ 32 }
-    ensures { result ≡ spec.channel_words subs.now sub.now chan.now }
+    ensures value { result ≡ spec.channel_words subs.now sub.now chan.now }
+    ensures fits { IfOk result (λ at. at.1 < spec.level_channels (slice_get subs.now at.0)) }
 {
     let sub = read_input(subs, sub)?;
     let chan = number_below(chan, level_channels(subs, sub))?;

@@ -1,8 +1,8 @@
 -- A command that the test has adjusted passes the steps up to that one.
 use Rattle.std.proofs.Common.{◌≡◌, ℕ, ◌<◌, ◌≤◌, Bool, true, false, ◌&&◌, refl, ap, arith, inl, inr, ◌⊎◌}
 use Rattle.std.specs.Prelude.{◌==◌, not, if◌then◌else◌}
-use Rattle.cm_board.specs.Board.{SubText, IsSound}
-use Rattle.cm_board.specs.Source as source
+use Rattle.cm_board.specs.Board.{SubText, IsSoundSub}
+use Rattle.cm_base.specs.Source as source
 use Rattle.cm_cmd.specs.Command.{CmdText}
 use Rattle.cm_cmd.specs.declared.command.Trig.{Trig}
 use Rattle.std.specs.Prelude.{◌^◌}
@@ -65,11 +65,11 @@ passes_repaired sub cmd n c =
     }
 
 -- the length of a scan is one that a list may have
-pub scan_length_fits : (sub : SubText) (cmd : CmdText) → IsSound sub → (1 ≤ scan_length sub cmd) × (scan_length sub cmd ≤ sub.list_max)
+pub scan_length_fits : (sub : SubText) (cmd : CmdText) → IsSoundSub sub → (1 ≤ scan_length sub cmd) × (scan_length sub cmd ≤ sub.list_max)
 scan_length_fits sub cmd ok = let l = ok.list.low in (omega arith, omega arith)
 
 -- a rounded command is within its limits
-within_rounded : (sub : SubText) (cmd : CmdText) → IsSound sub → is_within sub cmd ≡ true → is_within sub (rounded sub cmd) ≡ true
+within_rounded : (sub : SubText) (cmd : CmdText) → IsSoundSub sub → is_within sub cmd ≡ true → is_within sub (rounded sub cmd) ≡ true
 within_rounded sub cmd ok h =
     let s = are_same (repaired sub cmd) cmd h in
     let n = scan_length sub cmd in
@@ -87,7 +87,7 @@ within_rounded sub cmd ok h =
     })
 
 -- a rounded command needs no rounding
-rounded_rounded : (sub : SubText) (cmd : CmdText) → IsSound sub → is_rounded sub (rounded sub cmd) ≡ true
+rounded_rounded : (sub : SubText) (cmd : CmdText) → IsSoundSub sub → is_rounded sub (rounded sub cmd) ≡ true
 rounded_rounded sub cmd ok =
     let scan : Bool = cmd.scan_begin.src == source.timer in
     let conv : Bool = cmd.convert.src == source.timer in
@@ -99,7 +99,7 @@ rounded_rounded sub cmd ok =
       stop = refl;
     })
 
-passes_rounded : (sub : SubText) (cmd : CmdText) → IsSound sub → is_narrow sub cmd ≡ true → is_compatible sub cmd ≡ true → is_within sub cmd ≡ true → PassesFour sub (rounded sub cmd)
+passes_rounded : (sub : SubText) (cmd : CmdText) → IsSoundSub sub → is_narrow sub cmd ≡ true → is_compatible sub cmd ≡ true → is_within sub cmd ≡ true → PassesFour sub (rounded sub cmd)
 passes_rounded sub cmd ok n c w =
     let r = rounded sub cmd in
     record {
@@ -165,7 +165,7 @@ rounded_settles sub cmd ok h = settles sub (tested sub cmd).1 (rounded_passes su
 time_fits : (mode tick a : ℕ) (l : Limits) → OnTick tick l → l.high ≤ 4000000000 → moved_into l a ≡ a → rounded_by mode tick a < 2 ^ 32
 time_fits mode tick a l on few e = let i = rounded_in mode tick a l on e in omega arith
 
-pub begin_fits : (sub : SubText) (cmd : CmdText) → IsSound sub → is_within sub cmd ≡ true → (cmd.scan_begin.src == source.timer) ≡ true → rounded_by (rounding cmd.flags) sub.tick cmd.scan_begin.arg < 2 ^ 32
+pub begin_fits : (sub : SubText) (cmd : CmdText) → IsSoundSub sub → is_within sub cmd ≡ true → (cmd.scan_begin.src == source.timer) ≡ true → rounded_by (rounding cmd.flags) sub.tick cmd.scan_begin.arg < 2 ^ 32
 begin_fits sub cmd ok h timer =
     let s = are_same (repaired sub cmd) cmd h in
     time_fits (rounding cmd.flags) sub.tick cmd.scan_begin.arg (begin sub) (begin_on_tick sub ok) ok.scan.high (let e : moved_into (scan_begin_limits sub cmd) cmd.scan_begin.arg ≡ cmd.scan_begin.arg = ap (λ (t : Trig). t.arg) s.scan_begin in rw timer at e)
@@ -175,17 +175,17 @@ convert_in : (sub : SubText) (cmd : CmdText) → is_within sub cmd ≡ true → 
 convert_in sub cmd h timer = let s = are_same (repaired sub cmd) cmd h in
     let e : moved_into (convert_limits sub cmd) cmd.convert.arg ≡ cmd.convert.arg = ap (λ (t : Trig). t.arg) s.convert in rw timer at e
 
-few_high : (sub : SubText) (n : ℕ) (timed : Bool) → IsSound sub → (conversion sub n timed).high ≤ 4000000000
+few_high : (sub : SubText) (n : ℕ) (timed : Bool) → IsSoundSub sub → (conversion sub n timed).high ≤ 4000000000
 few_high sub n true ok = let h = ok.convert.high in omega arith
 few_high sub n false ok = ok.convert.high
 
-pub convert_fits : (sub : SubText) (cmd : CmdText) → IsSound sub → is_within sub cmd ≡ true → (cmd.convert.src == source.timer) ≡ true → rounded_by (rounding cmd.flags) sub.tick cmd.convert.arg < 2 ^ 32
+pub convert_fits : (sub : SubText) (cmd : CmdText) → IsSoundSub sub → is_within sub cmd ≡ true → (cmd.convert.src == source.timer) ≡ true → rounded_by (rounding cmd.flags) sub.tick cmd.convert.arg < 2 ^ 32
 convert_fits sub cmd ok h timer =
     let fits = scan_length_fits sub cmd ok in
     let timed : Bool = cmd.scan_begin.src == source.timer in
     time_fits (rounding cmd.flags) sub.tick cmd.convert.arg (conversion sub (scan_length sub cmd) timed) (conv_on_tick sub (scan_length sub cmd) timed ok fits.0 fits.1) (few_high sub (scan_length sub cmd) timed ok) (convert_in sub cmd h timer)
 
-needed_fits : (sub : SubText) (n mode a : ℕ) (scan conv : Bool) → IsSound sub → 1 ≤ n → n ≤ sub.list_max → (conv ≡ true → moved_into (conversion sub n scan) a ≡ a) → needed (scan && conv) (time_of sub mode conv a) n < 2 ^ 32
+needed_fits : (sub : SubText) (n mode a : ℕ) (scan conv : Bool) → IsSoundSub sub → 1 ≤ n → n ≤ sub.list_max → (conv ≡ true → moved_into (conversion sub n scan) a ≡ a) → needed (scan && conv) (time_of sub mode conv a) n < 2 ^ 32
 needed_fits sub n mode a false conv ok some few e = omega arith
 needed_fits sub n mode a true false ok some few e = omega arith
 needed_fits sub n mode a true true ok some few e =
@@ -194,7 +194,7 @@ needed_fits sub n mode a true true ok some few e =
     let h = ok.scan.high in omega arith
 
 -- a scan of conversions on the tick still fits
-pub scan_fits : (sub : SubText) (cmd : CmdText) → IsSound sub → is_within sub cmd ≡ true → scan_time sub (ticked sub cmd) < 2 ^ 32
+pub scan_fits : (sub : SubText) (cmd : CmdText) → IsSoundSub sub → is_within sub cmd ≡ true → scan_time sub (ticked sub cmd) < 2 ^ 32
 scan_fits sub cmd ok h =
     let fits = scan_length_fits sub cmd ok in
     needed_fits sub (scan_length sub cmd) (rounding cmd.flags) cmd.convert.arg (cmd.scan_begin.src == source.timer) (cmd.convert.src == source.timer) ok fits.0 fits.1 (convert_in sub cmd h)

@@ -4,3 +4,4 @@ pub mod Same
 pub mod Inside
 pub mod Kept
 pub mod Passed
+pub mod Rounding

@@ -6,8 +6,9 @@ use Rattle.std.proofs.lemmas.Bool.{eqb-true, eq-eqb}
 use Rattle.std.proofs.lemmas.Bool.Decides.{nat_tests}
 use Rattle.std.proofs.lemmas.List.Sums.{AllPass-from_list_all}
 use Rattle.std.proofs.lemmas.Nat.{and_assoc, and_le_r}
-use Rattle.cm_board.specs.Board.{SubText, Masks, IsSound, IsFrom1To, has_text, fits_kind, fits_commands, fits_lines, takes_commands, are_full, is_among, is_idle, may_command, range_count}
-use Rattle.cm_board.specs.Source as source
+use Rattle.cm_board.specs.Board.{SubText, Masks, IsSoundSub, IsFrom1To, has_text, fits_kind, fits_commands, fits_lines, takes_commands, are_full, is_among, is_idle, may_command, range_count}
+use Rattle.cm_base.specs.Source as source
+use Rattle.cm_board.proofs.PrintedBack.{takes_by_start}
 use Rattle.cm_cmd.specs.Command.{CmdText}
 use Rattle.cm_cmd.specs.Entry.{chan, range}
 use Rattle.cm_cmd.specs.declared.command.Trig.{Trig}
@@ -49,22 +50,22 @@ one_of mask t e some single = record {
 }
 
 -- no source, several, one that is not of the set, or one that passes
-abbrev is_told : ℕ → (ℕ → Bool) → ℕ → Bool
-is_told set p src = not (not (src == 0) && is_one_bit src && bit_and src set == src) || p src
+abbrev is_reported : ℕ → (ℕ → Bool) → ℕ → Bool
+is_reported set p src = not (not (src == 0) && is_one_bit src && bit_and src set == src) || p src
 
 not_first : (a b : Bool) → a ≡ true → (not a || b) ≡ true → b ≡ true
 not_first true b p q = q
 not_first false b p q = cc
 
 -- a single source of a mask of these sources is one of them
-told : (set mask src : ℕ) (p : ℕ → Bool) → set < 512 → list_all (is_told set p) (range_with_len 0 512) ≡ true → is_among set mask ≡ true → IsOneOf mask src → p src ≡ true
-told set mask src p small table among o =
+reported : (set mask src : ℕ) (p : ℕ → Bool) → set < 512 → list_all (is_reported set p) (range_with_len 0 512) ≡ true → is_among set mask ≡ true → IsOneOf mask src → p src ≡ true
+reported set mask src p small table among o =
     let kept : bit_and src mask ≡ src = eqb-true (bit_and src mask) src o.allowed in
     let inner : bit_and mask set ≡ mask = eqb-true (bit_and mask set) mask (both _ _ among).1 in
     let inside : bit_and src set ≡ src = ap (λ s. bit_and s set) (sym kept) ∙ and_assoc set src mask ∙ ap (bit_and src) inner ∙ kept in
     let few : src ≤ set = (let le = and_le_r src set in omega (arith, le, inside)) in
     let some : not (src == 0) ≡ true = (let s = o.some in grind (arith, nat_tests)) in
-    not_first _ (p src) (and_true _ _ (and_true _ _ some o.single) (eq-eqb (bit_and src set) src inside)) (each_below (is_told set p) 512 table src (omega arith))
+    not_first _ (p src) (and_true _ _ (and_true _ _ some o.single) (eq-eqb (bit_and src set) src inside)) (each_below (is_reported set p) 512 table src (omega arith))
 
 abbrev any_of_three : ℕ → ℕ → ℕ → ℕ → Bool
 any_of_three a b c src = src == a || src == b || src == c
@@ -75,19 +76,19 @@ any_of_two a b src = src == a || src == b
 abbrev is_that : ℕ → ℕ → Bool
 is_that a src = src == a
 
-starts : list_all (is_told 194 (any_of_three 2 64 128)) (range_with_len 0 512) ≡ true
+starts : list_all (is_reported 194 (any_of_three 2 64 128)) (range_with_len 0 512) ≡ true
 starts = refl
 
-scan_begins : list_all (is_told 84 (any_of_three 4 16 64)) (range_with_len 0 512) ≡ true
+scan_begins : list_all (is_reported 84 (any_of_three 4 16 64)) (range_with_len 0 512) ≡ true
 scan_begins = refl
 
-converts : list_all (is_told 82 (any_of_three 2 16 64)) (range_with_len 0 512) ≡ true
+converts : list_all (is_reported 82 (any_of_three 2 16 64)) (range_with_len 0 512) ≡ true
 converts = refl
 
-scan_ends : list_all (is_told 32 (is_that 32)) (range_with_len 0 512) ≡ true
+scan_ends : list_all (is_reported 32 (is_that 32)) (range_with_len 0 512) ≡ true
 scan_ends = refl
 
-stops : list_all (is_told 33 (any_of_two 1 32)) (range_with_len 0 512) ≡ true
+stops : list_all (is_reported 33 (any_of_two 1 32)) (range_with_len 0 512) ≡ true
 stops = refl
 
 either : (a b : Bool) → (a || b) ≡ true → (a ≡ true) ⊎ (b ≡ true)
@@ -130,7 +131,7 @@ commands_fit : (sub : SubText) → has_text sub ≡ true → fits_commands sub �
 unfolding has_text
 commands_fit sub h = (both (fits_kind sub) (fits_commands sub) (both (fits_kind sub && fits_commands sub) (fits_lines sub) h).0).1
 
-sound_masks : (sub : SubText) → IsSound sub → takes_commands sub ≡ true → AreFull sub.masks
+sound_masks : (sub : SubText) → IsSoundSub sub → takes_commands sub ≡ true → AreFull sub.masks
 sound_masks sub ok takes = masks_full sub.masks (both (are_full sub.masks) (may_command sub.kind) (full_masks (takes_commands sub) (are_full sub.masks && may_command sub.kind) (is_idle sub) takes (commands_fit sub ok.text))).0
 
 -- a subdevice whose start may have a source takes commands
@@ -145,10 +146,10 @@ takes_some mask src o =
 timed_low : (least a : ℕ) → 1 ≤ least → least ≤ a → 1 ≤ a
 timed_low least a h k = omega arith
 
-period : (sub : SubText) (cmd : CmdText) → IsSound sub → AreInside sub cmd → cmd.scan_begin.src ≡ source.timer → 1 ≤ cmd.scan_begin.arg
+period : (sub : SubText) (cmd : CmdText) → IsSoundSub sub → AreInside sub cmd → cmd.scan_begin.src ≡ source.timer → 1 ≤ cmd.scan_begin.arg
 period sub cmd ok i is = let l : (scan_begin_limits sub cmd).low ≤ cmd.scan_begin.arg = i.scan_begin.low in timed_low sub.scan_min cmd.scan_begin.arg ok.scan.some (rw is at l)
 
-gap : (sub : SubText) (cmd : CmdText) → IsSound sub → AreInside sub cmd → cmd.convert.src ≡ source.timer → 1 ≤ cmd.convert.arg
+gap : (sub : SubText) (cmd : CmdText) → IsSoundSub sub → AreInside sub cmd → cmd.convert.src ≡ source.timer → 1 ≤ cmd.convert.arg
 gap sub cmd ok i is = let l : (convert_limits sub cmd).low ≤ cmd.convert.arg = i.convert.low in timed_low sub.conv_min cmd.convert.arg ok.convert.some (rw is at l)
 
 scans : (sub : SubText) (cmd : CmdText) → AreInside sub cmd → cmd.stop.src ≡ source.count → IsFrom1To sub.scans_max cmd.stop.arg
@@ -209,7 +210,7 @@ passed sub cmd ok zero =
     let o3 = one_of sub.masks.convert cmd.convert m.convert s2.1 b2.1 in
     let o4 = one_of sub.masks.scan_end cmd.scan_end m.scan_end s3.1 b3.1 in
     let o5 = one_of sub.masks.stop cmd.stop m.stop s4.1 b4.1 in
-    let takes = takes_some sub.masks.start cmd.start.src o1 in
+    let takes : takes_commands sub ≡ true = takes_by_start sub ok ∙ takes_some sub.masks.start cmd.start.src o1 in
     let full = sound_masks sub ok takes in
     let i = passed_inside sub cmd ok (record { narrow = yes.first; compatible = yes.second; within = yes.third }) in
     let v2 = both (has_valid_length sub cmd.list && list_all (is_valid_entry sub) cmd.list) (has_valid_ranges sub cmd.list) yes.fifth in
@@ -224,11 +225,11 @@ passed sub cmd ok zero =
       convert_of = o3;
       scan_end_of = o4;
       stop_of = o5;
-      start = three_ways source.now source.ext source.int cmd.start.src (told 194 sub.masks.start cmd.start.src (any_of_three 2 64 128) (omega arith) starts full.start o1);
-      scan_begin = three_ways source.follow source.timer source.ext cmd.scan_begin.src (told 84 sub.masks.scan_begin cmd.scan_begin.src (any_of_three 4 16 64) (omega arith) scan_begins full.scan_begin o2);
-      convert = three_ways source.now source.timer source.ext cmd.convert.src (told 82 sub.masks.convert cmd.convert.src (any_of_three 2 16 64) (omega arith) converts full.convert o3);
-      scan_end = eqb-true cmd.scan_end.src source.count (told 32 sub.masks.scan_end cmd.scan_end.src (is_that 32) (omega arith) scan_ends full.scan_end o4);
-      stop = two_ways source.none source.count cmd.stop.src (told 33 sub.masks.stop cmd.stop.src (any_of_two 1 32) (omega arith) stops full.stop o5);
+      start = three_ways source.now source.ext source.int cmd.start.src (reported 194 sub.masks.start cmd.start.src (any_of_three 2 64 128) (omega arith) starts full.start o1);
+      scan_begin = three_ways source.follow source.timer source.ext cmd.scan_begin.src (reported 84 sub.masks.scan_begin cmd.scan_begin.src (any_of_three 4 16 64) (omega arith) scan_begins full.scan_begin o2);
+      convert = three_ways source.now source.timer source.ext cmd.convert.src (reported 82 sub.masks.convert cmd.convert.src (any_of_three 2 16 64) (omega arith) converts full.convert o3);
+      scan_end = eqb-true cmd.scan_end.src source.count (reported 32 sub.masks.scan_end cmd.scan_end.src (is_that 32) (omega arith) scan_ends full.scan_end o4);
+      stop = two_ways source.none source.count cmd.stop.src (reported 33 sub.masks.stop cmd.stop.src (any_of_two 1 32) (omega arith) stops full.stop o5);
       ends = d.1;
       inside = i;
       period = period sub cmd ok i;

@@ -1,13 +1,11 @@
 -- Commands whose triggers are the same.
-use Rattle.std.proofs.Common.{◌≡◌, true, refl, ap}
+use Rattle.std.proofs.Common.{◌≡◌, true, ap}
 use Rattle.std.specs.Prelude.{◌==◌}
 use Rattle.std.proofs.lemmas.Bool.{eqb-true, eq-eqb}
 use Rattle.cm_cmd.specs.Command.{CmdText}
 use Rattle.cm_cmd.specs.declared.command.Trig.{Trig}
-use Rattle.cm_board.specs.Board.{SubText}
 use Rattle.cm_base.proofs.Bools.{and_true, both}
-use Rattle.cm_test.specs.Steps.{narrowed, repaired, rounded}
-use Rattle.cm_test.specs.Questions.{same_trigger, same_triggers, has_sources, is_narrow, is_within, is_rounded}
+use Rattle.cm_test.specs.Questions.{same_trigger, same_triggers}
 
 trigger_same : (a b : Trig) → a ≡ b → same_trigger a b ≡ true
 trigger_same a b e = and_true (a.src == b.src) (a.arg == b.arg) (eq-eqb a.src b.src (ap (λ (t : Trig). t.src) e)) (eq-eqb a.arg b.arg (ap (λ (t : Trig). t.arg) e))
@@ -44,26 +42,3 @@ are_same a b h =
 pub triggers_same : (a b : CmdText) → AreSame a b → same_triggers a b ≡ true
 triggers_same a b e =
     and_true _ _ (and_true _ _ (and_true _ _ (and_true _ _ (trigger_same a.start b.start e.start) (trigger_same a.scan_begin b.scan_begin e.scan_begin)) (trigger_same a.convert b.convert e.convert)) (trigger_same a.scan_end b.scan_end e.scan_end)) (trigger_same a.stop b.stop e.stop)
-
--- a command that differs from another in its triggers alone is that one where these are the same
-pub same_command : (a b : CmdText) → a.sub ≡ b.sub → a.flags ≡ b.flags → a.list ≡ b.list → AreSame a b → a ≡ b
-same_command a b s f l e = λ i. record {
-  sub = s i;
-  flags = f i;
-  list = l i;
-  start = e.start i;
-  scan_begin = e.scan_begin i;
-  convert = e.convert i;
-  scan_end = e.scan_end i;
-  stop = e.stop i;
-}
-
--- what passes a step is left as it was
-pub kept_narrowed : (sub : SubText) (cmd : CmdText) → is_narrow sub cmd ≡ true → narrowed sub cmd ≡ cmd
-kept_narrowed sub cmd h = same_command (narrowed sub cmd) cmd refl refl refl (are_same (narrowed sub cmd) cmd (both (same_triggers (narrowed sub cmd) cmd) (has_sources cmd) h).0)
-
-pub kept_repaired : (sub : SubText) (cmd : CmdText) → is_within sub cmd ≡ true → repaired sub cmd ≡ cmd
-kept_repaired sub cmd h = same_command (repaired sub cmd) cmd refl refl refl (are_same (repaired sub cmd) cmd h)
-
-pub kept_rounded : (sub : SubText) (cmd : CmdText) → is_rounded sub cmd ≡ true → rounded sub cmd ≡ cmd
-kept_rounded sub cmd h = same_command (rounded sub cmd) cmd refl refl refl (are_same (rounded sub cmd) cmd h)

@@ -1,8 +1,8 @@
 -- What a command says that passes the whole test of its subdevice.
 use Rattle.std.specs.Prelude.{ℕ, ◌*◌, ◌≡◌, ◌<◌, ◌≤◌, ◌^◌, ◌⊎◌, not, length, IsTrue}
 use Rattle.std.specs.List.{All}
-use Rattle.cm_board.specs.Board.{SubText, IsSound, IsFrom1To, range_count, takes_commands}
-use Rattle.cm_board.specs.Source as source
+use Rattle.cm_board.specs.Board.{SubText, IsSoundSub, IsFrom1To, range_count, takes_commands}
+use Rattle.cm_base.specs.Source as source
 use Rattle.cm_cmd.specs.Command.{CmdText}
 use Rattle.cm_cmd.specs.Entry.{chan, range}
 use Rattle.cm_test.specs.Law.{AreInside}
@@ -62,4 +62,4 @@ pub record IsPassed (sub : SubText) (cmd : CmdText) : Type 0 where
 
 -- what passes the test is a command that the subdevice takes
 abbrev pub PassedIsTaken : Type 0
-PassedIsTaken = (sub : SubText) (cmd : CmdText) → IsSound sub → (tested sub cmd).0 ≡ 0 → IsPassed sub cmd
+PassedIsTaken = (sub : SubText) (cmd : CmdText) → IsSoundSub sub → (tested sub cmd).0 ≡ 0 → IsPassed sub cmd

@@ -1,5 +1,5 @@
 // What holds of the definitions alone.
-ghost use Rattle.cm_test.specs.Law.{PassedIsInside, RepairedPasses, RoundedPasses, RoundedSettles};
+ghost use Rattle.cm_test.specs.Law.{PassedIsInside, RepairedPasses, RoundedIsOnTick, RoundedPasses, RoundedSettles, RoundingIsAsNamed};
 ghost use Rattle.cm_test.specs.Passed.{PassedIsTaken};
 
 /// A command that the test has adjusted passes the steps up to that one.
@@ -18,4 +18,11 @@ pub fn a_passed_command_is_inside()
 /// arguments between their limits, and a list of entries that the subdevice has.
 pub fn what_passes_is_taken()
     ensures { PassedIsTaken }
+{}
+
+/// A time is rounded up to the least multiple of the tick not below it, down to the greatest not
+/// above it, or to the nearest one, where a half goes up. So a rounded time is on the tick.
+pub fn rounding_is_as_named()
+    ensures named { RoundingIsAsNamed }
+    ensures on_tick { RoundedIsOnTick }
 {}

@@ -12,9 +12,9 @@ pub mod times;
 mod tests {
     use crate::test::{accept, command_test};
     use cm_base::faults::{Fault, ReadStop, Refused};
-    use cm_base::lines::split_lines;
+    use cm_base::lines::{Line, split_lines};
+    use cm_base::source::{COUNT, EXT, FOLLOW, INT, NONE, NOW, TIMER};
     use cm_board::board::{Forbid, Kind, Munge, Range, Sub};
-    use cm_board::source::{COUNT, EXT, FOLLOW, INT, NONE, NOW, TIMER};
     use cm_cmd::command::Cmd;
     use cm_cmd::printing::print_cmd;
     use cm_cmd::reading::read_cmd;
@@ -166,12 +166,9 @@ mod tests {
         if text.len() >= 100000 {
             return Err(ReadStop::Refused(missing));
         }
-        match split_lines(alloc, text.as_bytes()) {
-            Err(_) => Err(ReadStop::NoMemory),
-            Ok(lines) => match lines.list.first() {
-                None => Err(ReadStop::Refused(missing)),
-                Some(line) => read_cmd(alloc, line, 0),
-            },
-        }
+        let lines = split_lines(alloc, text.as_bytes())?;
+        let mut line = Line::empty(alloc);
+        lines.from(0).next(alloc, &mut line)?;
+        read_cmd(alloc, &line, 0)
     }
 }

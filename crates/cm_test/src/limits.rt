@@ -3,8 +3,8 @@ ghost use Rattle.std.specs.Prelude.{◌≡◌, ◌≤◌, ◌<◌, ◌^◌, leng
 ghost use Rattle.cm_test.specs.Steps as spec;
 ghost use Rattle.cm_test.specs.Questions.{same_trigger, is_within};
 
+use cm_base::source::{COUNT, EXT, TIMER};
 use cm_board::board::Sub;
-use cm_board::source::{COUNT, EXT, TIMER};
 use cm_cmd::command::{Cmd, Trig};
 
 /// The least and the greatest value of a trigger's argument.
@@ -14,8 +14,8 @@ pub struct Limits {
     pub high: u32,
 }
 
-/// Moves each argument to the nearest value in its limits, and tells whether all were there.
-pub fn repair(sub: &Sub, cmd: &mut Cmd) -> bool
+/// Moves each argument to the nearest value in its limits, and reports whether all were there.
+pub(crate) fn repair(sub: &Sub, cmd: &mut Cmd) -> bool
     requires { length cmd.old.list < 2 ^ 32 }
     ensures cmd { cmd.new ≡ spec.repaired sub.now cmd.old }
     ensures result { result ≡ is_within sub.now cmd.old }
@@ -55,7 +55,7 @@ impl Limits {
         }
     }
 
-    // Moves an argument to the nearest value in the limits, and tells whether it was there.
+    // Moves an argument to the nearest value in the limits, and reports whether it was there.
     fn repair(self, trigger: &mut Trig) -> bool
         ensures trigger { trigger.new ≡ spec.moved self trigger.old }
         ensures result { result ≡ same_trigger trigger.new trigger.old }
@@ -117,7 +117,7 @@ fn slowest_conversion(sub: &Sub, cmd: &Cmd) -> u32
 
 /// The length of a command's list, moved into the lengths that a list may have: 1 to the
 /// subdevice's `list_max`.
-pub fn scan_length(sub: &Sub, cmd: &Cmd) -> u32
+pub(crate) fn scan_length(sub: &Sub, cmd: &Cmd) -> u32
     requires { length cmd.now.list < 2 ^ 32 }
     ensures value { result ≡ spec.scan_length sub.now cmd.now }
     ensures some { 1 ≤ result }

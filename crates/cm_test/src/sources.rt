@@ -4,12 +4,12 @@ ghost use Rattle.std.specs.List.{list_any};
 ghost use Rattle.cm_test.specs.Steps.{narrowed, narrowed_to};
 ghost use Rattle.cm_test.specs.Questions.{same_trigger, has_sources, is_narrow, source_at, is_forbidden, is_one_bit, are_single, is_endless, is_compatible};
 
+use cm_base::source::{FOLLOW, NOW};
 use cm_board::board::{Forbid, Sub};
-use cm_board::source::{FOLLOW, NOW};
 use cm_cmd::command::{Cmd, Trig};
 
-/// Leaves each trigger the sources that the subdevice has, and tells whether it had some and no others.
-pub fn narrow(sub: &Sub, cmd: &mut Cmd) -> bool
+/// Leaves each trigger the sources that the subdevice has, and reports whether it had some and no others.
+pub(crate) fn narrow(sub: &Sub, cmd: &mut Cmd) -> bool
     ensures cmd { cmd.new ≡ narrowed sub.now cmd.old }
     ensures result { result ≡ is_narrow sub.now cmd.old }
     ensures kept { IsTrue result → cmd.new ≡ cmd.old }
@@ -23,7 +23,7 @@ pub fn narrow(sub: &Sub, cmd: &mut Cmd) -> bool
     start && scan_begin && convert && scan_end && stop && some
 }
 
-// Leaves a trigger the sources of the mask, and tells whether it had no others.
+// Leaves a trigger the sources of the mask, and reports whether it had no others.
 fn narrow_trigger(mask: u32, trigger: &mut Trig) -> bool
     ensures trigger { trigger.new ≡ narrowed_to mask trigger.old }
     ensures result { result ≡ same_trigger trigger.new trigger.old }
@@ -44,7 +44,7 @@ fn has_sources(cmd: &Cmd) -> bool
 }
 
 /// Whether each trigger has one source, and these may stand together.
-pub fn is_compatible(sub: &Sub, cmd: &Cmd) -> bool
+pub(crate) fn is_compatible(sub: &Sub, cmd: &Cmd) -> bool
     ensures { result ≡ is_compatible sub.now cmd.now }
 {
     are_single(cmd) && !is_endless(cmd) && !has_forbidden(&sub.forbidden, cmd)

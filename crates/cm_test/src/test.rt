@@ -9,9 +9,10 @@ use crate::sources::{is_compatible, narrow};
 use crate::times::round;
 use cm_board::board::Sub;
 use cm_cmd::command::Cmd;
+use std::marker::Model;
 
 /// The first step that a command fails on a subdevice, or 0 where the subdevice takes it (Comedi: a
-/// driver's `do_cmdtest`, behind `comedi_command_test`). The command is left as that step leaves it:
+/// driver's `do_cmdtest`, after `comedi_command_test`). The command is left as that step leaves it:
 /// 1 leaves each trigger only sources that the subdevice has, 2 changes nothing, 3 moves each
 /// argument to the nearest one in its limits, 4 puts times on the tick and gives a scan the time for
 /// its conversions, 5 changes nothing. A command that step 4 has changed fails step 5 at most. It
@@ -43,13 +44,32 @@ pub fn command_test(sub: &Sub, cmd: &mut Cmd) -> u8
     0
 }
 
-/// A command that passed the test of its subdevice, as `accept` makes it.
+/// A command that passed the test of its subdevice, as `accept` makes it. Contracts see the command.
 #[derive(Drop)]
 pub struct Accepted {
-    pub cmd: Cmd,
+    cmd: Cmd,
 }
 
-/// Accepts a command that passes the test of a subdevice, unchanged. Else tells the step that fails,
+impl Model for Accepted {
+    ghost use Rattle.cm_cmd.specs.Command.{CmdText};
+
+    ghost Value = { CmdText };
+
+    ghost view = { λ accepted. accepted.cmd };
+}
+
+impl Accepted {
+    ghost use Rattle.std.specs.Prelude.{◌≡◌};
+
+    /// The command.
+    pub fn cmd(&self) -> &Cmd
+        ensures { result.now ≡ self.now }
+    {
+        &self.cmd
+    }
+}
+
+/// Accepts a command that passes the test of a subdevice, unchanged. Else reports the step that fails,
 /// with the command as the test left it. It takes no memory.
 pub fn accept(sub: &Sub, cmd: Cmd) -> Result<Accepted, (u8, Cmd)>
     requires { length cmd.list < 2 ^ 32 }

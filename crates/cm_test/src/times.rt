@@ -1,16 +1,16 @@
 // Times on the tick of a subdevice, in nanoseconds.
 ghost use Rattle.std.specs.Prelude.{◌≡◌, ◌<◌, ◌≤◌, ◌^◌, ◌/◌, ◌%◌, ◌*◌, ◌==◌, length, IsTrue};
-ghost use Rattle.cm_board.specs.Source as source;
+ghost use Rattle.cm_base.specs.Source as source;
 ghost use Rattle.cm_test.specs.Steps as spec;
 ghost use Rattle.cm_test.specs.Questions.{same_trigger, is_within, is_rounded};
 
 use crate::limits::scan_length;
+use cm_base::source::TIMER;
 use cm_board::board::Sub;
-use cm_board::source::TIMER;
 use cm_cmd::command::{Cmd, Trig};
 
-/// Puts the times on the tick, gives a scan the time for its conversions, and tells whether nothing changed.
-pub fn round(sub: &Sub, cmd: &mut Cmd) -> bool
+/// Puts the times on the tick, gives a scan the time for its conversions, and reports whether nothing changed.
+pub(crate) fn round(sub: &Sub, cmd: &mut Cmd) -> bool
     requires within { IsTrue (is_within sub.now cmd.old) }
     requires few { length cmd.old.list < 2 ^ 32 }
     ensures cmd { cmd.new ≡ spec.rounded sub.now cmd.old }

@@ -2,6 +2,8 @@
 #![tactic(auto)]
 
 #[cfg(test)]
+mod at_size;
+#[cfg(test)]
 mod board_tests;
 #[cfg(test)]
 mod boards;
@@ -9,3 +11,5 @@ mod boards;
 mod real_boards;
 #[cfg(test)]
 mod tests;
+#[cfg(test)]
+mod text;

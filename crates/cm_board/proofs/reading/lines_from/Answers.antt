@@ -1,4 +1,4 @@
-use Rattle.cm_board.proofs.Lines.{views_from}
+use Rattle.cm_base.proofs.Places.{views_from}
 use Rattle.cm_board.proofs.reading.lines_from.Goals as goal
 
 pub returns-then-at-lines-clause-views : goal.returns-then-at-lines-clause-views

@@ -1,14 +1,15 @@
 use Rattle.std.proofs.Common.{◌≡◌, ◌≤◌, ◌-◌, IsTrue, drop, length, map}
 use Rattle.cm_base.specs.LineView.{line_view}
-use Rattle.cm_board.specs.BoardPart.{blocks_from, is_between, with_front}
+use Rattle.cm_board.specs.BoardPart.{blocks_from, is_between}
+use Rattle.cm_board.proofs.Lines.{with_prefix}
 use Rattle.cm_board.proofs.reading.read_blocks.Given as goal
 
--- the blocks so far in front of those that are left
+-- the blocks so far before those that are left
 abbrev pub invariant-loop-alloc : goal.invariant-loop-alloc
 invariant-loop-alloc l = record {
   within : l.at ≤ length l.lines;
   between : IsTrue (is_between (map line_view (drop l.at l.lines)));
-  told : blocks_from l.end 0 (map line_view l.lines) ≡ with_front (l.subs.items) (blocks_from l.end (length l.subs.items) (map line_view (drop l.at l.lines)));
+  reported : blocks_from l.end 0 (map line_view l.lines) ≡ with_prefix (l.subs.items) (blocks_from l.end (length l.subs.items) (map line_view (drop l.at l.lines)));
 }
 
 abbrev pub decreases-loop-alloc : goal.decreases-loop-alloc

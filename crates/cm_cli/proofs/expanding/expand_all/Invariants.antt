@@ -1,13 +1,12 @@
 use Rattle.std.proofs.Common.{◌≤◌, drop}
 use Rattle.cm_base.specs.Transfer.{IsUnderWay}
-use Rattle.cm_replay.specs.Session.{Setting}
 use Rattle.cm_cli.specs.ExpandSession.{expands_text}
 use Rattle.cm_cli.proofs.expanding.expand_all.Given as goal
 
--- a front of the expansions is written, the next part waits, and the rest is that of the lines that are left
+-- a prefix of the expansions is written, the next part waits, and the rest is that of the lines that are left
 abbrev pub invariant-loop-line : goal.invariant-loop-line
 invariant-loop-line g l =
-    let s : Setting = record { board = l.board; signals = l.signals } in
+    let s = l.setting in
     record {
       way : IsUnderWay (g.K.Sink.text l.fn.sink) (g.K.Sink.text l.sink) l.text.items (expands_text s (drop l.line-index l.lines)) (expands_text s l.lines);
       later : g.K.Sink.faults l.fn.sink ≤ g.K.Sink.faults l.sink;

@@ -1,40 +1,30 @@
-use Rattle.std.proofs.Common.{◌≡◌, ℕ, Ok, Result, ◌∙◌, subst}
+use Rattle.std.proofs.Common.{◌∙◌}
 use Rattle.cm_base.specs.LineView.{line_view}
-use Rattle.cm_base.specs.ReadStop.{Stops}
-use Rattle.cm_base.specs.Reading.{at_line}
 use Rattle.cm_base.specs.Words.{limited}
-use Rattle.cm_base.specs.declared.faults.Fault.{Fault}
 use Rattle.cm_base.proofs.Each.{stops-along}
-use Rattle.cm_replay.specs.Session.{Setting}
-use Rattle.cm_cli.specs.ExpandSession.{has_room, length_of, line_of}
+use Rattle.cm_signal.proofs.Parts.{gives_err}
+use Rattle.cm_cli.specs.ExpandSession.{has_room, length_of_all, line_of}
 use Rattle.cm_cli.specs.declared.expanding.ExpandLine.{ExpandLine}
-use Rattle.cm_cli.proofs.ExpandLines.{at_line-through, room-found, room-stops}
+use Rattle.cm_cli.proofs.ExpandLines.{at_line-through}
+use Rattle.cm_cli.proofs.Rooms.{room-found, room-stops}
 use Rattle.cm_cli.proofs.expanding.read_expand.Goals as goal
 
-pub returns-in-Err-clause-line : goal.returns-in-Err-clause-line
-returns-in-Err-clause-line c =
-    let s : Setting = record { board = c.args.board.now; signals = c.args.signals.now } in
+pub returns-in_err-total-clause-line : goal.returns-in_err-total-clause-line
+returns-in_err-total-clause-line c =
+    let s = c.args.setting.now in
     let number = c.args.line.now.number in
-    let total = c.args.total in
+    let before = length_of_all s c.args.before.now in
     let next = c.in_ok-next.next in
-    let through = at_line-through number (line_of s (line_view c.args.line.now)) (λ (x : ExpandLine). limited (has_room s total x) x) next c.in_ok-next.ensures.line in
-    stops-along c.in-Err.stop _ _ through (room-stops (has_room s total next) number (length_of s next) next c.in-Err.stop
-    (subst (λ (r : Result ℕ Fault). Stops c.in-Err.stop (at_line number r)) c.count_of.ensures c.in-Err.ensures))
+    let stop = c.in_err-total.field-0.0 in
+    let through = at_line-through number (line_of s (line_view c.args.line.now)) (λ (x : ExpandLine). limited (has_room s before x) x) next c.in_ok-next.ensures.line in
+    gives_err _ c.from_residual-in_err-total.result stop _ c.from_residual-in_err-total.ensures.1
+    (stops-along stop _ _ through (room-stops s before number next c.total_with.result stop c.total_with.ensures c.in_err-total.ensures))
 
-pub returns-in-Ok-clause-line : goal.returns-in-Ok-clause-line
-returns-in-Ok-clause-line c =
-    let s : Setting = record { board = c.args.board.now; signals = c.args.signals.now } in
+pub returns-clause-line : goal.returns-clause-line
+returns-clause-line c =
+    let s = c.args.setting.now in
     let number = c.args.line.now.number in
-    let total = c.args.total in
+    let before = length_of_all s c.args.before.now in
     let next = c.in_ok-next.next in
-    let through = at_line-through number (line_of s (line_view c.args.line.now)) (λ (x : ExpandLine). limited (has_room s total x) x) next c.in_ok-next.ensures.line in
-    let counted : at_line number (limited (has_room s total next) (length_of s next)) ≡ Ok c.in-Ok.count = subst (λ (r : Result ℕ Fault). at_line number r ≡ Ok c.in-Ok.count) c.count_of.ensures c.in-Ok.ensures in
-    through ∙ (room-found (has_room s total next) number (length_of s next) c.in-Ok.count next counted).2
-
-pub returns-in-Ok-clause-count : goal.returns-in-Ok-clause-count
-returns-in-Ok-clause-count c =
-    let s : Setting = record { board = c.args.board.now; signals = c.args.signals.now } in
-    let number = c.args.line.now.number in
-    let next = c.in_ok-next.next in
-    let counted : at_line number (limited (has_room s c.args.total next) (length_of s next)) ≡ Ok c.in-Ok.count = subst (λ (r : Result ℕ Fault). at_line number r ≡ Ok c.in-Ok.count) c.count_of.ensures c.in-Ok.ensures in
-    (room-found (has_room s c.args.total next) number (length_of s next) c.in-Ok.count next counted).1
+    let through = at_line-through number (line_of s (line_view c.args.line.now)) (λ (x : ExpandLine). limited (has_room s before x) x) next c.in_ok-next.ensures.line in
+    through ∙ (room-found s before number next c.total_with.result c.in_ok-total.total c.total_with.ensures c.in_ok-total.ensures).0

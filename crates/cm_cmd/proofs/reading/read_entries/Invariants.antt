@@ -4,7 +4,7 @@ use Rattle.cm_base.specs.Words.{values}
 use Rattle.cm_cmd.specs.ListText.{entry_of, is_byte}
 use Rattle.cm_cmd.proofs.reading.read_entries.Given as goal
 
--- the entries so far, and what the rest says behind them
+-- the entries so far, and what the rest says after them
 abbrev pub invariant-loop-at : goal.invariant-loop-at
 invariant-loop-at l = values 256 entry_of [] (slice_split (is_byte 44) l.fn.text) ≡ values 256 entry_of l.list.items (slice_split (is_byte 44) l.rest)
 

@@ -1,4 +1,4 @@
-use Rattle.cm_replay.proofs.Fronts.{prefix_law}
+use Rattle.cm_replay.proofs.Prefixes.{prefix_law}
 use Rattle.cm_replay.proofs.law.what_is_read_is_a_prefix.Goals as goal
 
 pub returns : goal.returns

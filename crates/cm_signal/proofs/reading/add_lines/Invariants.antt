@@ -1,9 +1,16 @@
-use Rattle.std.proofs.Common.{◌≡◌, drop, map}
-use Rattle.cm_base.specs.LineView.{line_view}
-use Rattle.cm_base.specs.Reading.{read_on}
-use Rattle.cm_signal.specs.SignalsPart.{said_behind}
+use Rattle.std.proofs.Common.{◌≡◌, ◌+◌, length}
+use Rattle.cm_signal.specs.Fitting.{FitBoard}
+use Rattle.cm_signal.specs.SignalsPart.{signals_after}
+use Rattle.cm_signal.proofs.Parts.{raised}
 use Rattle.cm_signal.proofs.reading.add_lines.Given as goal
 
 -- the signals so far, and what the lines that are left add
-abbrev pub invariant-loop-line : goal.invariant-loop-line
-invariant-loop-line l = read_on (said_behind l.subs) l.initial.signals (map line_view l.lines) ≡ read_on (said_behind l.subs) l.signals (map line_view (drop l.line-index l.lines))
+abbrev pub invariant-loop-count : goal.invariant-loop-count
+invariant-loop-count l = record {
+  reported : signals_after l.subs l.end l.initial.signals l.initial.cursor ≡ raised l.count (signals_after l.subs l.end l.signals l.cursor);
+  fits : FitBoard l.subs l.signals;
+  counted : l.count + length l.cursor ≡ length l.initial.cursor;
+}
+
+abbrev pub decreases-loop-count : goal.decreases-loop-count
+decreases-loop-count l = length l.cursor

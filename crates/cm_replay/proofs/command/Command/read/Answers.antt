@@ -8,13 +8,13 @@ use Rattle.cm_replay.specs.Running.{Running}
 use Rattle.cm_replay.proofs.Commands.{codes-ring, length-ring, read-answer}
 use Rattle.cm_replay.proofs.command.Command.read.Goals as goal
 
-pub put_taken-told-requires-clause-held : goal.put_taken-told-requires-clause-held
-put_taken-told-requires-clause-held c =
+pub put_taken-reported-requires-clause-held : goal.put_taken-reported-requires-clause-held
+put_taken-reported-requires-clause-held c =
     let step = c.self.invariant.in_step in
     omega (arith, c.read_alloc-granted.ensures.granted, step.level.m_w, step.unmapped, ap (λ (ring : Ring). length ring.held) c.read_alloc-granted.ensures.after, length-ring c.self.inside c.self.invariant)
 
-pub put_taken-told-requires-clause-places : goal.put_taken-told-requires-clause-places
-put_taken-told-requires-clause-places c =
+pub put_taken-reported-requires-clause-places : goal.put_taken-reported-requires-clause-places
+put_taken-reported-requires-clause-places c =
     let step = c.self.invariant.in_step in
     omega (
       arith,
@@ -27,8 +27,8 @@ put_taken-told-requires-clause-places c =
       ap (λ (ring : Ring). ring.r) c.read_alloc-granted.ensures.after,
     )
 
-pub put_taken-told-requires-clause-codes : goal.put_taken-told-requires-clause-codes
-put_taken-told-requires-clause-codes c = λ i below.
+pub put_taken-reported-requires-clause-codes : goal.put_taken-reported-requires-clause-codes
+put_taken-reported-requires-clause-codes c = λ i below.
     let step = c.self.invariant.in_step in
     let within : i < c.self.inside.ring.w - c.self.inside.ring.r = omega (arith, c.read_alloc-granted.ensures.granted, step.level.m_w, step.unmapped) in
     subst (λ (ring : Ring). IsSample (its_schedule c.self.inside).format (ring.r + i) (get_or ring.held i 0)) (sym c.read_alloc-granted.ensures.after)
@@ -38,8 +38,8 @@ pub returns-clause-answer : goal.returns-clause-answer
 returns-clause-answer c =
     let after = c.read_alloc-granted.ensures.after in
     let granted = c.read_alloc-granted.result in
-    subst (λ answer. OnOk c.put_taken-told.result (c.put_taken-told.new.text.items ≡ c.args.text.now.items ++ answer))
+    subst (λ answer. OnOk c.put_taken-reported.result (c.put_taken-reported.new.text.items ≡ c.args.text.now.items ++ answer))
     (ap (λ (ring : Ring). codes "ok " ++ decimal granted ++ codes "\n" ++ sample_lines (its_schedule c.self.inside).format ring.r (take granted ring.held)) after
     ∙ read-answer c.self.inside c.self.invariant c.args.n granted c.read_alloc-granted.ensures.granted
     ∙ ap (λ (r : Running). answer_text (taken c.args.n r).answer) c.self.view_is)
-    c.put_taken-told.ensures
+    c.put_taken-reported.ensures

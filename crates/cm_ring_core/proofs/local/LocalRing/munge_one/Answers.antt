@@ -13,14 +13,14 @@ returns c =
     let from_m = ap (λ (ring : Ring). ring.m) c.self.view_is in
     let to_w = ap (λ (ring : Ring). ring.w) c.self.view_is in
     let i = l.m - l.r in
-    let cell : c.cell_behind-cell.result ≡ (l.first + i) % length l.cells.items = c.cell_behind-cell.ensures.value ∙ ap (λ n. (l.first + i) % n) size in
+    let cell : c.cell_after-cell.result ≡ (l.first + i) % length l.cells.items = c.cell_after-cell.ensures.value ∙ ap (λ n. (l.first + i) % n) size in
     let read =
-    c.index.ensures ∙ get_or_default_zero l.cells.items c.cell_behind-cell.result c.index.result.now (omega arith)
-    ∙ read_cell l.cells.items l.first l.r (l.a - l.r) i c.cell_behind-cell.result c.self.invariant.first cell (omega arith)
+    c.index.ensures ∙ get_or_default_zero l.cells.items c.cell_after-cell.result c.index.result.now (omega arith)
+    ∙ read_cell l.cells.items l.first l.r (l.a - l.r) i c.cell_after-cell.result c.self.invariant.first cell (omega arith)
     in
     let munged = c.apply-word.ensures ∙ ap (munged_word l.rule l.m) read in
     ap (λ (ring : Ring). record ring { m = l.m + 1 })
-    (wrote l c.self.invariant i l.m c.cell_behind-cell.result c.apply-word.result cell (omega arith) (omega arith)
+    (wrote l c.self.invariant i l.m c.cell_after-cell.result c.apply-word.result cell (omega arith) (omega arith)
     ∙ ap (λ word. record (ring_of l) { cells = set l.cells.items (l.m % length l.cells.items) word; held = set (ring_of l).held i word }) munged)
     ∙ ap (λ (ring : Ring). record ring {
       m = ring.m + 1;

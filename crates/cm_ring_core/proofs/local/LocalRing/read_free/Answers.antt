@@ -18,7 +18,7 @@ invariant_of-self c =
       w_a = c.self.invariant.w_a;
       room = omega arith;
       first = place_cell (length l.cells.items) l.first l.r c.min-granted.result _ c.self.invariant.first
-          (c.cell_behind-self-inside.ensures.value ∙ ap (λ n. (l.first + c.min-granted.result) % n) size);
+          (c.cell_after-self-inside.ensures.value ∙ ap (λ n. (l.first + c.min-granted.result) % n) size);
     }
 
 pub returns-clause-after : goal.returns-clause-after

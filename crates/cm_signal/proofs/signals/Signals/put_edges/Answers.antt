@@ -1,7 +1,7 @@
 use Rattle.std.proofs.Common.{List, ℕ, ◌<◌, ◌++◌, cond, length, sym, subst, ap, ◌∙◌, arith}
 use Rattle.std.proofs.lemmas.List.{get_or_default}
 use Rattle.std.specs.Prelude.{is_ok, slice_set, []}
-use Rattle.cm_signal.specs.Signals.{IsSound, SignalsText, edges_at}
+use Rattle.cm_signal.specs.Signals.{IsSoundSignals, SignalsText, edges_at}
 use Rattle.cm_signal.specs.SignalsPart.{has_room, rises_from}
 use Rattle.cm_signal.specs.View.{signals_text}
 use Rattle.cm_signal.proofs.Grown.{edges_either}
@@ -21,5 +21,5 @@ invariant_of-self c =
     c.extend.ensures
     ∙ ap (λ (edges : List ℕ). cond (is_ok c.extend.result) (edges ++ c.as_slice.result.now) edges) old
     ∙ ap (λ (more : List ℕ). cond (is_ok c.extend.result) (edges_at s line ++ more) (edges_at s line)) c.as_slice.ensures in
-    subst (λ (edges : List ℕ). IsSound (record s { edges = slice_set s.edges line edges })) (sym new)
+    subst (λ (edges : List ℕ). IsSoundSignals (record s { edges = slice_set s.edges line edges })) (sym new)
     (edges_either s line times (is_ok c.extend.result) c.self.invariant c.requires.line room rise)

@@ -1,0 +1,39 @@
+// What the program's words ask.
+ghost use Rattle.std.specs.Prelude.{◌≡◌};
+
+/// A task of the program.
+#[derive(Clone, Copy, Debug, PartialEq, Eq)]
+pub enum Task {
+    /// Tests commands.
+    Test,
+    /// Lists the conversions of commands.
+    Expand,
+    /// Replays a session in board time.
+    Replay,
+}
+
+ghost use Rattle.cm_cli.specs.Tasks.{task_named, task_of};
+
+/// The task that these words ask, if they ask one.
+pub fn task_of(words: &[String]) -> Option<Task>
+    ensures { result ≡ task_of words.now }
+{
+    match words {
+        [word] => task_named(word.as_str().as_bytes()),
+        _ => None,
+    }
+}
+
+fn task_named(word: &[u8]) -> Option<Task>
+    ensures { result ≡ task_named word.now }
+{
+    if word == b"test".as_slice() {
+        Some(Task::Test)
+    } else if word == b"expand".as_slice() {
+        Some(Task::Expand)
+    } else if word == b"replay".as_slice() {
+        Some(Task::Replay)
+    } else {
+        None
+    }
+}

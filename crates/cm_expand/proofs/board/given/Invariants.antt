@@ -1,0 +1,18 @@
+use Rattle.std.proofs.Common.{◌≡◌, ◌+◌, ◌-◌, ◌≤◌, length, take, drop, Some}
+use Rattle.cm_expand.specs.Board.{IsBoard, progress_of}
+use Rattle.cm_expand.specs.Items.{items_of}
+use Rattle.cm_expand.specs.PlanView.{plan_text}
+use Rattle.cm_expand.proofs.board.given.Given as goal
+
+-- the conversions so far, and a board that stands after them
+abbrev pub invariant-loop-count : goal.invariant-loop-count
+invariant-loop-count l = record {
+  size : length l.out ≡ length l.initial.out;
+  within : l.count ≤ length l.out;
+  conversions : take l.count l.out ≡ take l.count (drop l.place (items_of (plan_text l.plan)));
+  come : l.count + length (drop l.count (drop l.place (items_of (plan_text l.plan)))) ≡ length (drop l.place (items_of (plan_text l.plan)));
+  board : IsBoard (plan_text l.plan) (l.place + l.count) (progress_of (Some l.course) l.spot);
+}
+
+abbrev pub decreases-loop-count : goal.decreases-loop-count
+decreases-loop-count l = length l.out - l.count

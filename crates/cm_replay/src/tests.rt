@@ -1,0 +1,28 @@
+// The texts of answers.
+use crate::ending::End;
+use crate::text::{put_end, put_fine, put_idle, put_refused};
+use cm_base::transfer::NoMemory;
+use std::alloc::Global;
+use std::test::Fail;
+
+#[test]
+fn answers_after_others(rt: HostRuntime) -> Result<(), Fail> {
+    let text = said(rt.alloc())?;
+    let wanted: &[u8] =
+        b"ok\nok 0 idle\nerr 16\nok 0 done\nok 0 dry\nerr 32 overrun 0\nerr 32 overrun 18446744073709551615\n";
+    assert!(rt; text.as_slice() == wanted);
+    Ok(())
+}
+
+// One answer of each kind, each after those before it.
+fn said(alloc: Global) -> Result<Vec<u8>, NoMemory> {
+    let mut text = Vec::new(alloc);
+    put_fine(&mut text)?;
+    put_idle(&mut text)?;
+    put_refused(&mut text, 16)?;
+    let ends = [End::Done, End::Dry, End::Overrun(0), End::Overrun(u64::MAX)];
+    for end in ends {
+        put_end(&mut text, end)?;
+    }
+    Ok(text)
+}

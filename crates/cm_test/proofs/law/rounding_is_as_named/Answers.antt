@@ -1,0 +1,8 @@
+use Rattle.cm_test.proofs.Rounding.{named, on_tick}
+use Rattle.cm_test.proofs.law.rounding_is_as_named.Goals as goal
+
+pub returns-clause-named : goal.returns-clause-named
+returns-clause-named c = named
+
+pub returns-clause-on_tick : goal.returns-clause-on_tick
+returns-clause-on_tick c = on_tick
