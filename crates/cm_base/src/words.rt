@@ -274,42 +274,6 @@ pub fn at_line<T>(line: u32, read: Result<T, Fault>) -> Result<T, ReadStop>
     }
 }
 
-/// At most `count` numbers, each from `least` to `most`, of the line with this number.
-pub fn numbers_in(
-    alloc: Global,
-    line: u32,
-    words: &[&[u8]],
-    count: usize,
-    least: u32,
-    most: u32,
-) -> Result<Vec<u32>, ReadStop>
-    ensures { Gives (λ numbers. numbers.items) result (at_line line (values count (number_in least most) [] (map (λ word. word.now) words.now))) }
-{
-    let mut numbers = Vec::new(alloc);
-    for word in words {
-        let number = at_line(line, number_after(numbers.len(), word, count, least, most))?;
-        numbers.push(number)?;
-    }
-    Ok(numbers)
-}
-
-// A number after others, of which at most `count` may stand.
-fn number_after(
-    before: usize,
-    word: &[u8],
-    count: usize,
-    least: u32,
-    most: u32,
-) -> Result<u32, Fault>
-    ensures { result ≡ up_to count (number_in least most) before word.now }
-{
-    if before < count {
-        number_in(word, least, most)
-    } else {
-        Err(Fault::Limit)
-    }
-}
-
 /// Times of at most 18 digits, none above `most`, of the line with this number.
 pub fn times_in(alloc: Global, line: u32, words: &[&[u8]], most: u64) -> Result<Vec<u64>, ReadStop>
     ensures { Gives (λ times. times.items) result (at_line line (each_word (number_in 0 most) [] (map (λ word. word.now) words.now))) }

@@ -9,7 +9,7 @@ use Rattle.cm_cli.specs.Tasks.{task_of}
 use Rattle.cm_cli.specs.Said.{said}
 use Rattle.cm_cli.specs.declared.task.Task.{Task}
 
--- what comes of the input: an answer, a refusal, or nothing that the words ask
+-- what comes of the input: an answer, a refusal, or arguments that name no task
 pub data Outcome : Type 0 where
   Answered : List ℕ → Outcome
   Declined : Refused → Outcome

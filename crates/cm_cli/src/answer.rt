@@ -22,7 +22,7 @@ use std::alloc::Global;
 /// The most bytes that are read.
 const BYTE_LIMIT: u32 = 1_048_576;
 
-/// Does what the words ask with the input, and writes the answer.
+/// Does the task that the arguments name with the input, and writes the answer.
 ///
 /// Whatever the input says, status 0 comes with exactly the text of the definitions for the bytes
 /// that the source had left, each sample in it once and munged once, in trigger order, with an
@@ -38,7 +38,7 @@ pub fn answer<S: Source, K: Sink>(
         Concludes result (outcome_of words.now bytes) (K.text sink.old) (K.text sink.new)) }
     ensures at_end { result ≡ Status.Done → IsAtEnd (S.left source.new) }
 
-    // The words that ask for nothing, also over a source that reports nothing.
+    // Arguments that name no task, also over a source that reports nothing.
     ensures usage { result ≡ Status.Usage → task_of words.now ≡ None }
     ensures misused { task_of words.now ≡ None → (result ≡ Status.Usage) ⊎ (result ≡ Status.WriteFault) }
     ensures unread { task_of words.now ≡ None → S.left source.new ≡ S.left source.old }

@@ -9,7 +9,7 @@ pub enum Status {
     Done,
     /// The job was refused.
     Refused,
-    /// The words ask for nothing that there is.
+    /// The arguments name no task.
     Usage,
     /// The source failed.
     ReadFault,

@@ -1,4 +1,4 @@
-// What the program's words ask.
+// The task that the program's arguments name.
 ghost use Rattle.std.specs.Prelude.{◌≡◌};
 
 /// A task of the program.
@@ -14,7 +14,7 @@ pub enum Task {
 
 ghost use Rattle.cm_cli.specs.Tasks.{task_named, task_of};
 
-/// The task that these words ask, if they ask one.
+/// The task that these arguments name, if they name one.
 pub fn task_of(words: &[String]) -> Option<Task>
     ensures { result ≡ task_of words.now }
 {

@@ -1,12 +1,9 @@
 -- Decimal numbers of commands are read as they were written.
-use Rattle.std.proofs.Common.{◌≡◌, ℕ, ◌^◌, ◌<◌, ◌≤◌, true, Ok, arith, decimal, nat_le}
-use Rattle.std.proofs.lemmas.Bool.Decides.{nat_tests}
+use Rattle.std.proofs.Common.{◌≡◌, ℕ, ◌^◌, ◌<◌, ◌≤◌, true, Ok, arith, decimal}
+use Rattle.std.proofs.lemmas.Bool.{le-leb}
 use Rattle.cm_base.specs.Words.{number_in}
 use Rattle.cm_base.proofs.Bools.{and_true}
 use Rattle.cm_base.proofs.NumbersBack as back
 
-at_most : (a b : ℕ) → a ≤ b → nat_le a b ≡ true
-at_most a b h = grind (arith, nat_tests)
-
 pub number_in-decimal : (most n : ℕ) → n < 2 ^ 32 → n ≤ most → number_in 0 most (decimal n) ≡ Ok n
-number_in-decimal most n h k = back.number_in-decimal 0 most n h (and_true _ _ (at_most 0 n (omega arith)) (at_most n most k))
+number_in-decimal most n h k = back.number_in-decimal 0 most n h (and_true _ _ (le-leb 0 n (omega arith)) (le-leb n most k))

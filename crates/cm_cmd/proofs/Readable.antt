@@ -3,6 +3,7 @@ use Rattle.std.proofs.Common.{◌≡◌, ℕ, ◌*◌, ◌^◌, ◌<◌, ◌≤�
 use Rattle.std.specs.Prelude.{IfOk, nat_le, nat_lt, codes, bit_or, if◌then◌else◌}
 use Rattle.std.specs.List.{list_all, slice_split}
 use Rattle.std.specs.Str.{bytes_eq}
+use Rattle.std.proofs.lemmas.Bool.{leb-true}
 use Rattle.std.proofs.lemmas.Bool.Decides.{nat_tests}
 use Rattle.std.proofs.lemmas.List.Folds.{list_all-append}
 use Rattle.std.proofs.lemmas.Nat.{or_lt}
@@ -32,14 +33,11 @@ fits_limit : (b : Bool) (n m : ℕ) → limited b n ≡ Ok m → (b ≡ true) ×
 fits_limit true n m h = (refl, cc)
 fits_limit false n m h = cc
 
-at_most : (a b : ℕ) → nat_le a b ≡ true → a ≤ b
-at_most a b h = grind (arith, nat_tests)
-
 number_high : (least most : ℕ) (word : List ℕ) (n : ℕ) → number_in least most word ≡ Ok n → n ≤ most
 number_high least most word n h =
     let r = after_read (or_fault BadNumber (number_of word)) (λ m. limited (nat_le least m && nat_le m most) m) n h in
     let l = fits_limit (nat_le least r.0 && nat_le r.0 most) r.0 n r.2 in
-    let k : r.0 ≤ most = at_most r.0 most (both (nat_le least r.0) (nat_le r.0 most) l.0).1 in
+    let k : r.0 ≤ most = leb-true r.0 most (both (nat_le least r.0) (nat_le r.0 most) l.0).1 in
     let e = l.1 in
     omega arith
 

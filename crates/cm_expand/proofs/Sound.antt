@@ -12,6 +12,7 @@ use Rattle.cm_test.proofs.Passed.{passed}
 use Rattle.cm_expand.specs.Course.{AnyTime, AreBegins, AreConverts, AtOnce, Course, Every, OnEdges, PerEdge, Spaced, IsCourse, as_long_as, before_none, begins, begins_from, conversion, first, next_begin, scan, times}
 use Rattle.cm_expand.specs.Fit.{IsExpansion}
 use Rattle.cm_expand.specs.Plan.{IsPlan, PlanText, course_from, course_of, edge_since, edges_of, first_trigger, is_edge, is_trigger, start_of, times_if, times_of}
+use Rattle.cm_expand.proofs.Boards.{begins_short, scans_short}
 use Rattle.cm_expand.proofs.Fits.{fit}
 use Rattle.cm_expand.proofs.Order.{expansion}
 use Rattle.cm_expand.proofs.Plans.{least_within}
@@ -111,30 +112,10 @@ same_horizon p (Some start) = refl
 pub expansion_of : (p : PlanText) → IsSoundPlan p → IsExpansion p
 expansion_of p sound = expansion p (course_of p) refl (course_if p (start_of p) sound refl) (same_horizon p (start_of p)) (fit p sound.sub sound.plan)
 
-length-before_none : (o : Option ℕ) (xs : List ℕ) → length (before_none o xs) ≤ suc (length xs)
-length-before_none None xs = omega arith
-length-before_none (Some x) xs = omega arith
-
-length-as_long_as : (f : ℕ → Option ℕ) (from count : ℕ) → length (as_long_as f from count) ≤ count
-length-as_long_as f from zero = omega arith
-length-as_long_as f from (suc count) = omega (arith, length-before_none (f from) (as_long_as f (suc from) count), length-as_long_as f (suc from) count)
-
-length-begins_from : (c : Course) (left : ℕ) (begin : Option ℕ) → length (begins_from c left begin) ≤ left
-length-begins_from c zero begin = omega arith
-length-begins_from c (suc left) None = omega arith
-length-begins_from c (suc left) (Some begin) = omega (arith, length-begins_from c left (next_begin c begin))
-
-length-scans : (c : Course) (bs : List ℕ) → length (flat_map (scan c) bs) ≤ length bs * c.per_scan
-length-scans c [] = omega arith
-length-scans c (b ∷ bs) =
-    let prefix = length-as_long_as (conversion c b) 0 c.per_scan in
-    let back = length-scans c bs in
-    omega (arith, length-append (scan c b) (flat_map (scan c) bs))
-
 length-times : (c : Course) → IsCourse c → length (times c) ≤ 2 ^ 56
 length-times c is =
-    let all = length-scans c (begins c) in
-    let some : length (begins c) ≤ 2 ^ 40 = omega (arith, length-begins_from c c.most (first c c.start), is.not_more) in
+    let all = scans_short c (begins c) in
+    let some : length (begins c) ≤ 2 ^ 40 = omega (arith, begins_short c c.most (first c c.start), is.not_more) in
     let a = mul-le-mul_right c.per_scan some in
     let b = mul-le-mul_left (2 ^ 40) is.few in
     omega arith

@@ -9,6 +9,7 @@ use Rattle.std.proofs.Math.ListN.{get_or-append}
 use Rattle.std.proofs.Math.Seq.{get_or-append_right}
 use Rattle.std.proofs.lemmas.List.Elements.{All-nil, All-push}
 use Rattle.std.proofs.lemmas.List.{get_or-set_same, get_or-set_other, length-set}
+use Rattle.cm_base.proofs.Bools.{both, neither, not_true}
 use Rattle.cm_signal.specs.Said.{HasPeriod}
 use Rattle.cm_signal.specs.Signals.{SignalsText, IsSoundSignals, IsWave, AreEdges, edge_count, edges_at, have_own, is_at}
 use Rattle.cm_signal.specs.SignalsPart.{is_fine, has_room, rises_from, silent}
@@ -16,10 +17,6 @@ use Rattle.cm_signal.specs.declared.signals.IntAt.{IntAt}
 use Rattle.cm_signal.specs.declared.wave.Wave.{Wave}
 use Rattle.cm_signal.specs.declared.wave.Wave.TheVariants.{Const, Square, Saw, Table}
 use Rattle.cm_signal.specs.declared.wave.WaveAt.{WaveAt}
-
-both : (a b : Bool) → (a && b) ≡ true → (a ≡ true) × (b ≡ true)
-both true b e = (refl, e)
-both false b e = cc
 
 -- what holds of all items by a test
 pub all_at : (test : ℕ → Bool) (xs : List ℕ) (i : ℕ) → list_all test xs ≡ true → i < length xs → test (get_or xs i 0) ≡ true
@@ -47,18 +44,6 @@ same_channel w x other = elim (cases_Bool (is_at x.sub x.chan w)) [
   | inr apart ↦ apart
 ]
 
-neither : (a b : Bool) → (a || b) ≡ false → (a ≡ false) × (b ≡ false)
-neither true b e = cc
-neither false b e = (refl, e)
-
-not_false : (b : Bool) → b ≡ false → not b ≡ true
-not_false true e = cc
-not_false false e = refl
-
-not_true : (b : Bool) → not b ≡ true → b ≡ false
-not_true true e = cc
-not_true false e = refl
-
 -- one wave more
 pub own_more : (ws : List WaveAt) (w : WaveAt) → have_own ws ≡ true → list_any (is_at w.sub w.chan) ws ≡ false → have_own (ws ++ w ∷ []) ≡ true
 unfolding have_own
@@ -67,7 +52,7 @@ own_more (x ∷ xs) w own other =
     let apart = neither (is_at w.sub w.chan x) (list_any (is_at w.sub w.chan) xs) other in
     let parts = both (not (list_any (is_at x.sub x.chan) xs)) (have_own xs) own in
     let none = or_from _ _ (not_true (list_any (is_at x.sub x.chan) xs) parts.0) (or_from (is_at x.sub x.chan w) false (same_channel w x apart.0) refl) in
-    and_from _ _ (not_false _ (list_any-append (is_at x.sub x.chan) xs (w ∷ []) ∙ none)) (own_more xs w parts.1 apart.1)
+    and_from _ _ (ap not (list_any-append (is_at x.sub x.chan) xs (w ∷ []) ∙ none)) (own_more xs w parts.1 apart.1)
 
 -- the least time after others
 after : ℕ → List ℕ → ℕ

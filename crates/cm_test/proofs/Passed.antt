@@ -2,7 +2,7 @@
 use Rattle.std.proofs.Common.{◌≡◌, ℕ, ◌*◌, ◌<◌, ◌≤◌, ◌^◌, max, Bool, true, false, ◌&&◌, ◌||◌, get_or, length, refl, sym, ap, ap₂, ◌∙◌, arith, inl, inr, ◌⊎◌}
 use Rattle.std.specs.Prelude.{◌==◌, not, nat_le, nat_lt, bit_and, if◌then◌else◌}
 use Rattle.std.specs.List.{list_all, range_with_len}
-use Rattle.std.proofs.lemmas.Bool.{eqb-true, eq-eqb}
+use Rattle.std.proofs.lemmas.Bool.{eqb-true, eq-eqb, leb-true, ltb-true}
 use Rattle.std.proofs.lemmas.Bool.Decides.{nat_tests}
 use Rattle.std.proofs.lemmas.List.Sums.{AllPass-from_list_all}
 use Rattle.std.proofs.lemmas.Nat.{and_assoc, and_le_r}
@@ -178,17 +178,11 @@ fits sub cmd h some few b c =
     let raised : (rounded sub cmd).scan_begin.arg ≡ cmd.scan_begin.arg = ap (λ (t : Trig). t.arg) s.scan_begin in
     below_max (on_tick sub.tick cmd.flags cmd.scan_begin).arg (scan_time sub (ticked sub cmd)) (cmd.convert.arg * length cmd.list) cmd.scan_begin.arg raised time
 
-le_of : (a b : ℕ) → nat_le a b ≡ true → a ≤ b
-le_of a b h = grind (arith, nat_tests)
-
-lt_of : (a b : ℕ) → nat_lt a b ≡ true → a < b
-lt_of a b h = grind (arith, nat_tests)
-
 an_entry : (sub : SubText) (entry : ℕ) → is_valid_entry sub entry ≡ true → IsEntry sub entry
 an_entry sub entry h =
     let r = both (nat_lt entry (2 ^ 26) && nat_lt (chan entry) sub.channels) (nat_lt (range entry) (range_count sub (chan entry))) h in
     let c = both (nat_lt entry (2 ^ 26)) (nat_lt (chan entry) sub.channels) r.0 in
-    record { fits = lt_of entry (2 ^ 26) c.0; has_chan = lt_of (chan entry) sub.channels c.1; has_range = lt_of (range entry) (range_count sub (chan entry)) r.1 }
+    record { fits = ltb-true entry (2 ^ 26) c.0; has_chan = ltb-true (chan entry) sub.channels c.1; has_range = ltb-true (range entry) (range_count sub (chan entry)) r.1 }
 
 pub passed : PassedIsTaken
 passed sub cmd ok zero =
@@ -216,8 +210,8 @@ passed sub cmd ok zero =
     let v2 = both (has_valid_length sub cmd.list && list_all (is_valid_entry sub) cmd.list) (has_valid_ranges sub cmd.list) yes.fifth in
     let v1 = both (has_valid_length sub cmd.list) (list_all (is_valid_entry sub) cmd.list) v2.0 in
     let v0 = both (nat_le 1 (length cmd.list)) (nat_le (length cmd.list) sub.list_max) v1.0 in
-    let some = le_of 1 (length cmd.list) v0.0 in
-    let few = le_of (length cmd.list) sub.list_max v0.1 in
+    let some = leb-true 1 (length cmd.list) v0.0 in
+    let few = leb-true (length cmd.list) sub.list_max v0.1 in
     record {
       takes = takes;
       start_of = o1;
