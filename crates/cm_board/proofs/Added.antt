@@ -8,11 +8,13 @@ use Rattle.cm_base.specs.Reading.{◌>>=◌}
 use Rattle.cm_base.specs.declared.faults.Fault.{Fault}
 use Rattle.cm_base.specs.declared.faults.Fault.TheVariants as faults
 use Rattle.cm_board.specs.Block.{admitted, block_of, count_of, item_after, most_of, is_fine}
-use Rattle.cm_board.specs.Rows.{Block, Row, block_by, field, said}
-use Rattle.cm_board.specs.Rows as rows
+use Rattle.cm_board.specs.Rows.{Block, block_by, field, said}
+use Rattle.cm_board.specs.declared.items.Row.{Row}
+use Rattle.cm_board.specs.declared.items.Row.TheVariants as rows
 use Rattle.cm_board.specs.Items.{item_of}
 use Rattle.cm_board.specs.DraftView.{with_item}
-use Rattle.cm_board.specs.declared.board.Kind.{Kind}
+use Rattle.cm_board.specs.declared.board.Fifo.{Fifo}
+use Rattle.cm_board.specs.declared.items.Head.{Head}
 use Rattle.cm_board.specs.declared.board.Munge.{Munge}
 use Rattle.cm_board.specs.declared.items.Sources.{Sources}
 use Rattle.cm_board.specs.declared.items.Span.{Span}
@@ -27,7 +29,7 @@ block_of-append : (xs ys : List Item) → block_of (xs ++ ys) ≡ joined (block_
 block_of-append xs ys = λ i. block_by (λ row. each row i)
   where
     each : (row : Row) → filter_map (said row) (xs ++ ys) ≡ field row (block_of xs) ++ field row (block_of ys)
-    each rows.bits = filter_map-append (said rows.bits) xs ys
+    each rows.Bits = filter_map-append (said rows.Bits) xs ys
     each other = filter_map-append (said other) xs ys
 
 -- the first of a form that may stand once
@@ -49,6 +51,9 @@ join_item b (items.Lines n) e = simp append-nil (ap (λ (xs : List ℕ). record 
 join_item b (items.Buffer n) e = simp append-nil (ap (λ (xs : List ℕ). record b { buffer = xs }) (only b.buffer n e))
 join_item b items.SameRange e = simp append-nil (ap (λ (xs : List Bool). record b { same_range = xs }) (only b.same_range true e))
 join_item b (items.Forbid f) e = simp append-nil
+join_item b items.Invert e = simp append-nil (ap (λ (xs : List Bool). record b { invert = xs }) (only b.invert true e))
+join_item b (items.Fifo f) e = simp append-nil (ap (λ (xs : List Fifo). record b { fifo = xs }) (only b.fifo f e))
+join_item b (items.Chan c) e = simp append-nil
 
 -- what stands after a line that may stand there
 pub item_added : (xs : List Item) (item : Item) → nat_lt (count_of item (block_of xs)) (most_of item) ≡ true → block_of (xs ++ item ∷ []) ≡ with_item item (block_of xs)
@@ -60,8 +65,8 @@ passed true false item other fault e = cc
 passed false fine item other fault e = cc
 
 -- a line that says something after others has room there
-pub has_room : (kind : Kind) (before : List Item) (line : LineText) (item : Item) → item_after kind before line ≡ Ok item → nat_lt (count_of item (block_of before)) (most_of item) ≡ true
-has_room kind before line item e = read (item_of kind line) e
+pub has_room : (head : Head) (before : List Item) (line : LineText) (item : Item) → item_after head before line ≡ Ok item → nat_lt (count_of item (block_of before)) (most_of item) ≡ true
+has_room head before line item e = read (item_of head line) e
   where
     read : (said : Result Item Fault) → (said >>= admitted (block_of before)) ≡ Ok item → nat_lt (count_of item (block_of before)) (most_of item) ≡ true
     read (Err fault) e = cc

@@ -1,5 +1,7 @@
 pub mod Added
 pub mod BoardBack
+pub mod ChannelNumbers
+pub mod CodeBits
 pub mod Fields
 pub mod Good
 pub mod ItemsBack
@@ -9,7 +11,11 @@ pub mod Lines
 pub mod Prefix
 pub mod PrintedBack
 pub mod Refusal
+pub mod SetsBack
+pub mod SetsRead
 pub mod Sound
+pub mod SourceMasks
 pub mod SubBack
+pub mod Versions
 pub mod WordsBack
 pub mod Written

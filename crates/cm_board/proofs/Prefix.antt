@@ -88,23 +88,23 @@ number_kept end (line ∷ rest) = at (ends_block line) refl (number_kept end res
 
 -- the blocks
 
-block_kept : (end count : ℕ) (line : LineText) (rest : List LineText) → next_block end count line (part_lines rest) ≡ next_block end count line rest
-block_kept end count line rest = ap (λ (n : ℕ). block_at n count line (block_lines (part_lines rest))) (number_kept end rest) ∙ ap (block_at (next_number end (lines_after rest)) count line) (inside_kept rest)
+block_kept : (version end count : ℕ) (line : LineText) (rest : List LineText) → next_block version end count line (part_lines rest) ≡ next_block version end count line rest
+block_kept version end count line rest = ap (λ (n : ℕ). block_at version n count line (block_lines (part_lines rest))) (number_kept end rest) ∙ ap (block_at version (next_number end (lines_after rest)) count line) (inside_kept rest)
 
-blocks_kept : (end count : ℕ) (lines : List LineText) → blocks_from end count (part_lines lines) ≡ blocks_from end count lines
+blocks_kept : (version end count : ℕ) (lines : List LineText) → blocks_from version end count (part_lines lines) ≡ blocks_from version end count lines
 unfolding part_lines
-blocks_kept end count [] = refl
-blocks_kept end count (line ∷ rest) = at (is_signals line) (is_subdevice line) (blocks_kept end count rest) (blocks_kept end (count + 1) rest)
+blocks_kept version end count [] = refl
+blocks_kept version end count (line ∷ rest) = at (is_signals line) (is_subdevice line) (blocks_kept version end count rest) (blocks_kept version end (count + 1) rest)
   where
     said : List LineText → Result (List SubText) Refused
-    said ls = next_block end count line ls >>= λ sub. blocks_from end (count + 1) ls >>= λ subs. Ok (sub ∷ subs)
+    said ls = next_block version end count line ls >>= λ sub. blocks_from version end (count + 1) ls >>= λ subs. Ok (sub ∷ subs)
 
-    at : (s d : Bool) → blocks_from end count (part_lines rest) ≡ blocks_from end count rest → blocks_from end (count + 1) (part_lines rest) ≡ blocks_from end (count + 1) rest →
-        cond s (Ok []) (cond d (said (cond s [] (part_lines rest))) (blocks_from end count (cond s [] (part_lines rest)))) ≡ cond s (Ok []) (cond d (said rest) (blocks_from end count rest))
+    at : (s d : Bool) → blocks_from version end count (part_lines rest) ≡ blocks_from version end count rest → blocks_from version end (count + 1) (part_lines rest) ≡ blocks_from version end (count + 1) rest →
+        cond s (Ok []) (cond d (said (cond s [] (part_lines rest))) (blocks_from version end count (cond s [] (part_lines rest)))) ≡ cond s (Ok []) (cond d (said rest) (blocks_from version end count rest))
     at true d later next = refl
     at false true later next =
-        ap (λ r. r >>= λ sub. blocks_from end (count + 1) (part_lines rest) >>= λ subs. Ok (sub ∷ subs)) (block_kept end count line rest)
-        ∙ ap (λ r. next_block end count line rest >>= λ sub. r >>= λ subs. Ok (sub ∷ subs)) next
+        ap (λ r. r >>= λ sub. blocks_from version end (count + 1) (part_lines rest) >>= λ subs. Ok (sub ∷ subs)) (block_kept version end count line rest)
+        ∙ ap (λ r. next_block version end count line rest >>= λ sub. r >>= λ subs. Ok (sub ∷ subs)) next
     at false false later next = later
 
 -- the lines before the blocks
@@ -132,26 +132,26 @@ after_first {X = X} {Y = Y} end key form f apart kept (line ∷ rest) = at (is_s
     at false e = same (fixed end key form (line ∷ rest))
 
 -- what the board's name and its blocks say
-from_blocks : ℕ → ℕ → List ℕ → List LineText → Result (BoardText × ℕ) Refused
-from_blocks end place name lines = fixed end (codes "subdevice") any_words lines >>= λ any. blocks_from end 0 lines >>= λ subs. Ok (record { name = name; subs = subs }, place)
+from_blocks : ℕ → ℕ → ℕ → List ℕ → List LineText → Result (BoardText × ℕ) Refused
+from_blocks version end place name lines = fixed end (codes "subdevice") any_words lines >>= λ any. blocks_from version end 0 lines >>= λ subs. Ok (record { version = version; name = name; subs = subs }, place)
 
-from_name : ℕ → ℕ → List LineText → Result (BoardText × ℕ) Refused
-from_name end place lines = fixed end (codes "board") name_words lines >>= λ name. from_blocks end place name (drop 1 lines)
+from_name : ℕ → ℕ → ℕ → List LineText → Result (BoardText × ℕ) Refused
+from_name version end place lines = fixed end (codes "board") name_words lines >>= λ name. from_blocks version end place name (drop 1 lines)
 
-from_blocks_kept : (end place : ℕ) (name : List ℕ) (lines : List LineText) → from_blocks end place name (part_lines lines) ≡ from_blocks end place name lines
+from_blocks_kept : (version end place : ℕ) (name : List ℕ) (lines : List LineText) → from_blocks version end place name (part_lines lines) ≡ from_blocks version end place name lines
 unfolding part_lines from_blocks
-from_blocks_kept end place name [] = refl
-from_blocks_kept end place name (line ∷ rest) =
-    ap (λ r. fixed end (codes "subdevice") any_words (line ∷ rest) >>= λ any. r >>= λ subs. Ok (record { name = name; subs = subs }, place)) (blocks_kept end 0 (line ∷ rest))
+from_blocks_kept version end place name [] = refl
+from_blocks_kept version end place name (line ∷ rest) =
+    ap (λ r. fixed end (codes "subdevice") any_words (line ∷ rest) >>= λ any. r >>= λ subs. Ok (record { version = version; name = name; subs = subs }, place)) (blocks_kept version end 0 (line ∷ rest))
 
-from_name_kept : (end place : ℕ) (lines : List LineText) → from_name end place (part_lines lines) ≡ from_name end place lines
+from_name_kept : (version end place : ℕ) (lines : List LineText) → from_name version end place (part_lines lines) ≡ from_name version end place lines
 unfolding from_name
-from_name_kept end place lines = after_first end (codes "board") name_words (λ ls name. from_blocks end place name ls) apart (λ ls name. from_blocks_kept end place name ls) lines
+from_name_kept version end place lines = after_first end (codes "board") name_words (λ ls name. from_blocks version end place name ls) apart (λ ls name. from_blocks_kept version end place name ls) lines
   where
     apart : codes "signals" ≡ codes "board" → ⊥
     apart e = cc
 
-step_by_step : (end : ℕ) (lines : List LineText) → board_of end lines ≡ (fixed end (codes "comedi") version_words lines >>= λ version. from_name end (position_or_len is_signals lines) (drop 1 lines))
+step_by_step : (end : ℕ) (lines : List LineText) → board_of end lines ≡ (fixed end (codes "comedi") version_words lines >>= λ version. from_name version end (position_or_len is_signals lines) (drop 1 lines))
 unfolding from_name from_blocks
 step_by_step end [] = refl
 step_by_step end (line ∷ []) = refl
@@ -160,8 +160,8 @@ step_by_step end (line ∷ next ∷ rest) = refl
 prefix_said : (end : ℕ) (lines : List LineText) → board_of end (part_lines lines) ≡ board_of end lines
 prefix_said end lines =
     step_by_step end (part_lines lines)
-    ∙ ap (λ (n : ℕ). fixed end (codes "comedi") version_words (part_lines lines) >>= λ version. from_name end n (drop 1 (part_lines lines))) (place_kept lines)
-    ∙ after_first end (codes "comedi") version_words (λ ls version. from_name end (position_or_len is_signals lines) ls) apart (λ ls version. from_name_kept end (position_or_len is_signals lines) ls) lines
+    ∙ ap (λ (n : ℕ). fixed end (codes "comedi") version_words (part_lines lines) >>= λ version. from_name version end n (drop 1 (part_lines lines))) (place_kept lines)
+    ∙ after_first end (codes "comedi") version_words (λ ls version. from_name version end (position_or_len is_signals lines) ls) apart (λ ls version. from_name_kept version end (position_or_len is_signals lines) ls) lines
     ∙ sym (step_by_step end lines)
   where
     apart : codes "signals" ≡ codes "comedi" → ⊥

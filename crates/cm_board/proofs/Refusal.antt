@@ -20,8 +20,7 @@ use Rattle.cm_board.specs.BoardPart.{any_words, block_at, block_lines, block_sai
 use Rattle.cm_board.specs.Refusal.{FirstIsRefused, IsFirstFault}
 use Rattle.cm_board.specs.declared.items.Head.{Head}
 use Rattle.cm_board.specs.declared.items.Item.{Item}
-use Rattle.cm_board.proofs.BoardBack.{none_pass}
-use Rattle.cm_board.proofs.Lines.{between_blocks, first_of_two, skip_block}
+use Rattle.cm_board.proofs.Lines.{between_blocks, first_of_two, none_pass, skip_block}
 use Rattle.cm_board.proofs.Prefix.{after_end, after_more, inside_end, inside_more}
 
 ok_no_error : {X : Type 0} {x : X} {refused : Refused} → Ok x ≡ Err refused → ⊥
@@ -74,58 +73,58 @@ record IsBlock (line : LineText) (inside : List LineText) : Type 0 where
   none : none_pass ends_block inside ≡ true
 
 -- what is read of a block, and then of what comes after it
-abbrev and_after : ℕ → ℕ → List LineText → Result SubText Refused → Result (List SubText) Refused
-and_after end count x read = read >>= λ sub. blocks_from end (count + 1) x >>= λ subs. Ok (sub ∷ subs)
+abbrev and_after : ℕ → ℕ → ℕ → List LineText → Result SubText Refused → Result (List SubText) Refused
+and_after version end count x read = read >>= λ sub. blocks_from version end (count + 1) x >>= λ subs. Ok (sub ∷ subs)
 
-abbrev then_blocks : ℕ → ℕ → LineText → List LineText → List LineText → Result (List SubText) Refused
-then_blocks end count line inside x = and_after end count x (block_at (next_number end x) count line inside)
+abbrev then_blocks : ℕ → ℕ → ℕ → LineText → List LineText → List LineText → Result (List SubText) Refused
+then_blocks version end count line inside x = and_after version end count x (block_at version (next_number end x) count line inside)
 
-block_cut : (end count : ℕ) (line : LineText) (inside x : List LineText) → IsBlock line inside → is_between x ≡ true → blocks_from end count (line ∷ (inside ++ x)) ≡ then_blocks end count line inside x
-block_cut end count line inside x a b =
+block_cut : (version end count : ℕ) (line : LineText) (inside x : List LineText) → IsBlock line inside → is_between x ≡ true → blocks_from version end count (line ∷ (inside ++ x)) ≡ then_blocks version end count line inside x
+block_cut version end count line inside x a b =
     first_of_two (is_signals line) (is_subdevice line) _ _ _ a.ends a.other
-    ∙ ap₂ (λ (after lines : List LineText). block_at (next_number end after) count line lines >>= λ sub. blocks_from end (count + 1) (inside ++ x) >>= λ subs. Ok (sub ∷ subs)) (cut_after inside x a.none b) (cut_inside inside x a.none b)
-    ∙ ap (λ r. block_at (next_number end x) count line inside >>= λ sub. r >>= λ subs. Ok (sub ∷ subs)) (skip_block end (count + 1) (inside ++ x) ∙ ap (blocks_from end (count + 1)) (cut_after inside x a.none b))
+    ∙ ap₂ (λ (after lines : List LineText). block_at version (next_number end after) count line lines >>= λ sub. blocks_from version end (count + 1) (inside ++ x) >>= λ subs. Ok (sub ∷ subs)) (cut_after inside x a.none b) (cut_inside inside x a.none b)
+    ∙ ap (λ r. block_at version (next_number end x) count line inside >>= λ sub. r >>= λ subs. Ok (sub ∷ subs)) (skip_block version end (count + 1) (inside ++ x) ∙ ap (blocks_from version end (count + 1)) (cut_after inside x a.none b))
 
 -- a block that nothing comes after
-last_cut : (end count : ℕ) (line : LineText) (inside : List LineText) → IsBlock line inside → blocks_from end count (line ∷ inside) ≡ then_blocks end count line inside []
-last_cut end count line inside a = ap (λ (ls : List LineText). blocks_from end count (line ∷ ls)) (sym (append-nil inside)) ∙ block_cut end count line inside [] a refl
+last_cut : (version end count : ℕ) (line : LineText) (inside : List LineText) → IsBlock line inside → blocks_from version end count (line ∷ inside) ≡ then_blocks version end count line inside []
+last_cut version end count line inside a = ap (λ (ls : List LineText). blocks_from version end count (line ∷ ls)) (sym (append-nil inside)) ∙ block_cut version end count line inside [] a refl
 
 -- the first line that fails among blocks
-record BlocksFail (end count : ℕ) (lines : List LineText) (refused : Refused) : Type 0 where
+record BlocksFail (version end count : ℕ) (lines : List LineText) (refused : Refused) : Type 0 where
   good : List LineText
   rest : List LineText
   parts : lines ≡ good ++ rest
   line : refused.line ≡ next_number end rest
-  before : (other : ℕ) → (cause : Fault) × (blocks_from other count good ≡ Err (record { line = other; cause = cause }))
-  here : blocks_from end count (good ++ take 1 rest) ≡ Err refused
+  before : (other : ℕ) → (cause : Fault) × (blocks_from version other count good ≡ Err (record { line = other; cause = cause }))
+  here : blocks_from version end count (good ++ take 1 rest) ≡ Err refused
 
 -- its head fails
-head_fails : (end count : ℕ) (line : LineText) (rest : List LineText) (cause : Fault) (refused : Refused) → IsBlock line [] → head_after count line ≡ Err cause → record { line = line.number; cause = cause } ≡ refused → BlocksFail end count (line ∷ rest) refused
-head_fails end count line rest cause refused a h same = record {
+head_fails : (version end count : ℕ) (line : LineText) (rest : List LineText) (cause : Fault) (refused : Refused) → IsBlock line [] → head_after version count line ≡ Err cause → record { line = line.number; cause = cause } ≡ refused → BlocksFail version end count (line ∷ rest) refused
+head_fails version end count line rest cause refused a h same = record {
   good = [];
   rest = line ∷ rest;
   parts = refl;
   line = ap (λ (r : Refused). r.line) (sym same);
   before = λ other. (faults.Missing, refl);
-  here = last_cut end count line [] a
-      ∙ ap (λ r. (at_line line.number r >>= λ head. block_said head.kind [] >>= λ block. at_line end (finished head block)) >>= λ sub. blocks_from end (count + 1) [] >>= λ subs. Ok (sub ∷ subs)) h
+  here = last_cut version end count line [] a
+      ∙ ap (λ r. (at_line line.number r >>= λ head. block_said head [] >>= λ block. at_line end (finished head block)) >>= λ sub. blocks_from version end (count + 1) [] >>= λ subs. Ok (sub ∷ subs)) h
       ∙ ap (λ (r : Refused). Err r) same;
 }
 
 -- what a block says at its end, where its head and its lines are read
-ended : (stop count : ℕ) (line : LineText) (inside : List LineText) (head : Head) (items : List Item) → head_after count line ≡ Ok head → read_each (item_after head.kind) [] inside ≡ Ok items → block_at stop count line inside ≡ at_line stop (finished head (block_of items))
-ended stop count line inside head items h s =
-    ap (λ r. at_line line.number r >>= λ head. block_said head.kind inside >>= λ block. at_line stop (finished head block)) h
+ended : (version stop count : ℕ) (line : LineText) (inside : List LineText) (head : Head) (items : List Item) → head_after version count line ≡ Ok head → read_each (item_after head) [] inside ≡ Ok items → block_at version stop count line inside ≡ at_line stop (finished head (block_of items))
+ended version stop count line inside head items h s =
+    ap (λ r. at_line line.number r >>= λ head. block_said head inside >>= λ block. at_line stop (finished head block)) h
     ∙ ap (λ r. (r >>= λ items. Ok (block_of items)) >>= λ block. at_line stop (finished head block)) s
 
 -- a block whose head and lines are read is refused at its end, or the next one is missing there
-last_fails : (count : ℕ) (line : LineText) (inside : List LineText) (head : Head) (items : List Item) → IsBlock line inside → head_after count line ≡ Ok head → read_each (item_after head.kind) [] inside ≡ Ok items →
-    (other : ℕ) → (cause : Fault) × (blocks_from other count (line ∷ inside) ≡ Err (record { line = other; cause = cause }))
-last_fails count line inside head items a h s other = by (finished head (block_of items)) refl
+last_fails : (version count : ℕ) (line : LineText) (inside : List LineText) (head : Head) (items : List Item) → IsBlock line inside → head_after version count line ≡ Ok head → read_each (item_after head) [] inside ≡ Ok items →
+    (other : ℕ) → (cause : Fault) × (blocks_from version other count (line ∷ inside) ≡ Err (record { line = other; cause = cause }))
+last_fails version count line inside head items a h s other = by (finished head (block_of items)) refl
   where
-    by : (said : Result SubText Fault) → finished head (block_of items) ≡ said → (cause : Fault) × (blocks_from other count (line ∷ inside) ≡ Err (record { line = other; cause = cause }))
-    by (Err cause) e = (cause, last_cut other count line inside a ∙ ap (λ r. r >>= λ sub. blocks_from other (count + 1) [] >>= λ subs. Ok (sub ∷ subs)) (ended other count line inside head items h s ∙ ap (at_line other) e))
-    by (Ok sub) e = (faults.Missing, last_cut other count line inside a ∙ ap (λ r. r >>= λ sub. blocks_from other (count + 1) [] >>= λ subs. Ok (sub ∷ subs)) (ended other count line inside head items h s ∙ ap (at_line other) e))
+    by : (said : Result SubText Fault) → finished head (block_of items) ≡ said → (cause : Fault) × (blocks_from version other count (line ∷ inside) ≡ Err (record { line = other; cause = cause }))
+    by (Err cause) e = (cause, last_cut version other count line inside a ∙ ap (λ r. r >>= λ sub. blocks_from version other (count + 1) [] >>= λ subs. Ok (sub ∷ subs)) (ended version other count line inside head items h s ∙ ap (at_line other) e))
+    by (Ok sub) e = (faults.Missing, last_cut version other count line inside a ∙ ap (λ r. r >>= λ sub. blocks_from version other (count + 1) [] >>= λ subs. Ok (sub ∷ subs)) (ended version other count line inside head items h s ∙ ap (at_line other) e))
 
 none_before : (good : List LineText) (line : LineText) (rest inside : List LineText) → inside ≡ good ++ line ∷ rest → none_pass ends_block inside ≡ true → (none_pass ends_block good ≡ true) × (ends_block line ≡ false)
 none_before good line rest inside e h =
@@ -136,9 +135,9 @@ none_through : (good : List LineText) (line : LineText) → none_pass ends_block
 none_through good line h e = list_all-append (λ l. not (ends_block l)) good (line ∷ []) ∙ and_true _ _ h (and_true _ _ (ap not e) refl)
 
 -- one of its lines fails
-item_fails : (end count : ℕ) (line : LineText) (inside after : List LineText) (head : Head) (refused : Refused) → IsBlock line inside → head_after count line ≡ Ok head →
-    FirstFault (read_each (item_after head.kind) []) (item_after head.kind) inside refused → BlocksFail end count (line ∷ (inside ++ after)) refused
-item_fails end count line inside after head refused a h f =
+item_fails : (version end count : ℕ) (line : LineText) (inside after : List LineText) (head : Head) (refused : Refused) → IsBlock line inside → head_after version count line ≡ Ok head →
+    FirstFault (read_each (item_after head) []) (item_after head) inside refused → BlocksFail version end count (line ∷ (inside ++ after)) refused
+item_fails version end count line inside after head refused a h f =
     let n = none_before f.good f.line f.rest inside f.parts a.none in
     let good : IsBlock line f.good = record { ends = a.ends; other = a.other; none = n.0 } in
     let through : IsBlock line (f.good ++ f.line ∷ []) = record { ends = a.ends; other = a.other; none = none_through f.good f.line n.0 n.1 } in
@@ -147,44 +146,44 @@ item_fails end count line inside after head refused a h f =
       rest = f.line ∷ (f.rest ++ after);
       parts = ap (λ (ls : List LineText). line ∷ ls) (ap (λ (ls : List LineText). ls ++ after) f.parts ∙ append_assoc f.good (f.line ∷ f.rest) after);
       line = f.number;
-      before = last_fails count line f.good head f.said good h f.before;
-      here = last_cut end count line (f.good ++ f.line ∷ []) through
-          ∙ ap (λ r. (at_line line.number r >>= λ head. block_said head.kind (f.good ++ f.line ∷ []) >>= λ block. at_line end (finished head block)) >>= λ sub. blocks_from end (count + 1) [] >>= λ subs. Ok (sub ∷ subs)) h
-          ∙ ap (λ r. ((r >>= λ items. Ok (block_of items)) >>= λ block. at_line end (finished head block)) >>= λ sub. blocks_from end (count + 1) [] >>= λ subs. Ok (sub ∷ subs)) (each_refuses (item_after head.kind) [] inside [] refused f);
+      before = last_fails version count line f.good head f.said good h f.before;
+      here = last_cut version end count line (f.good ++ f.line ∷ []) through
+          ∙ ap (λ r. (at_line line.number r >>= λ head. block_said head (f.good ++ f.line ∷ []) >>= λ block. at_line end (finished head block)) >>= λ sub. blocks_from version end (count + 1) [] >>= λ subs. Ok (sub ∷ subs)) h
+          ∙ ap (λ r. ((r >>= λ items. Ok (block_of items)) >>= λ block. at_line end (finished head block)) >>= λ sub. blocks_from version end (count + 1) [] >>= λ subs. Ok (sub ∷ subs)) (each_refuses (item_after head) [] inside [] refused f);
     }
 
 -- its end fails
-end_fails : (end count : ℕ) (line : LineText) (inside after : List LineText) (head : Head) (items : List Item) (cause : Fault) (refused : Refused) → IsBlock line inside → is_between after ≡ true → head_after count line ≡ Ok head →
-    read_each (item_after head.kind) [] inside ≡ Ok items → finished head (block_of items) ≡ Err cause → record { line = next_number end after; cause = cause } ≡ refused → BlocksFail end count (line ∷ (inside ++ after)) refused
-end_fails end count line inside after head items cause refused a b h s f same = record {
+end_fails : (version end count : ℕ) (line : LineText) (inside after : List LineText) (head : Head) (items : List Item) (cause : Fault) (refused : Refused) → IsBlock line inside → is_between after ≡ true → head_after version count line ≡ Ok head →
+    read_each (item_after head) [] inside ≡ Ok items → finished head (block_of items) ≡ Err cause → record { line = next_number end after; cause = cause } ≡ refused → BlocksFail version end count (line ∷ (inside ++ after)) refused
+end_fails version end count line inside after head items cause refused a b h s f same = record {
   good = line ∷ inside;
   rest = after;
   parts = refl;
   line = ap (λ (r : Refused). r.line) (sym same);
-  before = last_fails count line inside head items a h s;
-  here = block_cut end count line inside (take 1 after) a (between_next [] after b)
-      ∙ ap (λ r. r >>= λ sub. blocks_from end (count + 1) (take 1 after) >>= λ subs. Ok (sub ∷ subs)) (ended (next_number end (take 1 after)) count line inside head items h s ∙ ap (at_line (next_number end (take 1 after))) f)
+  before = last_fails version count line inside head items a h s;
+  here = block_cut version end count line inside (take 1 after) a (between_next [] after b)
+      ∙ ap (λ r. r >>= λ sub. blocks_from version end (count + 1) (take 1 after) >>= λ subs. Ok (sub ∷ subs)) (ended version (next_number end (take 1 after)) count line inside head items h s ∙ ap (at_line (next_number end (take 1 after))) f)
       ∙ ap (λ (n : ℕ). Err (record { line = n; cause = cause })) (number_next end after)
       ∙ ap (λ (r : Refused). Err r) same;
 }
 
 -- a block is read, and one after it is not
-later_fails : (end count : ℕ) (line : LineText) (inside after : List LineText) (sub : SubText) (refused : Refused) → IsBlock line inside → is_between after ≡ true → ((stop : ℕ) → block_at stop count line inside ≡ Ok sub) →
-    BlocksFail end (count + 1) after refused → BlocksFail end count (line ∷ (inside ++ after)) refused
-later_fails end count line inside after sub refused a b h f = record {
+later_fails : (version end count : ℕ) (line : LineText) (inside after : List LineText) (sub : SubText) (refused : Refused) → IsBlock line inside → is_between after ≡ true → ((stop : ℕ) → block_at version stop count line inside ≡ Ok sub) →
+    BlocksFail version end (count + 1) after refused → BlocksFail version end count (line ∷ (inside ++ after)) refused
+later_fails version end count line inside after sub refused a b h f = record {
   good = line ∷ (inside ++ f.good);
   rest = f.rest;
   parts = ap (λ (ls : List LineText). line ∷ ls) (ap (λ (ls : List LineText). inside ++ ls) f.parts ∙ sym (append_assoc inside f.good f.rest));
   line = f.line;
   before = λ other. (
     (f.before other).0,
-    block_cut other count line inside f.good a (between_prefix f.good f.rest (sym (ap is_between f.parts) ∙ b))
-        ∙ ap (λ r. r >>= λ sub. blocks_from other (count + 1) f.good >>= λ subs. Ok (sub ∷ subs)) (h (next_number other f.good))
+    block_cut version other count line inside f.good a (between_prefix f.good f.rest (sym (ap is_between f.parts) ∙ b))
+        ∙ ap (λ r. r >>= λ sub. blocks_from version other (count + 1) f.good >>= λ subs. Ok (sub ∷ subs)) (h (next_number other f.good))
         ∙ ap (λ r. r >>= λ subs. Ok (sub ∷ subs)) (f.before other).1,
   );
-  here = ap (λ (ls : List LineText). blocks_from end count (line ∷ ls)) (append_assoc inside f.good (take 1 f.rest))
-      ∙ block_cut end count line inside (f.good ++ take 1 f.rest) a (between_next f.good f.rest (sym (ap is_between f.parts) ∙ b))
-      ∙ ap (λ r. r >>= λ sub. blocks_from end (count + 1) (f.good ++ take 1 f.rest) >>= λ subs. Ok (sub ∷ subs)) (h (next_number end (f.good ++ take 1 f.rest)))
+  here = ap (λ (ls : List LineText). blocks_from version end count (line ∷ ls)) (append_assoc inside f.good (take 1 f.rest))
+      ∙ block_cut version end count line inside (f.good ++ take 1 f.rest) a (between_next f.good f.rest (sym (ap is_between f.parts) ∙ b))
+      ∙ ap (λ r. r >>= λ sub. blocks_from version end (count + 1) (f.good ++ take 1 f.rest) >>= λ subs. Ok (sub ∷ subs)) (h (next_number end (f.good ++ take 1 f.rest)))
       ∙ ap (λ r. r >>= λ subs. Ok (sub ∷ subs)) f.here;
 }
 
@@ -193,34 +192,34 @@ err_more sub (Ok subs) refused e = cc
 err_more sub (Err r) refused e = cc
 
 -- one block, and those after it
-block_fails : (end count : ℕ) (line : LineText) (inside after : List LineText) (refused : Refused) → IsBlock line inside → is_between after ≡ true → then_blocks end count line inside after ≡ Err refused →
-    (blocks_from end (count + 1) after ≡ Err refused → BlocksFail end (count + 1) after refused) → BlocksFail end count (line ∷ (inside ++ after)) refused
-block_fails end count line inside after refused a b e later = by_head (head_after count line) refl
+block_fails : (version end count : ℕ) (line : LineText) (inside after : List LineText) (refused : Refused) → IsBlock line inside → is_between after ≡ true → then_blocks version end count line inside after ≡ Err refused →
+    (blocks_from version end (count + 1) after ≡ Err refused → BlocksFail version end (count + 1) after refused) → BlocksFail version end count (line ∷ (inside ++ after)) refused
+block_fails version end count line inside after refused a b e later = by_head (head_after version count line) refl
   where
-    by_end : (head : Head) (items : List Item) → head_after count line ≡ Ok head → read_each (item_after head.kind) [] inside ≡ Ok items → (said : Result SubText Fault) → finished head (block_of items) ≡ said → BlocksFail end count (line ∷ (inside ++ after)) refused
+    by_end : (head : Head) (items : List Item) → head_after version count line ≡ Ok head → read_each (item_after head) [] inside ≡ Ok items → (said : Result SubText Fault) → finished head (block_of items) ≡ said → BlocksFail version end count (line ∷ (inside ++ after)) refused
     by_end head items h s (Err cause) f =
-        end_fails end count line inside after head items cause refused a b h s f
-        (err_is _ _ (sym (ap (and_after end count after) (ended (next_number end after) count line inside head items h s ∙ ap (at_line (next_number end after)) f)) ∙ e))
+        end_fails version end count line inside after head items cause refused a b h s f
+        (err_is _ _ (sym (ap (and_after version end count after) (ended version (next_number end after) count line inside head items h s ∙ ap (at_line (next_number end after)) f)) ∙ e))
     by_end head items h s (Ok sub) f =
-        let read : (stop : ℕ) → block_at stop count line inside ≡ Ok sub = λ stop. ended stop count line inside head items h s ∙ ap (at_line stop) f in
-        later_fails end count line inside after sub refused a b read (later (err_more sub (blocks_from end (count + 1) after) refused (sym (ap (and_after end count after) (read (next_number end after))) ∙ e)))
+        let read : (stop : ℕ) → block_at version stop count line inside ≡ Ok sub = λ stop. ended version stop count line inside head items h s ∙ ap (at_line stop) f in
+        later_fails version end count line inside after sub refused a b read (later (err_more sub (blocks_from version end (count + 1) after) refused (sym (ap (and_after version end count after) (read (next_number end after))) ∙ e)))
 
-    by_items : (head : Head) → head_after count line ≡ Ok head → (said : Result (List Item) Refused) → read_each (item_after head.kind) [] inside ≡ said → BlocksFail end count (line ∷ (inside ++ after)) refused
+    by_items : (head : Head) → head_after version count line ≡ Ok head → (said : Result (List Item) Refused) → read_each (item_after head) [] inside ≡ said → BlocksFail version end count (line ∷ (inside ++ after)) refused
     by_items head h (Ok items) s = by_end head items h s (finished head (block_of items)) refl
     by_items head h (Err r) s =
         let same : r ≡ refused = err_is _ _ (sym (
-        ap (λ r. and_after end count after (at_line line.number r >>= λ head. block_said head.kind inside >>= λ block. at_line (next_number end after) (finished head block))) h
-        ∙ ap (λ r. and_after end count after ((r >>= λ items. Ok (block_of items)) >>= λ block. at_line (next_number end after) (finished head block))) s) ∙ e) in
-        item_fails end count line inside after head refused a h (each_refused (item_after head.kind) [] inside refused (s ∙ ap (λ (r : Refused). Err r) same))
+        ap (λ r. and_after version end count after (at_line line.number r >>= λ head. block_said head inside >>= λ block. at_line (next_number end after) (finished head block))) h
+        ∙ ap (λ r. and_after version end count after ((r >>= λ items. Ok (block_of items)) >>= λ block. at_line (next_number end after) (finished head block))) s) ∙ e) in
+        item_fails version end count line inside after head refused a h (each_refused (item_after head) [] inside refused (s ∙ ap (λ (r : Refused). Err r) same))
 
-    by_head : (said : Result Head Fault) → head_after count line ≡ said → BlocksFail end count (line ∷ (inside ++ after)) refused
-    by_head (Ok head) h = by_items head h (read_each (item_after head.kind) [] inside) refl
+    by_head : (said : Result Head Fault) → head_after version count line ≡ said → BlocksFail version end count (line ∷ (inside ++ after)) refused
+    by_head (Ok head) h = by_items head h (read_each (item_after head) [] inside) refl
     by_head (Err cause) h =
-        head_fails end count line (inside ++ after) cause refused (record { ends = a.ends; other = a.other; none = refl }) h
-        (err_is _ _ (sym (ap (λ r. and_after end count after (at_line line.number r >>= λ head. block_said head.kind inside >>= λ block. at_line (next_number end after) (finished head block))) h) ∙ e))
+        head_fails version end count line (inside ++ after) cause refused (record { ends = a.ends; other = a.other; none = refl }) h
+        (err_is _ _ (sym (ap (λ r. and_after version end count after (at_line line.number r >>= λ head. block_said head inside >>= λ block. at_line (next_number end after) (finished head block))) h) ∙ e))
 
-blocks_fail : (n end count : ℕ) (lines : List LineText) (refused : Refused) → length lines ≤ n → is_between lines ≡ true → blocks_from end count lines ≡ Err refused → BlocksFail end count lines refused
-blocks_fail n end count [] refused k b e = record {
+blocks_fail : (n version end count : ℕ) (lines : List LineText) (refused : Refused) → length lines ≤ n → is_between lines ≡ true → blocks_from version end count lines ≡ Err refused → BlocksFail version end count lines refused
+blocks_fail n version end count [] refused k b e = record {
   good = [];
   rest = [];
   parts = refl;
@@ -228,20 +227,20 @@ blocks_fail n end count [] refused k b e = record {
   before = λ other. (faults.Missing, refl);
   here = e;
 }
-blocks_fail zero end count (line ∷ rest) refused k b e = absurd (omega arith)
-blocks_fail (suc n) end count (line ∷ rest) refused k b e = by (is_signals line) refl (λ r. blocks_fail n end (count + 1) (lines_after rest) refused (shorter rest k) (between_blocks rest) r)
+blocks_fail zero version end count (line ∷ rest) refused k b e = absurd (omega arith)
+blocks_fail (suc n) version end count (line ∷ rest) refused k b e = by (is_signals line) refl (λ r. blocks_fail n version end (count + 1) (lines_after rest) refused (shorter rest k) (between_blocks rest) r)
   where
     shorter : (rest : List LineText) → length (line ∷ rest) ≤ suc n → length (lines_after rest) ≤ n
     shorter rest k = omega (arith, length-drop (position_or_len ends_block rest) rest)
 
-    by : (signals : Bool) → is_signals line ≡ signals → (blocks_from end (count + 1) (lines_after rest) ≡ Err refused → BlocksFail end (count + 1) (lines_after rest) refused) → BlocksFail end count (line ∷ rest) refused
+    by : (signals : Bool) → is_signals line ≡ signals → (blocks_from version end (count + 1) (lines_after rest) ≡ Err refused → BlocksFail version end (count + 1) (lines_after rest) refused) → BlocksFail version end count (line ∷ rest) refused
     by true s later = absurd (ok_no_error (sym (cond-true (is_signals line) (Ok []) _ s) ∙ e))
     by false s later =
         let a : IsBlock line (block_lines rest) = record { ends = b; other = s; none = none_inside rest } in
         let whole : line ∷ rest ≡ line ∷ (block_lines rest ++ lines_after rest) = ap (λ (ls : List LineText). line ∷ ls) (two_parts rest) in
-        subst (λ (ls : List LineText). BlocksFail end count ls refused) (sym whole)
-        (block_fails end count line (block_lines rest) (lines_after rest) refused a (between_blocks rest)
-        (sym (block_cut end count line (block_lines rest) (lines_after rest) a (between_blocks rest)) ∙ sym (ap (blocks_from end count) whole) ∙ e) later)
+        subst (λ (ls : List LineText). BlocksFail version end count ls refused) (sym whole)
+        (block_fails version end count line (block_lines rest) (lines_after rest) refused a (between_blocks rest)
+        (sym (block_cut version end count line (block_lines rest) (lines_after rest) a (between_blocks rest)) ∙ sym (ap (blocks_from version end count) whole) ∙ e) later)
 
 -- the lines before the blocks
 
@@ -255,29 +254,29 @@ fixed_begins {X = X} end key form line rest x e = by line.bad (begins key line) 
     by false true is e = is
 
 -- the blocks, after the two lines before them
-blocks_said : ℕ → ℕ → List ℕ → List LineText → Result (BoardText × ℕ) Refused
-blocks_said end place name lines = fixed end (codes "subdevice") any_words lines >>= λ any. blocks_from end 0 lines >>= λ subs. Ok (record { name = name; subs = subs }, place)
+blocks_said : ℕ → ℕ → ℕ → List ℕ → List LineText → Result (BoardText × ℕ) Refused
+blocks_said version end place name lines = fixed end (codes "subdevice") any_words lines >>= λ any. blocks_from version end 0 lines >>= λ subs. Ok (record { version = version; name = name; subs = subs }, place)
 
 -- what two lines say before the blocks
 record AreFirst (first second : LineText) (version : ℕ) (name : List ℕ) : Type 0 where
   one : fixed 0 (codes "comedi") version_words (first ∷ []) ≡ Ok version
   two : fixed 0 (codes "board") name_words (second ∷ []) ≡ Ok name
 
-after_two : (end : ℕ) (first second : LineText) (version : ℕ) (name : List ℕ) (lines : List LineText) → AreFirst first second version name → board_of end (first ∷ second ∷ lines) ≡ blocks_said end (position_or_len is_signals (first ∷ second ∷ lines)) name lines
+after_two : (end : ℕ) (first second : LineText) (version : ℕ) (name : List ℕ) (lines : List LineText) → AreFirst first second version name → board_of end (first ∷ second ∷ lines) ≡ blocks_said version end (position_or_len is_signals (first ∷ second ∷ lines)) name lines
 unfolding blocks_said
 after_two end first second version name lines a =
-    ap (λ r. r >>= λ version. fixed end (codes "board") name_words (second ∷ lines) >>= λ name. blocks_said end (position_or_len is_signals (first ∷ second ∷ lines)) name lines) a.one
-    ∙ ap (λ r. r >>= λ name. blocks_said end (position_or_len is_signals (first ∷ second ∷ lines)) name lines) a.two
+    ap (λ r. r >>= λ version. fixed end (codes "board") name_words (second ∷ lines) >>= λ name. blocks_said version end (position_or_len is_signals (first ∷ second ∷ lines)) name lines) a.one
+    ∙ ap (λ r. r >>= λ name. blocks_said version end (position_or_len is_signals (first ∷ second ∷ lines)) name lines) a.two
 
 -- blocks that are refused
-blocks_refused : (end place : ℕ) (name : List ℕ) (lines : List LineText) (any : Bool) (refused : Refused) → fixed end (codes "subdevice") any_words lines ≡ Ok any → blocks_from end 0 lines ≡ Err refused → blocks_said end place name lines ≡ Err refused
+blocks_refused : (version end place : ℕ) (name : List ℕ) (lines : List LineText) (any : Bool) (refused : Refused) → fixed end (codes "subdevice") any_words lines ≡ Ok any → blocks_from version end 0 lines ≡ Err refused → blocks_said version end place name lines ≡ Err refused
 unfolding blocks_said
-blocks_refused end place name lines any refused f e =
-    ap (λ r. r >>= λ any. blocks_from end 0 lines >>= λ subs. Ok (record { name = name; subs = subs }, place)) f ∙ ap (λ r. r >>= λ subs. Ok (record { name = name; subs = subs }, place)) e
+blocks_refused version end place name lines any refused f e =
+    ap (λ r. r >>= λ any. blocks_from version end 0 lines >>= λ subs. Ok (record { version = version; name = name; subs = subs }, place)) f ∙ ap (λ r. r >>= λ subs. Ok (record { version = version; name = name; subs = subs }, place)) e
 
-first_refused : (end place : ℕ) (name : List ℕ) (lines : List LineText) (refused : Refused) → fixed end (codes "subdevice") any_words lines ≡ Err refused → blocks_said end place name lines ≡ Err refused
+first_refused : (version end place : ℕ) (name : List ℕ) (lines : List LineText) (refused : Refused) → fixed end (codes "subdevice") any_words lines ≡ Err refused → blocks_said version end place name lines ≡ Err refused
 unfolding blocks_said
-first_refused end place name lines refused f = ap (λ r. r >>= λ any. blocks_from end 0 lines >>= λ subs. Ok (record { name = name; subs = subs }, place)) f
+first_refused version end place name lines refused f = ap (λ r. r >>= λ any. blocks_from version end 0 lines >>= λ subs. Ok (record { version = version; name = name; subs = subs }, place)) f
 
 -- the first block's line stands before all that is read of the blocks
 same_first : (other end : ℕ) (line : LineText) (rest good more : List LineText) (any : Bool) → line ∷ rest ≡ good ++ more → fixed end (codes "subdevice") any_words (line ∷ rest) ≡ Ok any → (good ≡ []) ⊎ (fixed other (codes "subdevice") any_words good ≡ Ok any)
@@ -293,7 +292,7 @@ next_first end (g ∷ good) rest = refl
 
 -- blocks of which one fails
 board_fails : (end : ℕ) (first second line : LineText) (rest : List LineText) (version : ℕ) (name : List ℕ) (any : Bool) (refused : Refused) → AreFirst first second version name →
-    fixed end (codes "subdevice") any_words (line ∷ rest) ≡ Ok any → BlocksFail end 0 (line ∷ rest) refused → IsFirstFault end (first ∷ second ∷ line ∷ rest) refused
+    fixed end (codes "subdevice") any_words (line ∷ rest) ≡ Ok any → BlocksFail version end 0 (line ∷ rest) refused → IsFirstFault end (first ∷ second ∷ line ∷ rest) refused
 board_fails end first second line rest version name any refused a f b = record {
   good = first ∷ second ∷ b.good;
   rest = b.rest;
@@ -301,17 +300,17 @@ board_fails end first second line rest version name any refused a f b = record {
   line = b.line;
   before = λ other. before other (same_first other end line rest b.good b.rest any b.parts f);
   here = after_two end first second version name (b.good ++ take 1 b.rest) a
-      ∙ blocks_refused end _ name (b.good ++ take 1 b.rest) any refused (next_first end b.good b.rest ∙ sym (ap (fixed end (codes "subdevice") any_words) b.parts) ∙ f) b.here;
+      ∙ blocks_refused version end _ name (b.good ++ take 1 b.rest) any refused (next_first end b.good b.rest ∙ sym (ap (fixed end (codes "subdevice") any_words) b.parts) ∙ f) b.here;
 }
   where
     before : (other : ℕ) → (b.good ≡ []) ⊎ (fixed other (codes "subdevice") any_words b.good ≡ Ok any) → (cause : Fault) × (board_of other (first ∷ second ∷ b.good) ≡ Err (record { line = other; cause = cause }))
-    before other (inl none) = (faults.Missing, ap (λ (ls : List LineText). board_of other (first ∷ second ∷ ls)) none ∙ after_two other first second version name [] a ∙ first_refused other _ name [] (record { line = other; cause = faults.Missing }) refl)
-    before other (inr some) = ((b.before other).0, after_two other first second version name b.good a ∙ blocks_refused other _ name b.good any (record { line = other; cause = (b.before other).0 }) some (b.before other).1)
+    before other (inl none) = (faults.Missing, ap (λ (ls : List LineText). board_of other (first ∷ second ∷ ls)) none ∙ after_two other first second version name [] a ∙ first_refused version other _ name [] (record { line = other; cause = faults.Missing }) refl)
+    before other (inr some) = ((b.before other).0, after_two other first second version name b.good a ∙ blocks_refused version other _ name b.good any (record { line = other; cause = (b.before other).0 }) some (b.before other).1)
 
-after_version : ℕ → ℕ → List LineText → Result (BoardText × ℕ) Refused
-after_version end place lines = fixed end (codes "board") name_words lines >>= λ name. blocks_said end place name (drop 1 lines)
+after_version : ℕ → ℕ → ℕ → List LineText → Result (BoardText × ℕ) Refused
+after_version version end place lines = fixed end (codes "board") name_words lines >>= λ name. blocks_said version end place name (drop 1 lines)
 
-one_by_one : (end : ℕ) (first : LineText) (lines : List LineText) → board_of end (first ∷ lines) ≡ (fixed end (codes "comedi") version_words (first ∷ lines) >>= λ version. after_version end (position_or_len is_signals (first ∷ lines)) lines)
+one_by_one : (end : ℕ) (first : LineText) (lines : List LineText) → board_of end (first ∷ lines) ≡ (fixed end (codes "comedi") version_words (first ∷ lines) >>= λ version. after_version version end (position_or_len is_signals (first ∷ lines)) lines)
 unfolding after_version blocks_said
 one_by_one end first [] = refl
 one_by_one end first (second ∷ lines) = refl
@@ -324,7 +323,7 @@ version_fails end first lines refused f = record {
   parts = refl;
   line = fixed_number end (codes "comedi") version_words first lines refused f;
   before = λ other. (faults.Missing, refl);
-  here = one_by_one end first [] ∙ ap (λ r. r >>= λ version. after_version end (position_or_len is_signals (first ∷ [])) []) f;
+  here = one_by_one end first [] ∙ ap (λ r. r >>= λ version. after_version version end (position_or_len is_signals (first ∷ [])) []) f;
 }
 
 -- the line with the name fails, or is missing
@@ -335,9 +334,9 @@ name_fails end first lines version refused v f = record {
   rest = lines;
   parts = refl;
   line = number lines f;
-  before = λ other. (faults.Missing, one_by_one other first [] ∙ ap (λ r. r >>= λ version. after_version other (position_or_len is_signals (first ∷ [])) []) v);
-  here = one_by_one end first (take 1 lines) ∙ ap (λ r. r >>= λ version. after_version end (position_or_len is_signals (first ∷ take 1 lines)) (take 1 lines)) v
-      ∙ ap (λ r. r >>= λ name. blocks_said end (position_or_len is_signals (first ∷ take 1 lines)) name (drop 1 (take 1 lines))) (only lines f);
+  before = λ other. (faults.Missing, one_by_one other first [] ∙ ap (λ r. r >>= λ version. after_version version other (position_or_len is_signals (first ∷ [])) []) v);
+  here = one_by_one end first (take 1 lines) ∙ ap (λ r. r >>= λ version. after_version version end (position_or_len is_signals (first ∷ take 1 lines)) (take 1 lines)) v
+      ∙ ap (λ r. r >>= λ name. blocks_said version end (position_or_len is_signals (first ∷ take 1 lines)) name (drop 1 (take 1 lines))) (only lines f);
 }
   where
     number : (lines : List LineText) → fixed end (codes "board") name_words lines ≡ Err refused → refused.line ≡ next_number end lines
@@ -355,8 +354,8 @@ blocks_missing end first second lines version name refused a f = record {
   rest = lines;
   parts = refl;
   line = number lines f;
-  before = λ other. (faults.Missing, after_two other first second version name [] a ∙ first_refused other _ name [] (record { line = other; cause = faults.Missing }) refl);
-  here = after_two end first second version name (take 1 lines) a ∙ first_refused end _ name (take 1 lines) refused (only lines f);
+  before = λ other. (faults.Missing, after_two other first second version name [] a ∙ first_refused version other _ name [] (record { line = other; cause = faults.Missing }) refl);
+  here = after_two end first second version name (take 1 lines) a ∙ first_refused version end _ name (take 1 lines) refused (only lines f);
 }
   where
     number : (lines : List LineText) → fixed end (codes "subdevice") any_words lines ≡ Err refused → refused.line ≡ next_number end lines
@@ -367,12 +366,12 @@ blocks_missing end first second lines version name refused a f = record {
     only [] f = f
     only (line ∷ rest) f = f
 
-err_subs : (name : List ℕ) (place : ℕ) (read : Result (List SubText) Refused) (refused : Refused) → ◌≡◌ {A = Result (BoardText × ℕ) Refused} (read >>= λ subs. Ok (record { name = name; subs = subs }, place)) (Err refused) → read ≡ Err refused
-err_subs name place (Ok subs) refused e = cc
-err_subs name place (Err r) refused e = cc
+err_subs : (version : ℕ) (name : List ℕ) (place : ℕ) (read : Result (List SubText) Refused) (refused : Refused) → ◌≡◌ {A = Result (BoardText × ℕ) Refused} (read >>= λ subs. Ok (record { version = version; name = name; subs = subs }, place)) (Err refused) → read ≡ Err refused
+err_subs version name place (Ok subs) refused e = cc
+err_subs version name place (Err r) refused e = cc
 
 -- the blocks fail
-blocks_wrong : (end : ℕ) (first second : LineText) (lines : List LineText) (version : ℕ) (name : List ℕ) (refused : Refused) → AreFirst first second version name → blocks_said end (position_or_len is_signals (first ∷ second ∷ lines)) name lines ≡ Err refused →
+blocks_wrong : (end : ℕ) (first second : LineText) (lines : List LineText) (version : ℕ) (name : List ℕ) (refused : Refused) → AreFirst first second version name → blocks_said version end (position_or_len is_signals (first ∷ second ∷ lines)) name lines ≡ Err refused →
     IsFirstFault end (first ∷ second ∷ lines) refused
 unfolding blocks_said
 blocks_wrong end first second [] version name refused a e = blocks_missing end first second [] version name refused a (ap (λ (r : Refused). Err r) (err_is _ _ e))
@@ -380,28 +379,28 @@ blocks_wrong end first second (line ∷ rest) version name refused a e = by (fix
   where
     by : (said : Result Bool Refused) → fixed end (codes "subdevice") any_words (line ∷ rest) ≡ said → IsFirstFault end (first ∷ second ∷ line ∷ rest) refused
     by (Err r) f =
-        let same : r ≡ refused = err_is _ _ (sym (ap (λ r. r >>= λ any. blocks_from end 0 (line ∷ rest) >>= λ subs. Ok (record { name = name; subs = subs }, position_or_len is_signals (first ∷ second ∷ line ∷ rest))) f) ∙ e) in
+        let same : r ≡ refused = err_is _ _ (sym (ap (λ r. r >>= λ any. blocks_from version end 0 (line ∷ rest) >>= λ subs. Ok (record { version = version; name = name; subs = subs }, position_or_len is_signals (first ∷ second ∷ line ∷ rest))) f) ∙ e) in
         blocks_missing end first second (line ∷ rest) version name refused a (f ∙ ap (λ (r : Refused). Err r) same)
     by (Ok any) f =
         let begins : is_subdevice line ≡ true = fixed_begins end (codes "subdevice") any_words line rest any f in
-        let fails = err_subs name (position_or_len is_signals (first ∷ second ∷ line ∷ rest)) (blocks_from end 0 (line ∷ rest)) refused
-        (sym (ap (λ r. r >>= λ any. blocks_from end 0 (line ∷ rest) >>= λ subs. Ok (record { name = name; subs = subs }, position_or_len is_signals (first ∷ second ∷ line ∷ rest))) f) ∙ e) in
+        let fails = err_subs version name (position_or_len is_signals (first ∷ second ∷ line ∷ rest)) (blocks_from version end 0 (line ∷ rest)) refused
+        (sym (ap (λ r. r >>= λ any. blocks_from version end 0 (line ∷ rest) >>= λ subs. Ok (record { version = version; name = name; subs = subs }, position_or_len is_signals (first ∷ second ∷ line ∷ rest))) f) ∙ e) in
         board_fails end first second line rest version name any refused a f
-        (blocks_fail (length (line ∷ rest)) end 0 (line ∷ rest) refused (omega arith) (ap (λ b. b || is_signals line) begins) fails)
+        (blocks_fail (length (line ∷ rest)) version end 0 (line ∷ rest) refused (omega arith) (ap (λ b. b || is_signals line) begins) fails)
 
 -- what comes after the version fails
-after_version_fails : (end : ℕ) (first : LineText) (lines : List LineText) (version : ℕ) (refused : Refused) → fixed end (codes "comedi") version_words (first ∷ []) ≡ Ok version → after_version end (position_or_len is_signals (first ∷ lines)) lines ≡ Err refused → IsFirstFault end (first ∷ lines) refused
+after_version_fails : (end : ℕ) (first : LineText) (lines : List LineText) (version : ℕ) (refused : Refused) → fixed end (codes "comedi") version_words (first ∷ []) ≡ Ok version → after_version version end (position_or_len is_signals (first ∷ lines)) lines ≡ Err refused → IsFirstFault end (first ∷ lines) refused
 unfolding after_version
 after_version_fails end first [] version refused v e = name_fails end first [] version refused v (ap (λ (r : Refused). Err r) (err_is _ _ e))
 after_version_fails end first (second ∷ lines) version refused v e = by (fixed end (codes "board") name_words (second ∷ lines)) refl
   where
     by : (said : Result (List ℕ) Refused) → fixed end (codes "board") name_words (second ∷ lines) ≡ said → IsFirstFault end (first ∷ second ∷ lines) refused
     by (Err r) f =
-        let same : r ≡ refused = err_is _ _ (sym (ap (λ r. r >>= λ name. blocks_said end (position_or_len is_signals (first ∷ second ∷ lines)) name lines) f) ∙ e) in
+        let same : r ≡ refused = err_is _ _ (sym (ap (λ r. r >>= λ name. blocks_said version end (position_or_len is_signals (first ∷ second ∷ lines)) name lines) f) ∙ e) in
         name_fails end first (second ∷ lines) version refused v (f ∙ ap (λ (r : Refused). Err r) same)
     by (Ok name) f =
         blocks_wrong end first second lines version name refused (record { one = v; two = f })
-        (sym (ap (λ r. r >>= λ name. blocks_said end (position_or_len is_signals (first ∷ second ∷ lines)) name lines) f) ∙ e)
+        (sym (ap (λ r. r >>= λ name. blocks_said version end (position_or_len is_signals (first ∷ second ∷ lines)) name lines) f) ∙ e)
 
 pub first_is_refused : FirstIsRefused
 unfolding after_version
@@ -417,6 +416,6 @@ first_is_refused end (first ∷ lines) refused e = by_version (fixed end (codes 
   where
     by_version : (said : Result ℕ Refused) → fixed end (codes "comedi") version_words (first ∷ lines) ≡ said → IsFirstFault end (first ∷ lines) refused
     by_version (Err r) f =
-        let same : r ≡ refused = err_is _ _ (sym (ap (λ r. r >>= λ version. after_version end (position_or_len is_signals (first ∷ lines)) lines) f) ∙ sym (one_by_one end first lines) ∙ e) in
+        let same : r ≡ refused = err_is _ _ (sym (ap (λ r. r >>= λ version. after_version version end (position_or_len is_signals (first ∷ lines)) lines) f) ∙ sym (one_by_one end first lines) ∙ e) in
         version_fails end first lines refused (f ∙ ap (λ (r : Refused). Err r) same)
-    by_version (Ok version) f = after_version_fails end first lines version refused f (sym (ap (λ r. r >>= λ version. after_version end (position_or_len is_signals (first ∷ lines)) lines) f) ∙ sym (one_by_one end first lines) ∙ e)
+    by_version (Ok version) f = after_version_fails end first lines version refused f (sym (ap (λ r. r >>= λ version. after_version version end (position_or_len is_signals (first ∷ lines)) lines) f) ∙ sym (one_by_one end first lines) ∙ e)

@@ -1,5 +1,6 @@
 -- What a board's subdevices promise.
-use Rattle.std.specs.Prelude.{◌≡◌, ◌≤◌, ◌*◌, ◌^◌, ◌%◌, ◌-◌, ℕ, Bool, true, false, not, ◌&&◌, ◌||◌, ◌==◌, nat_le, nat_lt, pos, ◌<ℤ◌, List, length, slice_index_or, IsTrue, bit_and, if◌then◌else◌}
+use Rattle.std.specs.Prelude.{◌≡◌, ◌≤◌, ◌<◌, ◌*◌, ◌^◌, ◌%◌, ◌/◌, ◌-◌, ◌+◌, ℕ, Bool, true, false, not, ◌&&◌, ◌||◌, ◌==◌, nat_le, nat_lt, pos, ◌<ℤ◌, List, [], ◌∷◌, length, slice_index_or, IsTrue, bit_and, if◌then◌else◌, Option, Some, None, option_to_list}
+use Rattle.std.specs.Option.{is_some, unwrap_or}
 use Rattle.std.specs.List.{All, list_all, list_any, range_with_len}
 use Rattle.cm_base.specs.Lines.{is_printable}
 use Rattle.cm_base.specs.Words.{is_int}
@@ -10,6 +11,7 @@ use Rattle.cm_board.specs.declared.board.Munge.{Munge}
 use Rattle.cm_board.specs.declared.board.Munge.TheVariants as munges
 use Rattle.cm_board.specs.declared.board.Range.{Range}
 use Rattle.cm_board.specs.declared.board.Forbid.{Forbid}
+use Rattle.cm_board.specs.declared.board.Fifo.{Fifo}
 
 -- the sources that each trigger may have
 pub record Masks : Type 0 where
@@ -18,6 +20,13 @@ pub record Masks : Type 0 where
   pub convert : ℕ
   pub scan_end : ℕ
   pub stop : ℕ
+
+-- what a board says of one channel alone: its greatest code, its munge and its ranges, each only where it says it
+pub record ChanText : Type 0 where
+  pub chan : ℕ
+  pub maxdata : Option ℕ
+  pub munge : Option Munge
+  pub ranges : List Range
 
 -- a subdevice as a plain record of numbers and lists
 pub record SubText : Type 0 where
@@ -38,23 +47,52 @@ pub record SubText : Type 0 where
   pub buffer : ℕ
   pub same_range : Bool
   pub forbidden : List Forbid
+  pub chans : List ChanText
+  pub invert : Bool
+  pub fifo : Option Fifo
 
 -- a board as a plain record
 pub record BoardText : Type 0 where
+  pub version : ℕ
   pub name : List ℕ
   pub subs : List SubText
 
--- the greatest code, the munge and the ranges of a channel
-abbrev pub maxdata_of : SubText → ℕ → ℕ
-maxdata_of sub chan = sub.maxdata
+-- what stands here of a channel, where something does
+abbrev pub set_for : List ChanText → ℕ → Option ChanText
+set_for [] chan = None
+set_for (c ∷ more) chan = if c.chan == chan then Some c else set_for more chan
 
--- how the words of a channel are munged: all channels of a subdevice alike
-abbrev pub munge_of : SubText → ℕ → Munge
-munge_of sub chan = sub.munge
+-- the greatest code of a channel: its own, where it says one, else that of its subdevice
+abbrev pub maxdata_by : Option ChanText → ℕ → ℕ
+maxdata_by None whole = whole
+maxdata_by (Some c) whole = unwrap_or c.maxdata whole
 
--- the ranges of a channel: all channels of a subdevice have the same
-abbrev pub ranges_of : SubText → ℕ → List Range
-ranges_of sub chan = sub.ranges
+-- its munge likewise
+abbrev pub munge_by : Option ChanText → Munge → Munge
+munge_by None whole = whole
+munge_by (Some c) whole = unwrap_or c.munge whole
+
+-- a list, where it has items, else another
+abbrev pub some_or : {X : Type 0} → List X → List X → List X
+some_or [] whole = whole
+some_or (x ∷ xs) whole = x ∷ xs
+
+-- its ranges: its own alone, where it has any
+abbrev pub ranges_by : Option ChanText → List Range → List Range
+ranges_by None whole = whole
+ranges_by (Some c) whole = some_or c.ranges whole
+
+-- the greatest code of a channel
+unfoldable pub maxdata_of : SubText → ℕ → ℕ
+maxdata_of sub chan = maxdata_by (set_for sub.chans chan) sub.maxdata
+
+-- how the words of a channel are munged
+unfoldable pub munge_of : SubText → ℕ → Munge
+munge_of sub chan = munge_by (set_for sub.chans chan) sub.munge
+
+-- the ranges of a channel
+unfoldable pub ranges_of : SubText → ℕ → List Range
+ranges_of sub chan = ranges_by (set_for sub.chans chan) sub.ranges
 
 -- how many ranges a channel has
 abbrev pub range_count : SubText → ℕ → ℕ
@@ -63,6 +101,14 @@ range_count sub chan = length (ranges_of sub chan)
 -- the range of a channel with this number, and an empty one where there is none
 abbrev pub range_of : SubText → ℕ → ℕ → Range
 range_of sub chan index = slice_index_or (ranges_of sub chan) index (record { min = pos 0; max = pos 0; unit = 0 })
+
+-- the external line that an argument names: where lines can be inverted, bit 31 isn't part of its number
+abbrev pub line_of : SubText → ℕ → ℕ
+line_of sub arg = if sub.invert then arg % 2 ^ 31 else arg
+
+-- whether an external argument asks for the falling edges of its line
+abbrev pub is_fall : SubText → ℕ → Bool
+is_fall sub arg = sub.invert && arg / 2 ^ 31 % 2 == 1
 
 -- whether a subdevice is there in name alone
 abbrev pub is_unused : Kind → Bool
@@ -81,6 +127,12 @@ abbrev pub may_command : Kind → Bool
 may_command kinds.Unused = false
 may_command kinds.Dio = false
 may_command kind = true
+
+-- the kinds whose samples may come through a hardware FIFO
+abbrev pub may_fifo : Kind → Bool
+may_fifo kinds.Ai = true
+may_fifo kinds.Di = true
+may_fifo kind = false
 
 -- whether a munge swaps the two bytes of a word
 abbrev pub swaps : Munge → Bool
@@ -114,6 +166,10 @@ IsRange r = r.min <ℤ r.max
 abbrev pub fits_range : Range → Bool
 fits_range r = is_int r.min && is_int r.max && nat_le r.unit 2
 
+-- an even depth of 2 to 4,096 samples, and a latency of at most a second
+abbrev pub is_fifo : Fifo → Bool
+is_fifo f = nat_le 2 f.depth && nat_le f.depth 4096 && f.depth % 2 == 0 && nat_le f.latency 1000000000
+
 -- some sources of a set, and none but these
 abbrev pub is_among : ℕ → ℕ → Bool
 is_among set mask = not (mask == 0) && bit_and mask set == mask
@@ -126,19 +182,20 @@ are_empty m = m.start == 0 && m.scan_begin == 0 && m.convert == 0 && m.scan_end 
 abbrev pub takes_commands : SubText → Bool
 takes_commands sub = not (are_empty sub.masks)
 
--- each trigger has sources: start now, ext or int; scan_begin follow, timer or ext; convert now, timer or ext; scan_end count; stop none or count
+-- each trigger has sources: start now, ext or int; scan_begin follow, timer or ext; convert now, timer or ext; scan_end count; stop none, count or ext
 abbrev pub are_full : Masks → Bool
-are_full m = is_among 194 m.start && is_among 84 m.scan_begin && is_among 82 m.convert && is_among 32 m.scan_end && is_among 33 m.stop
+are_full m = is_among 194 m.start && is_among 84 m.scan_begin && is_among 82 m.convert && is_among 32 m.scan_end && is_among 97 m.stop
 
 -- the numbers of a subdevice that takes no commands
 abbrev pub is_idle : SubText → Bool
 is_idle s =
     are_empty s.masks && s.tick == 1 && s.scan_min == 1 && s.scan_max == 1 && s.conv_min == 1 && s.conv_max == 1
     && s.list_max == 1 && s.scans_max == 1 && s.lines == 0 && s.buffer == 1 && not s.same_range && length s.forbidden == 0
+    && not s.invert && not (is_some s.fifo)
 
 -- an unused subdevice has no ranges, and its words are plain bits
 abbrev pub is_bare : SubText → Bool
-is_bare s = length s.ranges == 0 && s.maxdata == 1 && is_plain s.munge && is_idle s
+is_bare s = length s.ranges == 0 && s.maxdata == 1 && is_plain s.munge && length s.chans == 0 && is_idle s
 
 -- one source
 abbrev pub is_source : ℕ → Bool
@@ -165,32 +222,64 @@ pub record AreTimes (tick least most : ℕ) : Type 0 where
 abbrev pub HasLine : ℕ → ℕ → Type 0
 HasLine lines mask = IsTrue (allows mask ext) → 1 ≤ lines
 
--- what the kind asks: channels, one bit for digital ones, ranges and commands, and nothing of an unused subdevice
+-- what the kind asks: channels, ranges, commands and a FIFO, and nothing of an unused subdevice
 abbrev pub fits_kind : SubText → Bool
 fits_kind s =
-    has_channels s.kind s.channels && (not (is_digital s.kind) || s.maxdata == 1)
-    && (is_unused s.kind || nat_le 1 (length s.ranges)) && (not (is_unused s.kind) || is_bare s)
+    has_channels s.kind s.channels && (is_unused s.kind || nat_le 1 (length s.ranges)) && (not (is_some s.fifo) || may_fifo s.kind)
+    && (not (is_unused s.kind) || is_bare s)
 
 -- a subdevice takes commands by its kind, and by all of its triggers or none
 abbrev pub fits_commands : SubText → Bool
 fits_commands s = (if takes_commands s then are_full s.masks && may_command s.kind else is_idle s)
 
--- each number, range and pair is one that a line can say
+-- each number, range, pair and FIFO is one that a line can say
 abbrev pub fits_lines : SubText → Bool
-fits_lines s = is_maxdata s.maxdata && is_munge s.munge && list_all fits_range s.ranges && list_all is_pair s.forbidden
+fits_lines s = is_maxdata s.maxdata && is_munge s.munge && list_all fits_range s.ranges && list_all is_pair s.forbidden && list_all is_fifo (option_to_list s.fifo)
 
 -- what only the text of a board looks at
 unfoldable pub has_text : SubText → Bool
 has_text s = fits_kind s && fits_commands s && fits_lines s
 
--- a shift is by 8 bits at most, and swapped words have two bytes
-unfoldable pub has_munge : SubText → Bool
-has_munge s = is_munge s.munge && (not (swaps s.munge) || nat_le s.maxdata 65535)
+-- a channel of a digital subdevice has one bit, and one whose words are swapped at most 16
+abbrev pub is_channel_ok : SubText → ℕ → Bool
+is_channel_ok s chan =
+    (not (is_digital s.kind) || maxdata_of s chan == 1) && (not (swaps (munge_of s chan)) || nat_le (maxdata_of s chan) 65535)
+
+-- that holds of each channel
+unfoldable pub is_bits_ok : SubText → Bool
+is_bits_ok s = list_all (is_channel_ok s) (range_with_len 0 s.channels)
+
+-- a channel says something of itself
+abbrev pub says_any : ChanText → Bool
+says_any c = is_some c.maxdata || is_some c.munge || nat_le 1 (length c.ranges)
+
+-- what a board may say of one of so many channels
+pub record IsSoundChan (channels : ℕ) (c : ChanText) : Type 0 where
+  pub within : c.chan < channels
+  pub some : IsTrue (says_any c)
+  pub maxdata : IsTrue (list_all is_maxdata (option_to_list c.maxdata))
+  pub munge : IsTrue (list_all is_munge (option_to_list c.munge))
+  pub units : IsTrue (list_all fits_range c.ranges)
+  pub ranges : All IsRange c.ranges
+  pub few_ranges : length c.ranges ≤ 16
+
+-- these are about rising channels, none below `least`
+abbrev pub chans_rise : ℕ → List ChanText → Bool
+chans_rise least [] = true
+chans_rise least (c ∷ more) = nat_le least c.chan && chans_rise (c.chan + 1) more
+
+-- what a board of version 1 can say: nothing of one channel alone, no stop at an edge, no inverted lines and no FIFO
+abbrev pub is_first : SubText → Bool
+is_first s = length s.chans == 0 && not (allows s.masks.stop ext) && not s.invert && not (is_some s.fifo)
+
+-- a subdevice is one that a board of this version can have
+abbrev pub fits_version : ℕ → SubText → Bool
+fits_version version s = nat_le 2 version || is_first s
 
 -- the limits of a block, and the rules over several of its lines
 pub record IsSoundSub (sub : SubText) : Type 0 where
   pub text : IsTrue (has_text sub)
-  pub munge : IsTrue (has_munge sub)
+  pub bits : IsTrue (is_bits_ok sub)
   pub largest : IsFrom1To (2 ^ 24 - 1) sub.maxdata
   pub few_channels : sub.channels ≤ 64
   pub few_ranges : length sub.ranges ≤ 16
@@ -209,9 +298,22 @@ pub record IsSoundSub (sub : SubText) : Type 0 where
   pub stop_line : HasLine sub.lines sub.masks.stop
   pub buffer : IsFrom1To 65536 sub.buffer
   pub few_pairs : length sub.forbidden ≤ 16
+  pub chans : All (IsSoundChan sub.channels) sub.chans
+  pub rise : IsTrue (chans_rise 0 sub.chans)
 
--- a name of 1 to 32 printable bytes, and 1 to 16 subdevices
+-- what holds of the numbers of each channel
+pub record IsChannel (maxdata : ℕ) (munge : Munge) (ranges : List Range) : Type 0 where
+  pub largest : IsFrom1To (2 ^ 24 - 1) maxdata
+  pub munge_fits : IsTrue (is_munge munge)
+  pub swapped : IsTrue (not (swaps munge) || nat_le maxdata 65535)
+  pub some : 1 ≤ length ranges
+  pub few : length ranges ≤ 16
+  pub proper : All IsRange ranges
+
+-- version 1 or 2, a name of 1 to 32 printable bytes, and 1 to 16 subdevices that the version can have
 pub record IsSoundBoard (board : BoardText) : Type 0 where
+  pub version : IsFrom1To 2 board.version
   pub name : IsFrom1To 32 (length board.name)
   pub printable : IsTrue (list_all is_printable board.name)
   pub subs : IsFrom1To 16 (length board.subs)
+  pub blocks : IsTrue (list_all (fits_version board.version) board.subs)

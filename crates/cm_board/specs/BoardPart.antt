@@ -12,7 +12,6 @@ use Rattle.cm_board.specs.Board.{BoardText, SubText}
 use Rattle.cm_board.specs.Block.{block_of, finished, item_after}
 use Rattle.cm_board.specs.Rows.{Block}
 use Rattle.cm_board.specs.Items.{head_words}
-use Rattle.cm_board.specs.declared.board.Kind.{Kind}
 use Rattle.cm_board.specs.declared.items.Head.{Head}
 use Rattle.cm_board.specs.declared.items.Item.{Item}
 
@@ -34,8 +33,8 @@ next_number end [] = end
 next_number end (line ∷ lines) = line.number
 
 -- the head of a block, where at most 16 stand before it
-abbrev pub head_after : ℕ → LineText → Result Head Fault
-head_after count line = head_words (drop 1 line.words) >>= λ head. limited (nat_lt count 16) head
+abbrev pub head_after : ℕ → ℕ → LineText → Result Head Fault
+head_after version count line = head_words version (drop 1 line.words) >>= λ head. limited (nat_lt count 16) head
 
 -- the lines of a block after its head, and those after the block
 abbrev pub block_lines : List LineText → List LineText
@@ -46,31 +45,31 @@ abbrev pub lines_after : List LineText → List LineText
 lines_after lines = drop (position_or_len ends_block lines) lines
 
 -- what lines say together after others of their block
-abbrev pub said_after : Kind → List Item → List LineText → Result Block Refused
-said_after kind before lines = read_each (item_after kind) before lines >>= λ items. Ok (block_of items)
+abbrev pub said_after : Head → List Item → List LineText → Result Block Refused
+said_after head before lines = read_each (item_after head) before lines >>= λ items. Ok (block_of items)
 
 -- what the lines after a head say together
-abbrev pub block_said : Kind → List LineText → Result Block Refused
-block_said kind lines = said_after kind [] lines
+abbrev pub block_said : Head → List LineText → Result Block Refused
+block_said head lines = said_after head [] lines
 
--- the subdevice that a head and the lines after it describe, with `count` blocks before and the line `stop` after
-abbrev pub block_at : ℕ → ℕ → LineText → List LineText → Result SubText Refused
-block_at stop count line inside =
-    at_line line.number (head_after count line) >>= λ head.
-    block_said head.kind inside >>= λ block.
+-- the subdevice that a head and the lines after it describe on a board of this version, with `count` blocks before and the line `stop` after
+abbrev pub block_at : ℕ → ℕ → ℕ → LineText → List LineText → Result SubText Refused
+block_at version stop count line inside =
+    at_line line.number (head_after version count line) >>= λ head.
+    block_said head inside >>= λ block.
     at_line stop (finished head block)
 
 -- the subdevice that a head and the lines after it up to the block's end describe
-abbrev pub next_block : ℕ → ℕ → LineText → List LineText → Result SubText Refused
-next_block end count line rest = block_at (next_number end (lines_after rest)) count line (block_lines rest)
+abbrev pub next_block : ℕ → ℕ → ℕ → LineText → List LineText → Result SubText Refused
+next_block version end count line rest = block_at version (next_number end (lines_after rest)) count line (block_lines rest)
 
 -- the subdevices of the blocks up to the `signals` line, after `count` others
-abbrev pub blocks_from : ℕ → ℕ → List LineText → Result (List SubText) Refused
-blocks_from end count [] = Err (record { line = end; cause = Missing })
-blocks_from end count (line ∷ rest) =
+abbrev pub blocks_from : ℕ → ℕ → ℕ → List LineText → Result (List SubText) Refused
+blocks_from version end count [] = Err (record { line = end; cause = Missing })
+blocks_from version end count (line ∷ rest) =
     if is_signals line then Ok [] else
-    if is_subdevice line then (next_block end count line rest >>= λ sub. blocks_from end (count + 1) rest >>= λ subs. Ok (sub ∷ subs)) else
-    blocks_from end count rest
+    if is_subdevice line then (next_block version end count line rest >>= λ sub. blocks_from version end (count + 1) rest >>= λ subs. Ok (sub ∷ subs)) else
+    blocks_from version end count rest
 
 -- these lines stand after whole blocks
 abbrev pub is_between : List LineText → Bool
@@ -82,9 +81,9 @@ abbrev pub is_part_end : List LineText → Bool
 is_part_end [] = true
 is_part_end (line ∷ lines) = is_signals line
 
--- the version of the format, which is 1
+-- the version of the format, 1 or 2
 abbrev pub version_words : Form ℕ
-version_words = one (λ version. version) (number_in 1 1)
+version_words = one (λ version. version) (number_in 1 2)
 
 -- the board's name, of at most 32 bytes
 abbrev pub name_words : Form (List ℕ)
@@ -104,5 +103,5 @@ board_of end lines =
     fixed end (codes "comedi") version_words lines >>= λ version.
     fixed end (codes "board") name_words (drop 1 lines) >>= λ name.
     fixed end (codes "subdevice") any_words (drop 2 lines) >>= λ any.
-    blocks_from end 0 (drop 2 lines) >>= λ subs.
-    Ok (record { name = name; subs = subs }, position_or_len is_signals lines)
+    blocks_from version end 0 (drop 2 lines) >>= λ subs.
+    Ok (record { version = version; name = name; subs = subs }, position_or_len is_signals lines)

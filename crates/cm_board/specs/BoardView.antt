@@ -4,4 +4,4 @@ use Rattle.cm_board.specs.declared.board.BoardDesc.TheInside.{Inside}
 
 -- a board as contracts see it
 abbrev pub board_text : Inside → BoardText
-board_text board = record { name = board.name.items; subs = board.subs.items }
+board_text board = record { version = board.version; name = board.name.items; subs = board.subs.items }

@@ -21,6 +21,9 @@ block_view d = record {
   buffer = option_to_list d.buffer;
   same_range = if d.same_range then true ∷ [] else [];
   forbidden = d.forbidden.items;
+  invert = if d.invert then true ∷ [] else [];
+  fifo = option_to_list d.fifo;
+  chans = d.chans.items;
 }
 
 -- a block with one line more
@@ -38,3 +41,6 @@ with_item (items.Lines n) b = record b { lines = n ∷ [] }
 with_item (items.Buffer n) b = record b { buffer = n ∷ [] }
 with_item items.SameRange b = record b { same_range = true ∷ [] }
 with_item (items.Forbid f) b = record b { forbidden = b.forbidden ++ f ∷ [] }
+with_item items.Invert b = record b { invert = true ∷ [] }
+with_item (items.Fifo f) b = record b { fifo = f ∷ [] }
+with_item (items.Chan c) b = record b { chans = b.chans ++ c ∷ [] }

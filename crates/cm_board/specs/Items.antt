@@ -1,20 +1,32 @@
 -- The forms of a block's lines.
-use Rattle.std.specs.Prelude.{ℕ, List, [], ◌∷◌, ◌++◌, map, Option, Some, None, codes, Result, Ok, Err, if◌then◌else◌}
+use Rattle.std.specs.Prelude.{ℕ, List, [], ◌∷◌, map, codes, nat_le, Result, Ok, Err, if◌then◌else◌}
 use Rattle.cm_base.specs.Lines.{LineText}
 use Rattle.cm_base.specs.Reading.{◌>>=◌}
-use Rattle.cm_base.specs.Words.{Form, alone, chosen, five, four, keyword, two_words, listed, number_in, one, or_fault, signed_number, source_in, sources_in, three, two}
+use Rattle.cm_base.specs.Words.{Form, alone, chosen, five, four, keyword, two_words, three_words, number_below, number_in, one, one_word, signed_number, source_in, sources_in, two}
 use Rattle.cm_base.specs.declared.faults.Fault.{Fault}
 use Rattle.cm_base.specs.declared.faults.Fault.TheVariants.{BadLine, Unknown}
-use Rattle.cm_board.specs.Rows.{Row, further_rows, needed_rows, plain_rows}
-use Rattle.cm_board.specs.Rows as rows
+use Rattle.cm_board.specs.Rows.{may_stand}
 use Rattle.cm_board.specs.declared.board.Kind.{Kind}
 use Rattle.cm_board.specs.declared.board.Kind.TheVariants as kinds
 use Rattle.cm_board.specs.declared.board.Munge.{Munge}
 use Rattle.cm_board.specs.declared.board.Munge.TheVariants as munges
+use Rattle.cm_board.specs.declared.board.Range.{Range}
+use Rattle.cm_board.specs.declared.items.ChanSays.{ChanSays}
+use Rattle.cm_board.specs.declared.items.ChanSays.TheVariants as says
 use Rattle.cm_board.specs.declared.items.Span.{Span}
 use Rattle.cm_board.specs.declared.items.Head.{Head}
 use Rattle.cm_board.specs.declared.items.Item.{Item}
 use Rattle.cm_board.specs.declared.items.Item.TheVariants as items
+use Rattle.cm_board.specs.declared.items.Row.{Row}
+use Rattle.cm_board.specs.declared.items.Row.TheVariants as rows
+
+-- a value once it is read, as part of another
+abbrev pub within_ok : {X Y : Type 0} → (X → Y) → Result X Fault → Result Y Fault
+within_ok make said = said >>= λ x. Ok (make x)
+
+-- the form of one word that is read later
+abbrev pub one_later : {X A : Type 0} → (A → X) → (List ℕ → Result A Fault) → Form (Result X Fault)
+one_later make a words = one_word words >>= λ w. Ok (within_ok make (a w))
 
 -- what a subdevice is
 abbrev pub kind_word : List ℕ → Result Kind Fault
@@ -30,19 +42,19 @@ fields = (codes "start", 0) ∷ (codes "scan_begin", 1) ∷ (codes "convert", 2)
 abbrev pub field_word : List ℕ → Result ℕ Fault
 field_word = keyword fields
 
--- a munge by a shift to the left, of 1 to 8 bits
-abbrev pub left_words : Form Munge
-left_words = one munges.Left (number_in 1 8)
-
--- how words of the buffer are munged
-abbrev pub munge_forms : List (List ℕ × Form Munge)
+-- how words of the buffer are munged; a number is read after the words of its line are counted
+abbrev pub munge_forms : List (List ℕ × Form (Result Munge Fault))
 munge_forms =
-    ((codes "none", alone munges.Plain) ∷ (codes "offset", alone munges.Offset)
-    ∷ (codes "swap16", alone munges.Swap16) ∷ (codes "left", left_words) ∷ [])
+    ((codes "none", alone (Ok munges.Plain)) ∷ (codes "offset", alone (Ok munges.Offset))
+    ∷ (codes "swap16", alone (Ok munges.Swap16)) ∷ (codes "left", one_later munges.Left (number_in 1 8)) ∷ [])
 
--- how a `munge` line says what the board does to its words
-abbrev pub munge_words : Form Munge
-munge_words = chosen munge_forms
+-- how the words of a line say what the board does to its words, before that is read
+abbrev pub munge_later : Form (Result Munge Fault)
+munge_later = chosen munge_forms
+
+-- the ends of a range and its unit
+abbrev pub range_said : List ℕ × List ℕ × List ℕ → Result Range Fault
+range_said w = signed_number w.0 >>= λ least. signed_number w.1 >>= λ most. number_in 0 2 w.2 >>= λ unit. Ok (record { min = least; max = most; unit = unit })
 
 -- the least and the greatest of something
 abbrev pub span : ℕ → ℕ → Span
@@ -52,78 +64,95 @@ span least most = record { min = least; max = most }
 abbrev pub time_word : List ℕ → Result ℕ Fault
 time_word = number_in 1 4000000000
 
+-- what a line says of one channel, by the word after the channel
+abbrev pub chan_forms : List (List ℕ × Form (Result ChanSays Fault))
+chan_forms =
+    ((codes "bits", one_later says.Bits (number_in 1 24))
+    ∷ (codes "munge", λ words. munge_later words >>= λ munge. Ok (within_ok says.Munge munge))
+    ∷ (codes "range", λ words. three_words words >>= λ w. Ok (within_ok says.Range (range_said w))) ∷ [])
+
+-- what the words after the channel say
+abbrev pub says_words : List ℕ → Form (Result ChanSays Fault)
+says_words key words = keyword chan_forms key >>= λ form. form words
+
+-- a line about one of so many channels: its words are counted, and then read from left to right
+abbrev pub chan_words : ℕ → Form Item
+chan_words channels (number ∷ key ∷ words) =
+    says_words key words >>= λ said. number_below channels number >>= λ chan. said >>= λ what.
+    Ok (items.Chan (record { chan = chan; says = what }))
+chan_words channels words = Err BadLine
+
+-- the sources that a stop may have
+abbrev pub stop_sources : ℕ → ℕ
+stop_sources version = if nat_le 2 version then 97 else 33
+
 -- the forms of the lines of a block, each by the words after its key
-abbrev pub words_of : Row → Form Item
-words_of rows.bits = one items.Bits (number_in 1 24)
-words_of rows.munge = λ words. munge_words words >>= λ munge. Ok (items.Munge munge)
-words_of rows.ranges = three (λ least most unit. items.Range (record { min = least; max = most; unit = unit })) signed_number signed_number (number_in 0 2)
-words_of rows.sources =
+abbrev pub words_of : Head → Row → Form Item
+words_of head rows.Bits = one items.Bits (number_in 1 24)
+words_of head rows.Munge = λ words. munge_later words >>= λ munge. within_ok items.Munge munge
+words_of head rows.Ranges = λ words. three_words words >>= λ w. within_ok items.Range (range_said w)
+words_of head rows.Sources =
     five (λ a b c d e. items.Sources (record { start = a; scan_begin = b; convert = c; scan_end = d; stop = e }))
-    (sources_in 194) (sources_in 84) (sources_in 82) (sources_in 32) (sources_in 33)
-words_of rows.tick = one items.Tick (number_in 1 1000000000)
-words_of rows.scan = two (λ a b. items.Scan (span a b)) time_word time_word
-words_of rows.convert = two (λ a b. items.Convert (span a b)) time_word time_word
-words_of rows.list = one items.List (number_in 1 256)
-words_of rows.scans = one items.Scans time_word
-words_of rows.lines = one items.Lines (number_in 0 16)
-words_of rows.buffer = one items.Buffer (number_in 1 65536)
-words_of rows.same_range = alone items.SameRange
-words_of rows.forbidden =
+    (sources_in 194) (sources_in 84) (sources_in 82) (sources_in 32) (sources_in (stop_sources head.version))
+words_of head rows.Tick = one items.Tick (number_in 1 1000000000)
+words_of head rows.Scan = two (λ a b. items.Scan (span a b)) time_word time_word
+words_of head rows.Convert = two (λ a b. items.Convert (span a b)) time_word time_word
+words_of head rows.List = one items.List (number_in 1 256)
+words_of head rows.Scans = one items.Scans time_word
+words_of head rows.Lines = one items.Lines (number_in 0 16)
+words_of head rows.Buffer = one items.Buffer (number_in 1 65536)
+words_of head rows.SameRange = alone items.SameRange
+words_of head rows.Forbidden =
     four (λ f s g t. items.Forbid (record { field = f; src = s; other = g; other_src = t })) field_word (source_in 511) field_word (source_in 511)
+words_of head rows.Invert = alone items.Invert
+words_of head rows.Fifo = two (λ d l. items.Fifo (record { depth = d; latency = l })) (number_in 2 4096) (number_in 0 1000000000)
+words_of head rows.Chans = chan_words head.channels
 
 -- the first word of each form
 abbrev pub key_of : Row → List ℕ
-key_of rows.bits = codes "bits"
-key_of rows.munge = codes "munge"
-key_of rows.ranges = codes "range"
-key_of rows.sources = codes "sources"
-key_of rows.tick = codes "tick"
-key_of rows.scan = codes "scan"
-key_of rows.convert = codes "convert"
-key_of rows.list = codes "list"
-key_of rows.scans = codes "scans"
-key_of rows.lines = codes "lines"
-key_of rows.buffer = codes "buffer"
-key_of rows.same_range = codes "samerange"
-key_of rows.forbidden = codes "forbid"
+key_of rows.Bits = codes "bits"
+key_of rows.Munge = codes "munge"
+key_of rows.Ranges = codes "range"
+key_of rows.Sources = codes "sources"
+key_of rows.Tick = codes "tick"
+key_of rows.Scan = codes "scan"
+key_of rows.Convert = codes "convert"
+key_of rows.List = codes "list"
+key_of rows.Scans = codes "scans"
+key_of rows.Lines = codes "lines"
+key_of rows.Buffer = codes "buffer"
+key_of rows.SameRange = codes "samerange"
+key_of rows.Forbidden = codes "forbid"
+key_of rows.Invert = codes "invert"
+key_of rows.Fifo = codes "fifo"
+key_of rows.Chans = codes "chan"
 
--- the forms of a block's lines by their first word: those that each block may have, and those of a subdevice that takes commands
-abbrev pub forms_of : List Row → List (List ℕ × Form Item)
-forms_of some = map (λ row. (key_of row, words_of row)) some
+-- the forms by their first word
+abbrev pub keys : List (List ℕ × Row)
+keys =
+    map (λ row. (key_of row, row))
+    (rows.Bits ∷ rows.Munge ∷ rows.Ranges ∷ rows.Sources ∷ rows.Tick ∷ rows.Scan ∷ rows.Convert ∷ rows.List ∷ rows.Scans ∷ rows.Lines ∷ rows.Buffer
+    ∷ rows.SameRange ∷ rows.Forbidden ∷ rows.Invert ∷ rows.Fifo ∷ rows.Chans ∷ [])
 
--- the lines that each subdevice may have
-abbrev pub block_forms : List (List ℕ × Form Item)
-block_forms = forms_of plain_rows
+-- the form of a line with this first word, where such a line may stand in the block
+abbrev pub row_in : Head → List ℕ → Result Row Fault
+row_in head key = keyword keys key >>= λ row. if may_stand head row then Ok row else Err Unknown
 
--- the further lines of a subdevice that takes commands
-abbrev pub command_forms : List (List ℕ × Form Item)
-command_forms = forms_of (needed_rows ++ further_rows)
+-- what the words of a line say in the block with this head
+abbrev pub item_words : Head → List (List ℕ) → Result Item Fault
+item_words head [] = Err BadLine
+item_words head (key ∷ words) = row_in head key >>= λ row. words_of head row words
 
--- the first of two that is there
-abbrev pub or_else : {X : Type 0} → Option X → Option X → Option X
-or_else None other = other
-or_else (Some x) other = Some x
-
--- the form that a first word has in a block of this kind
-abbrev pub form_of : Kind → List ℕ → Option (Form Item)
-form_of kinds.Unused key = None
-form_of kinds.Dio key = listed block_forms key
-form_of kind key = or_else (listed block_forms key) (listed command_forms key)
-
--- what the words of a line say in a block of this kind
-abbrev pub item_words : Kind → List (List ℕ) → Result Item Fault
-item_words kind [] = Err BadLine
-item_words kind (key ∷ words) = or_fault Unknown (form_of kind key) >>= λ form. form words
-
--- what a line says in a block of this kind
-abbrev pub item_of : Kind → LineText → Result Item Fault
-item_of kind line = if line.bad then Err BadLine else item_words kind line.words
+-- what a line says in the block with this head
+abbrev pub item_of : Head → LineText → Result Item Fault
+item_of head line = if line.bad then Err BadLine else item_words head line.words
 
 -- the channels of a subdevice, none where it is unused
 abbrev pub channels_word : Kind → List ℕ → Result ℕ Fault
 channels_word kinds.Unused = number_in 0 0
 channels_word kind = number_in 1 64
 
--- what the words after `subdevice` say
-abbrev pub head_words : Form Head
-head_words words = two_words words >>= λ w. kind_word w.0 >>= λ k. channels_word k w.1 >>= λ n. Ok (record { kind = k; channels = n })
+-- what the words after `subdevice` say on a board of this version
+abbrev pub head_words : ℕ → Form Head
+head_words version words =
+    two_words words >>= λ w. kind_word w.0 >>= λ k. channels_word k w.1 >>= λ n. Ok (record { version = version; kind = k; channels = n })

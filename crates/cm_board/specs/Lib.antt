@@ -2,6 +2,7 @@ pub mod Block
 pub mod Board
 pub mod BoardPart
 pub mod BoardView
+pub mod ChanView
 pub mod DraftView
 pub mod Items
 pub mod Limits

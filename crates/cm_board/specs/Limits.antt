@@ -1,12 +1,16 @@
 -- The limits that the lines of a block keep.
-use Rattle.std.specs.Prelude.{ℕ, ◌≤◌, Bool, true, not, ◌&&◌, ◌||◌, nat_le, int_lt, length, IsTrue}
-use Rattle.std.specs.List.{list_all}
-use Rattle.cm_board.specs.Block.{has_command, is_empty, masks_said}
-use Rattle.cm_board.specs.Rows.{Block, Row, Value, field}
-use Rattle.cm_board.specs.Rows as rows
-use Rattle.cm_board.specs.Board.{are_full, fits_range, is_munge, is_pair, is_unused, may_command}
-use Rattle.cm_board.specs.declared.board.Kind.{Kind}
+use Rattle.std.specs.Prelude.{ℕ, ◌≤◌, Bool, true, ◌&&◌, ◌||◌, nat_le, int_lt, length, IsTrue}
+use Rattle.std.specs.List.{filter_map, list_all}
+use Rattle.cm_board.specs.Block.{as_range, is_empty, masks_said, said_of}
+use Rattle.cm_board.specs.Rows.{Block, Value, field, may_stand}
+use Rattle.cm_board.specs.Board.{are_full, fits_range, is_among, is_fifo, is_munge, is_pair}
+use Rattle.cm_board.specs.Items.{stop_sources}
 use Rattle.cm_board.specs.declared.board.Range.{Range}
+use Rattle.cm_board.specs.declared.items.ChanSays.{ChanSays}
+use Rattle.cm_board.specs.declared.items.ChanSays.TheVariants as says
+use Rattle.cm_board.specs.declared.items.Head.{Head}
+use Rattle.cm_board.specs.declared.items.Row.{Row}
+use Rattle.cm_board.specs.declared.items.Row.TheVariants as rows
 use Rattle.cm_board.specs.declared.items.Span.{Span}
 
 -- whether a number lies between two others or is one of them
@@ -25,26 +29,36 @@ is_span s = is_time s.min && is_time s.max && nat_le s.min s.max
 abbrev pub is_range : Range → Bool
 is_range r = fits_range r && int_lt r.min r.max
 
+-- what a line may say of a channel
+abbrev pub is_says : ChanSays → Bool
+is_says (says.Bits k) = is_within 1 24 k
+is_says (says.Munge m) = is_munge m
+is_says (says.Range r) = is_range r
+
 -- what each form asks of what its lines say
 abbrev pub keeps : (row : Row) → Value row → Bool
-keeps rows.bits = is_within 1 24
-keeps rows.munge = is_munge
-keeps rows.ranges = is_range
-keeps rows.sources = λ s. are_full (masks_said s)
-keeps rows.tick = is_within 1 1000000000
-keeps rows.scan = is_span
-keeps rows.convert = is_span
-keeps rows.list = is_within 1 256
-keeps rows.scans = is_time
-keeps rows.lines = is_within 0 16
-keeps rows.buffer = is_within 1 65536
-keeps rows.same_range = λ same. true
-keeps rows.forbidden = is_pair
+keeps rows.Bits = is_within 1 24
+keeps rows.Munge = is_munge
+keeps rows.Ranges = is_range
+keeps rows.Sources = λ s. are_full (masks_said s)
+keeps rows.Tick = is_within 1 1000000000
+keeps rows.Scan = is_span
+keeps rows.Convert = is_span
+keeps rows.List = is_within 1 256
+keeps rows.Scans = is_time
+keeps rows.Lines = is_within 0 16
+keeps rows.Buffer = is_within 1 65536
+keeps rows.SameRange = λ same. true
+keeps rows.Forbidden = is_pair
+keeps rows.Invert = λ invert. true
+keeps rows.Fifo = is_fifo
+keeps rows.Chans = λ line. is_says line.says
 
 -- what the lines of a block keep together
-pub record IsLimited (kind : Kind) (b : Block) : Type 0 where
+pub record IsLimited (head : Head) (b : Block) : Type 0 where
   pub each : (row : Row) → IsTrue (list_all (keeps row) (field row b))
   pub few_ranges : length b.ranges ≤ 16
   pub few_pairs : length b.forbidden ≤ 16
-  pub unused : IsTrue (not (is_unused kind) || (is_empty b.bits && is_empty b.munge && is_empty b.ranges))
-  pub commands : IsTrue (may_command kind || not (has_command b))
+  pub few_chan_ranges : (chan : ℕ) → length (filter_map (said_of as_range chan) b.chans) ≤ 16
+  pub stand : (row : Row) → IsTrue (may_stand head row || is_empty (field row b))
+  pub stops : IsTrue (list_all (λ s. is_among (stop_sources head.version) s.stop) b.sources)

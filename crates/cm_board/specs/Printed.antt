@@ -1,16 +1,19 @@
 -- A board as text.
-use Rattle.std.specs.Prelude.{ℕ, ◌-◌, ◌^◌, ◌==◌, List, [], ◌∷◌, ◌++◌, map, flat_map, codes, decimal, if◌then◌else◌}
+use Rattle.std.specs.Prelude.{option_to_list, ℕ, ◌-◌, ◌^◌, ◌==◌, List, [], ◌∷◌, ◌++◌, map, flat_map, codes, decimal, if◌then◌else◌}
 use Rattle.std.specs.Fmt.{signed_decimal}
 use Rattle.std.specs.List.{position_or_len, range_with_len}
 use Rattle.cm_base.specs.SourceText.{source_text}
 use Rattle.cm_base.specs.WrittenLines.{line_of}
-use Rattle.cm_board.specs.Board.{BoardText, Masks, SubText, is_unused, takes_commands}
+use Rattle.cm_board.specs.Board.{BoardText, ChanText, Masks, SubText, is_unused, takes_commands}
 use Rattle.cm_board.specs.Items.{key_of}
 use Rattle.cm_board.specs.Rows.{row_of}
 use Rattle.cm_board.specs.declared.board.Kind.{Kind}
 use Rattle.cm_board.specs.declared.board.Kind.TheVariants as kinds
 use Rattle.cm_board.specs.declared.board.Munge.{Munge}
 use Rattle.cm_board.specs.declared.board.Munge.TheVariants as munges
+use Rattle.cm_board.specs.declared.board.Range.{Range}
+use Rattle.cm_board.specs.declared.items.ChanSays.{ChanSays}
+use Rattle.cm_board.specs.declared.items.ChanSays.TheVariants as says
 use Rattle.cm_board.specs.declared.items.Sources.{Sources}
 use Rattle.cm_board.specs.declared.items.Item.{Item}
 use Rattle.cm_board.specs.declared.items.Item.TheVariants as items
@@ -41,11 +44,21 @@ munge_text munges.Offset = codes "offset" ∷ []
 munge_text munges.Swap16 = codes "swap16" ∷ []
 munge_text (munges.Left bits) = codes "left" ∷ decimal bits ∷ []
 
+-- the ends of a range and its unit
+abbrev pub range_text : Range → List (List ℕ)
+range_text r = signed_decimal r.min ∷ signed_decimal r.max ∷ decimal r.unit ∷ []
+
+-- what is said of a channel
+abbrev pub says_text : ChanSays → List (List ℕ)
+says_text (says.Bits k) = codes "bits" ∷ decimal k ∷ []
+says_text (says.Munge m) = codes "munge" ∷ munge_text m
+says_text (says.Range r) = codes "range" ∷ range_text r
+
 -- the words of a line after its key
 abbrev pub values_text : Item → List (List ℕ)
 values_text (items.Bits k) = decimal k ∷ []
 values_text (items.Munge m) = munge_text m
-values_text (items.Range r) = signed_decimal r.min ∷ signed_decimal r.max ∷ decimal r.unit ∷ []
+values_text (items.Range r) = range_text r
 values_text (items.Sources s) = source_text s.start ∷ source_text s.scan_begin ∷ source_text s.convert ∷ source_text s.scan_end ∷ source_text s.stop ∷ []
 values_text (items.Tick n) = decimal n ∷ []
 values_text (items.Scan s) = decimal s.min ∷ decimal s.max ∷ []
@@ -55,6 +68,9 @@ values_text (items.Scans n) = decimal n ∷ []
 values_text (items.Lines n) = decimal n ∷ []
 values_text (items.Buffer n) = decimal n ∷ []
 values_text items.SameRange = []
+values_text items.Invert = []
+values_text (items.Fifo f) = decimal f.depth ∷ decimal f.latency ∷ []
+values_text (items.Chan c) = decimal c.chan ∷ says_text c.says
 values_text (items.Forbid f) = field_text f.field ∷ source_text f.src ∷ field_text f.other ∷ source_text f.other_src ∷ []
 
 -- the words of a line
@@ -85,14 +101,28 @@ size_items s = items.List s.list_max ∷ items.Scans s.scans_max ∷ items.Lines
 abbrev pub rule_items : SubText → List Item
 rule_items s = (if s.same_range then items.SameRange ∷ [] else []) ++ map items.Forbid s.forbidden
 
+-- inverted lines, and a FIFO
+abbrev pub edge_items : SubText → List Item
+edge_items s = (if s.invert then items.Invert ∷ [] else []) ++ map items.Fifo (option_to_list s.fifo)
+
 -- what the lines of a subdevice that takes commands say, and nothing for another
 abbrev pub command_items : SubText → List Item
-command_items s = if takes_commands s then timing_items s ++ (size_items s ++ rule_items s) else []
+command_items s = if takes_commands s then timing_items s ++ (size_items s ++ (rule_items s ++ edge_items s)) else []
+
+-- what a line says of a channel
+abbrev pub chan_item : ℕ → ChanSays → Item
+chan_item chan what = items.Chan (record { chan = chan; says = what })
+
+-- what the lines about a channel say
+abbrev pub set_items : ChanText → List Item
+set_items c =
+    map (chan_item c.chan)
+    (map (λ maxdata. says.Bits (bits_of maxdata)) (option_to_list c.maxdata) ++ (map says.Munge (option_to_list c.munge) ++ map says.Range c.ranges))
 
 -- what the lines of a block say: those with defaults too, and none where the subdevice is unused
 abbrev pub items_of : SubText → List Item
 items_of s =
-    if is_unused s.kind then [] else items.Bits (bits_of s.maxdata) ∷ items.Munge s.munge ∷ (map items.Range s.ranges ++ command_items s)
+    if is_unused s.kind then [] else items.Bits (bits_of s.maxdata) ∷ items.Munge s.munge ∷ (map items.Range s.ranges ++ (command_items s ++ flat_map set_items s.chans))
 
 -- the first line of a block
 abbrev pub head_line : SubText → List (List ℕ)
@@ -102,9 +132,9 @@ head_line s = codes "subdevice" ∷ kind_text s.kind ∷ decimal s.channels ∷ 
 abbrev pub block_text : SubText → List ℕ
 block_text s = line_of (head_line s) ++ items_text (items_of s)
 
--- the first two lines
-abbrev pub version_line : List (List ℕ)
-version_line = codes "comedi" ∷ codes "1" ∷ []
+-- the line of the version
+abbrev pub version_line : ℕ → List (List ℕ)
+version_line version = codes "comedi" ∷ decimal version ∷ []
 
 -- the line of the board's name
 abbrev pub name_line : List ℕ → List (List ℕ)
@@ -112,7 +142,7 @@ name_line name = codes "board" ∷ name ∷ []
 
 -- a board as it is printed
 abbrev pub printed_board : BoardText → List ℕ
-printed_board b = line_of version_line ++ (line_of (name_line b.name) ++ flat_map block_text b.subs)
+printed_board b = line_of (version_line b.version) ++ (line_of (name_line b.name) ++ flat_map block_text b.subs)
 
 -- the lines of a block, and of a board part
 abbrev pub sub_lines : SubText → List (List (List ℕ))
@@ -120,4 +150,4 @@ sub_lines s = head_line s ∷ map item_text (items_of s)
 
 -- the printed lines of a board, as their words
 abbrev pub board_lines : BoardText → List (List (List ℕ))
-board_lines b = version_line ∷ name_line b.name ∷ flat_map sub_lines b.subs
+board_lines b = version_line b.version ∷ name_line b.name ∷ flat_map sub_lines b.subs

@@ -23,4 +23,7 @@ unchecked_text s = record {
   buffer = s.buffer;
   same_range = s.same_range;
   forbidden = s.forbidden.items;
+  chans = s.chans.items;
+  invert = s.invert;
+  fifo = s.fifo;
 }

@@ -1,4 +1,6 @@
 // Subdevices as plain data with the rules that each of them keeps.
+
+use crate::channels::{maxdata_by, munge_by, ranges_by};
 use std::marker::Model;
 
 /// What a subdevice is (Comedi: `COMEDI_SUBD_*`).
@@ -50,13 +52,44 @@ pub struct Forbid {
     pub other_src: u32,
 }
 
+/// What a board says of one channel alone. What it doesn't say is its subdevice's.
+#[derive(Drop)]
+pub struct ChanSet {
+    /// Counts the subdevice's channels from 0.
+    pub chan: u32,
+    /// The greatest code, `2^bits - 1` with 1 to 24 bits.
+    pub maxdata: Option<u32>,
+    pub munge: Option<Munge>,
+    /// At most 16. Where there is one, the channel has these ranges and no others.
+    pub ranges: Vec<Range>,
+}
+
+impl Model for ChanSet {
+    ghost use Rattle.cm_board.specs.Board.{ChanText};
+
+    ghost Value = { ChanText };
+
+    ghost use Rattle.cm_board.specs.ChanView.{chan_text};
+
+    ghost view = { chan_text };
+}
+
+/// A FIFO between a board's converter and its buffer.
+#[derive(Clone, Copy, Debug, PartialEq, Eq)]
+pub struct Fifo {
+    /// How many samples it holds: 2 to 4,096, and even. It asks to be emptied when it is half full.
+    pub depth: u32,
+    /// How long after that it is emptied, in nanoseconds: at most a second.
+    pub latency: u32,
+}
+
 /// A subdevice (Comedi: `comedi_subdevice`). Times are in nanoseconds.
 #[derive(Drop)]
 pub struct Sub {
     pub kind: Kind,
     /// 1 to 64, and 0 where the kind is unused.
     pub channels: u32,
-    /// The greatest code, `2^bits - 1` with 1 to 24 bits.
+    /// The greatest code, `2^bits - 1` with 1 to 24 bits, of each channel that has none of its own.
     pub maxdata: u32,
     pub munge: Munge,
     pub ranges: Vec<Range>,
@@ -80,6 +113,12 @@ pub struct Sub {
     /// Whether all entries of a list have one range.
     pub same_range: bool,
     pub forbidden: Vec<Forbid>,
+    /// The channels with numbers of their own, in rising order.
+    pub chans: Vec<ChanSet>,
+    /// Whether an external argument may ask for the falling edges of its line (Comedi: `CR_INVERT`).
+    pub invert: bool,
+    /// The FIFO of the board, where it has one.
+    pub fifo: Option<Fifo>,
 }
 
 impl Model for Sub {
@@ -95,8 +134,9 @@ impl Model for Sub {
 }
 
 impl Sub {
-    ghost use Rattle.std.specs.Prelude.{◌≡◌, ◌<◌, ◌≤◌, ◌^◌, ◌<ℤ◌, IsTrue};
-    ghost use Rattle.cm_board.specs.Board.{is_munge, maxdata_of, munge_of, range_count, range_of, takes_commands};
+    ghost use Rattle.std.specs.Prelude.{◌≡◌, ◌<◌, ◌≤◌, ◌^◌, ◌<ℤ◌, IsTrue, length};
+    ghost use Rattle.std.specs.List.{All};
+    ghost use Rattle.cm_board.specs.Board.{IsRange, is_fall, is_munge, line_of, maxdata_of, munge_of, range_count, range_of, ranges_of, takes_commands};
 
     /// Whether the subdevice takes commands.
     pub fn takes_commands(&self) -> bool
@@ -107,27 +147,35 @@ impl Sub {
     }
 
     /// The greatest code of a channel.
+    #[tactic(auto, unfolding(crate::specs::Board::maxdata_of))]
     pub fn maxdata_of(&self, chan: u32) -> u32
         requires { chan < self.now.channels }
         ensures value { result ≡ maxdata_of self.now chan }
         ensures low { 1 ≤ result }
         ensures high { result < 2 ^ 24 }
     {
-        // All channels of a subdevice have the same.
-        let _ = chan;
-        self.maxdata
+        maxdata_by(&self.chans, chan, self.maxdata)
     }
 
     /// How the words of a channel are munged.
-    #[tactic(auto, unfolding(crate::specs::Board::has_munge))]
+    #[tactic(auto, unfolding(crate::specs::Board::munge_of))]
     pub fn munge_of(&self, chan: u32) -> Munge
         requires { chan < self.now.channels }
         ensures value { result ≡ munge_of self.now chan }
         ensures shift { IsTrue (is_munge result) }
     {
-        // All channels of a subdevice have the same.
-        let _ = chan;
-        self.munge
+        munge_by(&self.chans, chan, self.munge)
+    }
+
+    // The ranges of a channel.
+    #[tactic(auto, unfolding(crate::specs::Board::ranges_of))]
+    fn ranges_of(&self, chan: u32) -> &[Range]
+        requires { chan < self.now.channels }
+        ensures value { result.now ≡ ranges_of self.now chan }
+        ensures few { length result.now ≤ 16 }
+        ensures proper { All IsRange result.now }
+    {
+        ranges_by(&self.chans, chan, &self.ranges)
     }
 
     /// How many ranges a channel has.
@@ -135,9 +183,7 @@ impl Sub {
         requires { chan < self.now.channels }
         ensures { result ≡ range_count self.now chan }
     {
-        // All channels of a subdevice have the same.
-        let _ = chan;
-        self.ranges.len() as u32
+        self.ranges_of(chan).len() as u32
     }
 
     /// A range of a channel by its number.
@@ -147,15 +193,30 @@ impl Sub {
         ensures value { result ≡ range_of self.now chan index }
         ensures proper { result.min <ℤ result.max }
     {
-        // All channels of a subdevice have the same.
-        let _ = chan;
-        self.ranges[index as usize]
+        self.ranges_of(chan)[index as usize]
+    }
+
+    /// The external line that an argument names: where the lines can be inverted, bit 31 isn't part
+    /// of its number.
+    pub fn line_of(&self, arg: u32) -> u32
+        ensures { result ≡ line_of self.now arg }
+    {
+        if self.invert { arg % 0x8000_0000 } else { arg }
+    }
+
+    /// Whether an external argument asks for the falling edges of its line (Comedi: `CR_INVERT`).
+    pub fn is_fall(&self, arg: u32) -> bool
+        ensures { result ≡ is_fall self.now arg }
+    {
+        self.invert && arg / 0x8000_0000 % 2 == 1
     }
 }
 
 /// A board: its name of 1 to 32 printable bytes, and its 1 to 16 subdevices.
 #[derive(Drop)]
 pub struct BoardDesc {
+    /// The version of the board's text, 1 or 2.
+    pub version: u32,
     pub name: Vec<u8>,
     pub subs: Vec<Sub>,
 }

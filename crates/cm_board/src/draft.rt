@@ -1,14 +1,15 @@
 // A block while its lines are read.
-ghost use Rattle.std.specs.Prelude.{◌≡◌, ◌^◌, ◌-◌, [], OnOk, IsTrue, nat_lt, option_to_list, ◌==◌, if◌then◌else◌};
+ghost use Rattle.std.specs.Prelude.{◌≡◌, ◌^◌, ◌-◌, [], IfOk, OnOk, IsTrue, nat_lt, option_to_list, ◌==◌, if◌then◌else◌};
 ghost use Rattle.cm_base.specs.Reading.{seen};
 ghost use Rattle.cm_board.specs.Block.{admitted, block_of, count_of, is_fine, has_any, has_command, lacks, lacks_any, most_of, said_or, sub_of};
 ghost use Rattle.cm_board.specs.Rows.{further_rows, needed_rows};
-ghost use Rattle.cm_board.specs.Limits.{is_within};
+ghost use Rattle.cm_board.specs.Limits.{is_says, is_within};
 ghost use Rattle.std.specs.List.{list_all};
 ghost use Rattle.cm_base.specs.declared.faults.Fault.TheVariants as faults;
 
-use crate::board::{Forbid, Kind, Munge, Range};
-use crate::items::{Head, Item, Sources, Span};
+use crate::board::{Fifo, Forbid, Kind, Munge, Range};
+use crate::chan_lines::{count_like, fine_says, most_said, past_says, sets_of};
+use crate::items::{ChanLine, Head, Item, Sources, Span};
 use crate::unchecked::Unchecked;
 use cm_base::faults::Fault;
 use std::alloc::{AllocError, Global};
@@ -29,6 +30,9 @@ pub struct Draft {
     pub buffer: Option<u32>,
     pub same_range: bool,
     pub forbidden: Vec<Forbid>,
+    pub invert: bool,
+    pub fifo: Option<Fifo>,
+    pub chans: Vec<ChanLine>,
 }
 
 impl Draft {
@@ -53,6 +57,9 @@ impl Draft {
             buffer: None,
             same_range: false,
             forbidden: Vec::new(alloc),
+            invert: false,
+            fifo: None,
+            chans: Vec::new(alloc),
         }
     }
 
@@ -89,6 +96,9 @@ impl Draft {
             Item::Buffer(_) => self.buffer.is_none(),
             Item::SameRange => !self.same_range,
             Item::Forbid(_) => self.forbidden.len() < 16,
+            Item::Invert => !self.invert,
+            Item::Fifo(_) => self.fifo.is_none(),
+            Item::Chan(line) => count_like(line, &self.chans) < most_said(&line.says),
         }
     }
 
@@ -110,6 +120,9 @@ impl Draft {
             Item::Buffer(buffer) => self.buffer = Some(buffer),
             Item::SameRange => self.same_range = true,
             Item::Forbid(forbid) => self.forbidden.push(forbid)?,
+            Item::Invert => self.invert = true,
+            Item::Fifo(fifo) => self.fifo = Some(fifo),
+            Item::Chan(line) => self.chans.push(line)?,
         }
         Ok(())
     }
@@ -127,12 +140,14 @@ impl Draft {
     }
 
     /// The subdevice that the lines describe.
-    pub fn fill(self, head: Head) -> Unchecked
-        requires { IsTrue (list_all (is_within 1 24) (block_view self).bits) }
-        ensures { unchecked_text result ≡ sub_of head (block_view self) }
+    pub fn fill(self, alloc: Global, head: Head) -> Result<Unchecked, AllocError>
+        requires bits { IsTrue (list_all (is_within 1 24) (block_view self).bits) }
+        requires chans { IsTrue (list_all (λ line. is_says line.says) (block_view self).chans) }
+        ensures { IfOk result (λ unchecked. unchecked_text unchecked ≡ sub_of head (block_view self)) }
     {
         let once = Span { min: 1, max: 1 };
-        Unchecked {
+        let chans = sets_of(alloc, head.channels, &self.chans)?;
+        Ok(Unchecked {
             kind: head.kind,
             channels: head.channels,
             maxdata: maxdata(self.bits),
@@ -148,7 +163,10 @@ impl Draft {
             buffer: self.buffer.unwrap_or(1),
             same_range: self.same_range,
             forbidden: self.forbidden,
-        }
+            chans,
+            invert: self.invert,
+            fifo: self.fifo,
+        })
     }
 
     // Whether there is a line that a subdevice with commands needs.
@@ -171,6 +189,8 @@ impl Draft {
             || self.lines.is_some()
             || self.same_range
             || !self.forbidden.is_empty()
+            || self.invert
+            || self.fifo.is_some()
     }
 
     // Whether there is a line that only a subdevice with commands has.
@@ -202,6 +222,8 @@ fn is_fine(item: &Item) -> bool
         Item::Scan(span) => span.min <= span.max,
         Item::Convert(span) => span.min <= span.max,
         Item::Forbid(forbid) => forbid.field != forbid.other,
+        Item::Fifo(fifo) => fifo.depth % 2 == 0,
+        Item::Chan(line) => fine_says(&line.says),
         _ => true,
     }
 }
@@ -213,6 +235,7 @@ fn past(item: &Item) -> Fault
     match item {
         Item::Range(_) => Fault::Limit,
         Item::Forbid(_) => Fault::Limit,
+        Item::Chan(line) => past_says(&line.says),
         _ => Fault::Double,
     }
 }

@@ -1,15 +1,16 @@
 // A board, written as text.
-ghost use Rattle.std.specs.Prelude.{◌≡◌, ◌++◌, ◌∷◌, [], ◌≤◌, ◌-◌, ◌^◌, codes, flat_map, map, IfOk, OnOk, IsFalse, decimal};
+ghost use Rattle.std.specs.Prelude.{◌≡◌, ◌++◌, ◌∷◌, [], ◌≤◌, ◌-◌, ◌^◌, codes, flat_map, map, IfOk, OnOk, IsFalse, decimal, option_to_list};
 ghost use Rattle.cm_base.specs.SourceText.{source_text};
 ghost use Rattle.cm_base.specs.WrittenLines.{line_of};
 ghost use Rattle.std.specs.List.{All};
 ghost use Rattle.cm_board.specs.Board.{IsSoundSub, is_unused};
 ghost use Rattle.cm_board.specs.PrintedReads.{ReadsAs};
-ghost use Rattle.cm_board.specs.Printed.{bits_of, block_text, command_items, field_text, item_text, items_of, items_text, kind_text, munge_text, printed_board, rule_items, size_items, sources_of, span_items, timing_items};
+ghost use Rattle.cm_board.specs.Printed.{bits_of, block_text, chan_item, command_items, edge_items, field_text, item_text, items_of, items_text, kind_text, munge_text, name_line, printed_board, rule_items, set_items, size_items, sources_of, span_items, timing_items};
+ghost use Rattle.cm_board.specs.declared.items.ChanSays.TheVariants as says;
 ghost use Rattle.cm_board.specs.declared.items.Item.TheVariants as items;
 
-use crate::board::{BoardDesc, Forbid, Kind, Munge, Range, Sub};
-use crate::items::{Item, Sources, Span};
+use crate::board::{BoardDesc, ChanSet, Fifo, Forbid, Kind, Munge, Range, Sub};
+use crate::items::{ChanLine, ChanSays, Item, Sources, Span};
 use cm_base::numbers::{put_i64, put_u64};
 use cm_base::source_text::put_sources;
 use cm_base::transfer::NoMemory;
@@ -22,11 +23,19 @@ pub fn print_board(alloc: Global, board: &BoardDesc) -> Result<Vec<u8>, NoMemory
     ensures reads { IfOk result (λ text. ReadsAs board.now text.items) }
 {
     let mut out = Vec::new(alloc);
-    out.extend_from_slice(b"comedi 1\nboard ")?;
-    out.extend_from_slice(&board.name)?;
-    out.push(b'\n')?;
+    put_one(&mut out, b"comedi", board.version)?;
+    put_name(&mut out, &board.name)?;
     put_subs(&mut out, &board.subs)?;
     Ok(out)
+}
+
+// The line of the board's name.
+fn put_name(out: &mut Vec<u8>, name: &[u8]) -> Result<(), NoMemory>
+    ensures { OnOk result (out.new.items ≡ out.old.items ++ line_of (name_line name.now)) }
+{
+    out.extend_from_slice(b"board ")?;
+    out.extend_from_slice(name)?;
+    end_line(out)
 }
 
 // The blocks.
@@ -71,7 +80,8 @@ fn put_body(out: &mut Vec<u8>, sub: &Sub) -> Result<(), NoMemory>
     put_item(out, Item::Bits(bits_of(sub.maxdata)))?;
     put_item(out, Item::Munge(sub.munge))?;
     put_ranges(out, &sub.ranges)?;
-    put_commands(out, sub)
+    put_commands(out, sub)?;
+    put_sets(out, &sub.chans)
 }
 
 fn put_ranges(out: &mut Vec<u8>, ranges: &[Range]) -> Result<(), NoMemory>
@@ -91,6 +101,7 @@ fn put_commands(out: &mut Vec<u8>, sub: &Sub) -> Result<(), NoMemory>
         put_timing(out, sub)?;
         put_sizes(out, sub)?;
         put_rules(out, sub)?;
+        put_edges(out, sub)?;
     }
     Ok(())
 }
@@ -162,6 +173,75 @@ fn put_forbidden(out: &mut Vec<u8>, forbidden: &[Forbid]) -> Result<(), NoMemory
     Ok(())
 }
 
+// Inverted lines, and a FIFO.
+fn put_edges(out: &mut Vec<u8>, sub: &Sub) -> Result<(), NoMemory>
+    ensures { OnOk result (out.new.items ≡ out.old.items ++ items_text (edge_items sub.now)) }
+{
+    if sub.invert {
+        put_item(out, Item::Invert)?;
+    }
+    match sub.fifo {
+        Some(fifo) => put_item(out, Item::Fifo(fifo)),
+        None => Ok(()),
+    }
+}
+
+// The lines about single channels.
+fn put_sets(out: &mut Vec<u8>, sets: &[ChanSet]) -> Result<(), NoMemory>
+    ensures { OnOk result (out.new.items ≡ out.old.items ++ items_text (flat_map set_items sets.now)) }
+{
+    for set in sets {
+        put_set(out, set)?;
+    }
+    Ok(())
+}
+
+// What is said of one channel.
+fn put_set(out: &mut Vec<u8>, set: &ChanSet) -> Result<(), NoMemory>
+    ensures { OnOk result (out.new.items ≡ out.old.items ++ items_text (set_items set.now)) }
+{
+    put_chan_bits(out, set.chan, set.maxdata)?;
+    put_chan_munge(out, set.chan, set.munge)?;
+    put_chan_ranges(out, set.chan, &set.ranges)
+}
+
+// The bits of a channel, where it has a greatest code of its own.
+fn put_chan_bits(out: &mut Vec<u8>, chan: u32, maxdata: Option<u32>) -> Result<(), NoMemory>
+    ensures { OnOk result (out.new.items ≡ out.old.items ++ items_text (map (λ code. chan_item chan (says.Bits (bits_of code))) (option_to_list maxdata))) }
+{
+    match maxdata {
+        Some(code) => put_says(out, chan, ChanSays::Bits(bits_of(code))),
+        None => Ok(()),
+    }
+}
+
+// The munge of a channel, where it has its own.
+fn put_chan_munge(out: &mut Vec<u8>, chan: u32, munge: Option<Munge>) -> Result<(), NoMemory>
+    ensures { OnOk result (out.new.items ≡ out.old.items ++ items_text (map (λ own. chan_item chan (says.Munge own)) (option_to_list munge))) }
+{
+    match munge {
+        Some(own) => put_says(out, chan, ChanSays::Munge(own)),
+        None => Ok(()),
+    }
+}
+
+// The ranges of a channel, where it has its own.
+fn put_chan_ranges(out: &mut Vec<u8>, chan: u32, ranges: &[Range]) -> Result<(), NoMemory>
+    ensures { OnOk result (out.new.items ≡ out.old.items ++ items_text (map (λ range. chan_item chan (says.Range range)) ranges.now)) }
+{
+    for range in ranges {
+        put_says(out, chan, ChanSays::Range(*range))?;
+    }
+    Ok(())
+}
+
+// A line about one channel.
+fn put_says(out: &mut Vec<u8>, chan: u32, says: ChanSays) -> Result<(), NoMemory>
+    ensures { OnOk result (out.new.items ≡ out.old.items ++ line_of (item_text (chan_item chan says))) }
+{
+    put_item(out, Item::Chan(ChanLine { chan, says }))
+}
+
 // One line.
 fn put_item(out: &mut Vec<u8>, item: Item) -> Result<(), NoMemory>
     ensures { OnOk result (out.new.items ≡ out.old.items ++ line_of (item_text item)) }
@@ -180,6 +260,9 @@ fn put_item(out: &mut Vec<u8>, item: Item) -> Result<(), NoMemory>
         Item::Buffer(buffer) => put_one(out, b"buffer", buffer),
         Item::SameRange => Ok(out.extend_from_slice(b"samerange\n")?),
         Item::Forbid(forbid) => put_forbid(out, forbid),
+        Item::Invert => Ok(out.extend_from_slice(b"invert\n")?),
+        Item::Fifo(fifo) => put_fifo(out, fifo),
+        Item::Chan(line) => put_chan(out, line),
     }
 }
 
@@ -203,6 +286,31 @@ fn put_span(out: &mut Vec<u8>, key: &[u8], span: Span) -> Result<(), NoMemory>
     out.push(b' ')?;
     put_u64(out, span.max as u64)?;
     end_line(out)
+}
+
+// `fifo DEPTH LATENCY`
+fn put_fifo(out: &mut Vec<u8>, fifo: Fifo) -> Result<(), NoMemory>
+    ensures { OnOk result (out.new.items ≡ out.old.items ++ line_of (item_text (items.Fifo fifo))) }
+{
+    out.extend_from_slice(b"fifo ")?;
+    put_u64(out, fifo.depth as u64)?;
+    out.push(b' ')?;
+    put_u64(out, fifo.latency as u64)?;
+    end_line(out)
+}
+
+// `chan C KEY ..`
+fn put_chan(out: &mut Vec<u8>, line: ChanLine) -> Result<(), NoMemory>
+    ensures { OnOk result (out.new.items ≡ out.old.items ++ line_of (item_text (items.Chan line))) }
+{
+    out.extend_from_slice(b"chan ")?;
+    put_u64(out, line.chan as u64)?;
+    out.push(b' ')?;
+    match line.says {
+        ChanSays::Bits(bits) => put_one(out, b"bits", bits),
+        ChanSays::Munge(munge) => put_munge(out, munge),
+        ChanSays::Range(range) => put_range(out, range),
+    }
 }
 
 // `munge KIND`

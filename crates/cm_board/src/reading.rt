@@ -14,9 +14,10 @@ ghost use Rattle.cm_board.specs.Limits.{IsLimited};
 ghost use Rattle.cm_board.specs.Board.{IsSoundBoard, has_channels};
 ghost use Rattle.cm_base.specs.Lines.{is_word};
 
-use crate::board::{BoardDesc, Kind, Sub};
+use crate::board::{BoardDesc, Sub};
 use crate::draft::Draft;
-use crate::items::{Head, Item, read_head, read_item};
+use crate::forms::{read_head, read_item};
+use crate::items::{Head, Item};
 use cm_base::faults::{Fault, ReadStop};
 use cm_base::lines::{Line, Lines};
 use cm_base::parts::{after_key, begins, fixed, refused};
@@ -56,11 +57,11 @@ fn next_number(lines: &[Line<'_>], end: u32) -> u32
 }
 
 // The head of a block, where at most 16 stand before it.
-fn head_after(count: usize, line: &Line<'_>) -> Result<Head, Fault>
-    ensures { result ≡ head_after count (line_view line.now) }
+fn head_after(version: u32, count: usize, line: &Line<'_>) -> Result<Head, Fault>
+    ensures { result ≡ head_after version count (line_view line.now) }
 {
     let words = line.words.as_slice();
-    let head = read_head(after_key(words))?;
+    let head = read_head(version, after_key(words))?;
     if count < 16 {
         Ok(head)
     } else {
@@ -69,21 +70,21 @@ fn head_after(count: usize, line: &Line<'_>) -> Result<Head, Fault>
 }
 
 // A line's item, where it may stand after those of the draft.
-fn item_after(kind: Kind, draft: &Draft, line: &Line<'_>) -> Result<Item, Fault>
-    ensures { (items : List Item) → block_view draft.now ≡ block_of items → result ≡ item_after kind items (line_view line.now) }
+fn item_after(head: &Head, draft: &Draft, line: &Line<'_>) -> Result<Item, Fault>
+    ensures { (items : List Item) → block_view draft.now ≡ block_of items → result ≡ item_after head.now items (line_view line.now) }
 {
-    let item = read_item(kind, line)?;
+    let item = read_item(head, line)?;
     draft.check(&item)?;
     Ok(item)
 }
 
 // What the lines of a block say together.
-fn read_items(alloc: Global, kind: Kind, lines: &[Line<'_>]) -> Result<Draft, ReadStop>
-    ensures { Gives block_view result (block_said kind (map line_view lines.now)) }
+fn read_items(alloc: Global, head: &Head, lines: &[Line<'_>]) -> Result<Draft, ReadStop>
+    ensures { Gives block_view result (block_said head.now (map line_view lines.now)) }
 {
     let mut draft = Draft::new(alloc);
     for line in lines {
-        let item = at_line(line.number, item_after(kind, &draft, line))?;
+        let item = at_line(line.number, item_after(head, &draft, line))?;
         draft.put(item)?;
     }
     Ok(draft)
@@ -101,33 +102,35 @@ fn cut_block<'a, 'b>(lines: &'a [Line<'b>]) -> (&'a [Line<'b>], &'a [Line<'b>])
 // The subdevice that a head and the lines after it describe, with `count` blocks before and the line `stop` after.
 fn read_block(
     alloc: Global,
+    version: u32,
     stop: u32,
     count: usize,
     head: &Line<'_>,
     inside: &[Line<'_>],
 ) -> Result<Sub, ReadStop>
-    ensures { Gives (λ sub. sub) result (block_at stop count (line_view head.now) (map line_view inside.now)) }
+    ensures { Gives (λ sub. sub) result (block_at version stop count (line_view head.now) (map line_view inside.now)) }
 {
     let line = head.number;
-    let head = at_line(line, head_after(count, head))?;
-    let draft = read_items(alloc, head.kind, inside)?;
-    at_line(stop, finish(draft, head))
+    let head = at_line(line, head_after(version, count, head))?;
+    let draft = read_items(alloc, &head, inside)?;
+    let sub = finish(alloc, draft, head)?;
+    at_line(stop, sub)
 }
 
 // What a block says at its end.
-fn finish(draft: Draft, head: Head) -> Result<Sub, Fault>
-    requires limits { IsLimited head.kind (block_view draft) }
+fn finish(alloc: Global, draft: Draft, head: Head) -> Result<Result<Sub, Fault>, AllocError>
+    requires limits { IsLimited head (block_view draft) }
     requires channels { IsTrue (has_channels head.kind head.channels) }
-    ensures { result ≡ finished head (block_view draft) }
+    ensures { IfOk result (λ sub. sub ≡ finished head (block_view draft)) }
 {
     if draft.lacks(head.kind) {
-        return Err(Fault::Missing);
+        return Ok(Err(Fault::Missing));
     }
-    let sub = draft.fill(head);
+    let sub = draft.fill(alloc, head)?;
     if sub.is_board_ok() {
-        Ok(sub.into_sub())
+        Ok(Ok(sub.into_sub()))
     } else {
-        Err(Fault::Bad)
+        Ok(Err(Fault::Bad))
     }
 }
 
@@ -142,16 +145,21 @@ fn is_part_end(lines: &[Line<'_>]) -> bool
 }
 
 // The subdevices of the blocks up to the `signals` line.
-fn read_blocks(alloc: Global, lines: &[Line<'_>], end: u32) -> Result<Vec<Sub>, ReadStop>
+fn read_blocks(
+    alloc: Global,
+    version: u32,
+    lines: &[Line<'_>],
+    end: u32,
+) -> Result<Vec<Sub>, ReadStop>
     requires { IsTrue (is_between (map line_view lines.now)) }
-    ensures { Gives (λ subs. subs.items) result (blocks_from end 0 (map line_view lines.now)) }
+    ensures { Gives (λ subs. subs.items) result (blocks_from version end 0 (map line_view lines.now)) }
 {
     let mut subs = Vec::new(alloc);
     let mut at = 0;
     while !is_part_end(lines_from(lines, at)) {
         let after = lines_from(lines, at + 1);
         let inside = block_len(after);
-        let sub = match next_sub(alloc, subs.len(), &lines[at], after, end) {
+        let sub = match next_sub(alloc, version, subs.len(), &lines[at], after, end) {
             Ok(sub) => sub,
             Err(stop) => return Err(stop),
         };
@@ -167,15 +175,23 @@ fn read_blocks(alloc: Global, lines: &[Line<'_>], end: u32) -> Result<Vec<Sub>, 
 // The subdevice that a block with this head describes, with `count` blocks before it.
 fn next_sub(
     alloc: Global,
+    version: u32,
     count: usize,
     head: &Line<'_>,
     after: &[Line<'_>],
     end: u32,
 ) -> Result<Sub, ReadStop>
-    ensures { Gives (λ sub. sub) result (next_block end count (line_view head.now) (map line_view after.now)) }
+    ensures { Gives (λ sub. sub) result (next_block version end count (line_view head.now) (map line_view after.now)) }
 {
     let (inside, others) = cut_block(after);
-    read_block(alloc, next_number(others, end), count, head, inside)
+    read_block(
+        alloc,
+        version,
+        next_number(others, end),
+        count,
+        head,
+        inside,
+    )
 }
 
 /// Reads the board part of a text, from its first line on, and reports the place of the `signals`
@@ -203,21 +219,27 @@ fn read_part(
     ensures value { Gives (λ r. (r.0, r.1)) result (board_of end (map line_view lines.now)) }
     ensures place { IfOk result (λ r. r.1 ≡ place) }
 {
-    read_version(lines, end)?;
+    let version = read_version(lines, end)?;
     let name = read_name(lines_from(lines, 1), end)?;
     let blocks = lines_from(lines, 2);
     begins_block(blocks, end)?;
-    let subs = read_blocks(alloc, blocks, end)?;
-    let board = describe(alloc, name, subs)?;
+    let subs = read_blocks(alloc, version, blocks, end)?;
+    let board = describe(alloc, version, name, subs)?;
     Ok((board, place))
 }
 
-// The board with this name and these subdevices.
-fn describe(alloc: Global, name: &[u8], subs: Vec<Sub>) -> Result<BoardDesc, AllocError>
-    requires { IsSoundBoard (record { name = name.now; subs = subs.items }) }
-    ensures { IfOk result (λ board. board ≡ record { name = name.now; subs = subs.items }) }
+// The board of this version with this name and these subdevices.
+fn describe(
+    alloc: Global,
+    version: u32,
+    name: &[u8],
+    subs: Vec<Sub>,
+) -> Result<BoardDesc, AllocError>
+    requires { IsSoundBoard (record { version = version; name = name.now; subs = subs.items }) }
+    ensures { IfOk result (λ board. board ≡ record { version = version; name = name.now; subs = subs.items }) }
 {
     Ok(BoardDesc {
+        version,
         name: Vec::from_slice(alloc, name)?,
         subs,
     })
@@ -248,16 +270,19 @@ fn lines_from<'a, 'b>(lines: &'a [Line<'b>], at: usize) -> &'a [Line<'b>]
 
 // The version of the board part.
 fn read_version(lines: &[Line<'_>], end: u32) -> Result<u32, ReadStop>
-    ensures { Gives (λ version. version) result (parts.fixed end (codes "comedi") version_words (map line_view lines.now)) }
+    ensures value { Gives (λ version. version) result (parts.fixed end (codes "comedi") version_words (map line_view lines.now)) }
+    ensures limit { IfOk result (λ version. (1 ≤ version) × (version ≤ 2)) }
 {
     let (number, words) = first(lines, b"comedi", end)?;
     at_line(number, version(words))
 }
 
 fn version(words: &[&[u8]]) -> Result<u32, Fault>
-    ensures { result ≡ version_words (map (λ word. word.now) words.now) }
+    ensures value { result ≡ version_words (map (λ word. word.now) words.now) }
+    ensures limit { IfOk result (λ version. (1 ≤ version) × (version ≤ 2)) }
 {
-    number_in(one(words)?, 1, 1)
+    let version = one(words)?;
+    number_in(version, 1, 2)
 }
 
 // The board's name.

@@ -3,7 +3,8 @@ ghost use Rattle.std.specs.Prelude.{◌≡◌};
 ghost use Rattle.cm_board.specs.Block.{has_line};
 ghost use Rattle.cm_board.specs.Board.{is_digital, swaps};
 
-use crate::board::{Forbid, Kind, Munge, Range, Sub};
+use crate::board::{ChanSet, Fifo, Forbid, Kind, Munge, Range, Sub};
+use crate::channels::{maxdata_by, munge_by};
 use crate::items::{Sources, Span};
 use cm_base::source::EXT;
 
@@ -25,11 +26,14 @@ pub struct Unchecked {
     pub buffer: u32,
     pub same_range: bool,
     pub forbidden: Vec<Forbid>,
+    pub chans: Vec<ChanSet>,
+    pub invert: bool,
+    pub fifo: Option<Fifo>,
 }
 
 impl Unchecked {
-    ghost use Rattle.cm_board.specs.Block.{is_bits_ok, is_board_ok, is_lines_ok, is_list_ok, is_ticks_ok};
-    ghost use Rattle.cm_board.specs.Board.{IsSoundSub};
+    ghost use Rattle.cm_board.specs.Block.{is_board_ok, is_lines_ok, is_list_ok, is_ticks_ok};
+    ghost use Rattle.cm_board.specs.Board.{IsSoundSub, is_bits_ok, is_channel_ok};
     ghost use Rattle.cm_board.specs.UncheckedView.{unchecked_text};
     ghost use Rattle.std.specs.Prelude.{◌<◌};
 
@@ -71,15 +75,27 @@ impl Unchecked {
             buffer: self.buffer,
             same_range: self.same_range,
             forbidden: self.forbidden,
+            chans: self.chans,
+            invert: self.invert,
+            fifo: self.fifo,
         }
     }
 
-    // Digital channels have one bit, and swapped words at most 16.
+    // Each digital channel has one bit, and each whose words are swapped at most 16.
+    #[tactic(auto, unfolding(crate::specs::Board::is_bits_ok))]
     fn is_bits_ok(&self) -> bool
         ensures { result ≡ is_bits_ok (unchecked_text self.now) }
     {
-        (!is_digital(self.kind) || self.maxdata == 1)
-            && (!swaps(self.munge) || self.maxdata <= 65_535)
+        (0..self.channels).all(|chan| self.is_channel_ok(chan))
+    }
+
+    #[tactic(auto, unfolding(crate::specs::Board::maxdata_of, crate::specs::Board::munge_of))]
+    fn is_channel_ok(&self, chan: u32) -> bool
+        ensures { result ≡ is_channel_ok (unchecked_text self.now) chan }
+    {
+        let maxdata = maxdata_by(&self.chans, chan, self.maxdata);
+        let munge = munge_by(&self.chans, chan, self.munge);
+        (!is_digital(self.kind) || maxdata == 1) && (!swaps(munge) || maxdata <= 65_535)
     }
 
     // The limits of times are multiples of the tick.

@@ -2,9 +2,8 @@
 use Rattle.std.proofs.Common.{◌≡◌, ℕ, ◌<◌, ◌≤◌, List, length, get_or, Some, None, Option, sym, ap, ◌∙◌, subst, arith}
 use Rattle.std.specs.Prelude.{IfSome}
 use Rattle.std.proofs.lemmas.Bool.{eqb-true}
-use Rattle.std.proofs.lemmas.Grind.{get_or_default_zero}
 use Rattle.std.proofs.lemmas.List.Elements.{All-get_or}
-use Rattle.cm_board.specs.Board.{SubText, IsSoundSub}
+use Rattle.cm_board.specs.Board.{SubText, IsSoundSub, line_of}
 use Rattle.cm_base.specs.Source as source
 use Rattle.cm_cmd.specs.Command.{CmdText}
 use Rattle.cm_cmd.specs.Entry.{chan}
@@ -15,11 +14,11 @@ use Rattle.cm_expand.proofs.Codes.{code_is}
 use Rattle.cm_expand.specs.Fit.{IsFit, NamesLine}
 use Rattle.cm_expand.specs.Plan.{PlanText, IsPlan}
 
-line_below : (lines src arg : ℕ) → lines ≤ 16 → (src ≡ source.ext → arg < lines) → NamesLine src arg
-line_below lines src arg few names = λ is. let below = names (eqb-true src source.ext is) in omega arith
+line_below : (sub : SubText) (src arg : ℕ) → sub.lines ≤ 16 → (src ≡ source.ext → line_of sub arg < sub.lines) → NamesLine sub src arg
+line_below sub src arg few names = λ is. let below = names (eqb-true src source.ext is) in omega (arith, few, below)
 
 -- an entry of a list that passes
-entry_at : (sub : SubText) (cmd : CmdText) → IsPassed sub cmd → (i : ℕ) → i < length cmd.list → IsEntry sub (get_or cmd.list i 0)
+pub entry_at : (sub : SubText) (cmd : CmdText) → IsPassed sub cmd → (i : ℕ) → i < length cmd.list → IsEntry sub (get_or cmd.list i 0)
 entry_at sub cmd is i h = All-get_or (IsEntry sub) cmd.list i 0 h is.entries
 
 pub fit : (p : PlanText) → IsSoundSub p.sub → IsPlan p → IsFit p
@@ -32,10 +31,11 @@ fit p sound is =
       few = omega arith;
       channels = λ i h. (entry_at p.sub p.cmd passes i h).has_chan;
       ranges = λ i h. (entry_at p.sub p.cmd passes i h).has_range;
-      codes = λ i time h. code_is p (get_or p.cmd.list i 0) time sound (entry_at p.sub p.cmd passes i h).has_range;
-      start_line = line_below p.sub.lines p.cmd.start.src p.cmd.start.arg sound.few_lines passes.inside.start_line;
-      begin_line = line_below p.sub.lines p.cmd.scan_begin.src p.cmd.scan_begin.arg sound.few_lines passes.inside.scan_begin_line;
-      convert_line = line_below p.sub.lines p.cmd.convert.src p.cmd.convert.arg sound.few_lines passes.inside.convert_line;
+      codes = λ i time h. let entry = entry_at p.sub p.cmd passes i h in code_is p (get_or p.cmd.list i 0) time sound entry.has_chan entry.has_range;
+      start_line = line_below p.sub p.cmd.start.src p.cmd.start.arg sound.few_lines passes.inside.start_line;
+      begin_line = line_below p.sub p.cmd.scan_begin.src p.cmd.scan_begin.arg sound.few_lines passes.inside.scan_begin_line;
+      convert_line = line_below p.sub p.cmd.convert.src p.cmd.convert.arg sound.few_lines passes.inside.convert_line;
+      stop_line = line_below p.sub p.cmd.stop.src p.cmd.stop.arg sound.few_lines passes.inside.stop_line;
       period = λ timer. passes.period (eqb-true p.cmd.scan_begin.src source.timer timer);
       gap = λ timer. passes.gap (eqb-true p.cmd.convert.src source.timer timer);
       count = λ counted. (passes.scans (eqb-true p.cmd.stop.src source.count counted)).low;
@@ -45,12 +45,3 @@ fit p sound is =
 pub given : (trig : Option ℕ) (t0 horizon : ℕ) → IfSome trig (λ t. (t0 ≤ t) × (t ≤ horizon)) → (t : ℕ) → trig ≡ Some t → (t0 ≤ t) × (t ≤ horizon)
 given None t0 horizon within t e = cc
 given (Some u) t0 horizon within t e = let same : u ≡ t = cc in subst (λ x. (t0 ≤ x) × (x ≤ horizon)) same within
-
--- the channel of the first entry
-pub first_channel : (sub : SubText) (cmd : CmdText) (items : List ℕ) (entry channel : ℕ) → IsSoundSub sub → (tested sub cmd).0 ≡ 0 → items ≡ cmd.list → entry ≡ get_or items 0 entry → channel ≡ chan entry →
-    channel < sub.channels
-first_channel sub cmd items entry channel sound is_passed same first is =
-    let passes = passed sub cmd sound is_passed in
-    let some : 0 < length items = let low = passes.list.low in let e = ap (length {A = ℕ}) same in omega arith in
-    let there = first ∙ get_or_default_zero items 0 entry some ∙ ap (λ (xs : List ℕ). get_or xs 0 0) same in
-    subst (λ n. n < sub.channels) (sym (is ∙ ap chan there)) (entry_at sub cmd passes 0 passes.list.low).has_chan

@@ -1,17 +1,20 @@
 -- What each plan of a sound subdevice and sound signals keeps, over the definitions alone.
 use Rattle.std.proofs.Common.{◌≡◌, ℕ, zero, suc, ◌+◌, ◌-◌, ◌*◌, ◌<◌, ◌≤◌, ◌^◌, min, Bool, true, false, List, [], ◌∷◌, length, Option, Some, None, refl, arith, length-append, mul-le-mul_right, mul-le-mul_left}
-use Rattle.std.specs.Prelude.{◌==◌, IfSome, flat_map, option_map, if◌then◌else◌}
+use Rattle.std.specs.Prelude.{◌==◌, IfSome, flat_map, option_map, unwrap_or, if◌then◌else◌}
+use Rattle.std.proofs.lemmas.Bool.{eqb-true}
 use Rattle.cm_board.specs.Board as board
 use Rattle.cm_board.specs.Board.{SubText}
 use Rattle.cm_base.specs.Source as source
 use Rattle.cm_cmd.specs.Command.{CmdText}
 use Rattle.cm_signal.specs.Signals as signals
+use Rattle.cm_signal.proofs.Grown.{line_edges}
 use Rattle.cm_test.specs.Law.{AreInside}
-use Rattle.cm_test.specs.Steps.{convert_limits, scan_begin_limits, slowest_conversion, stop_limits}
+use Rattle.cm_test.specs.Steps.{convert_limits, limited, scan_begin_limits, slowest_conversion, stop_limits}
+use Rattle.cm_test.proofs.Moved.{whole}
 use Rattle.cm_test.proofs.Passed.{passed}
-use Rattle.cm_expand.specs.Course.{AnyTime, AreBegins, AreConverts, AtOnce, Course, Every, OnEdges, PerEdge, Spaced, IsCourse, as_long_as, before_none, begins, begins_from, conversion, first, next_begin, scan, times}
+use Rattle.cm_expand.specs.Course.{AnyTime, AreBegins, AreConverts, AtOnce, Course, Every, OnEdges, PerEdge, Spaced, IsCourse, begins, first, times}
 use Rattle.cm_expand.specs.Fit.{IsExpansion}
-use Rattle.cm_expand.specs.Plan.{IsPlan, PlanText, course_from, course_of, edge_since, edges_of, first_trigger, is_edge, is_trigger, start_of, times_if, times_of}
+use Rattle.cm_expand.specs.Plan.{IsPlan, PlanText, course_from, course_of, edge_since, edges_of, first_trigger, is_edge, is_trigger, slope_of, start_of, stop_edge_from, times_if, times_of}
 use Rattle.cm_expand.proofs.Boards.{begins_short, scans_short}
 use Rattle.cm_expand.proofs.Fits.{fit}
 use Rattle.cm_expand.proofs.Order.{expansion}
@@ -57,29 +60,41 @@ slowest false most other = omega arith
 
 period_high : (sub : SubText) (cmd : CmdText) → board.IsSoundSub sub → AreInside sub cmd → (cmd.scan_begin.src == source.timer) ≡ true → cmd.scan_begin.arg < 2 ^ 32
 period_high sub cmd sound inside timer =
-    let high : cmd.scan_begin.arg ≤ (scan_begin_limits sub cmd).high = inside.scan_begin.high in
-    let most : cmd.scan_begin.arg ≤ sub.scan_max = rw timer at high in
+    let high : limited sub cmd.scan_begin ≤ (scan_begin_limits sub cmd).high = inside.scan_begin.high in
+    let most : limited sub cmd.scan_begin ≤ sub.scan_max = rw timer at high in
+    let period = whole sub cmd.scan_begin source.timer refl (eqb-true cmd.scan_begin.src source.timer timer) in
     let limit = sound.scan.high in
     omega arith
 
 gap_high : (sub : SubText) (cmd : CmdText) → board.IsSoundSub sub → AreInside sub cmd → (cmd.convert.src == source.timer) ≡ true → cmd.convert.arg < 2 ^ 32
 gap_high sub cmd sound inside timer =
-    let high : cmd.convert.arg ≤ (convert_limits sub cmd).high = inside.convert.high in
-    let most : cmd.convert.arg ≤ slowest_conversion sub cmd = rw timer at high in
+    let high : limited sub cmd.convert ≤ (convert_limits sub cmd).high = inside.convert.high in
+    let most : limited sub cmd.convert ≤ slowest_conversion sub cmd = rw timer at high in
+    let gap = whole sub cmd.convert source.timer refl (eqb-true cmd.convert.src source.timer timer) in
     let slow : slowest_conversion sub cmd ≤ sub.conv_max = slowest (cmd.scan_begin.src == source.timer) sub.conv_max _ in
     let limit = sound.convert.high in
     omega arith
 
 count_high : (sub : SubText) (cmd : CmdText) → board.IsSoundSub sub → AreInside sub cmd → (cmd.stop.src == source.count) ≡ true → cmd.stop.arg ≤ 4000000000
 count_high sub cmd sound inside counted =
-    let high : cmd.stop.arg ≤ (stop_limits sub cmd).high = inside.stop.high in
-    let most : cmd.stop.arg ≤ sub.scans_max = rw counted at high in
+    let high : limited sub cmd.stop ≤ (stop_limits sub cmd).high = inside.stop.high in
+    let most : limited sub cmd.stop ≤ sub.scans_max = rw counted at high in
+    let count = whole sub cmd.stop source.count refl (eqb-true cmd.stop.src source.count counted) in
     let limit = sound.scans.high in
     omega arith
 
+-- a stop edge is up to the horizon
+until_by : (horizon : ℕ) (ext : Bool) (edge : Option ℕ) → ((e : ℕ) → edge ≡ Some e → e ≤ horizon) → unwrap_or (if ext then edge else None) (horizon + 1) ≤ horizon + 1
+until_by horizon true (Some e) within = let up = within e refl in omega arith
+until_by horizon true None within = omega arith
+until_by horizon false edge within = omega arith
+
+until_within : (p : PlanText) (start : ℕ) → start ≤ p.signals.horizon → unwrap_or (stop_edge_from p start) (p.signals.horizon + 1) ≤ p.signals.horizon + 1
+until_within p start by =
+    until_by p.signals.horizon (p.cmd.stop.src == source.ext) (edge_since p p.cmd.stop.arg (start + 1))
+    (λ e found. let low = least_within (is_edge (edges_of p p.cmd.stop.arg)) (start + 1) (p.signals.horizon + 1 - (start + 1)) e found in omega arith)
+
 -- the edges of a line
-line_edges : (s : signals.SignalsText) (arg : ℕ) → signals.IsSoundSignals s → arg < 16 → signals.AreEdges s.horizon (signals.edges_at s arg)
-line_edges s arg sound below = sound.edges arg (omega (arith, sound.lines))
 
 course_is : (p : PlanText) (start : ℕ) → IsSoundPlan p → start_of p ≡ Some start → IsCourse (course_from p start)
 course_is p start sound begun =
@@ -88,12 +103,12 @@ course_is p start sound begun =
     let most = most_by p.signals.horizon p.cmd.stop.arg (p.cmd.stop.src == source.count) sound.signals.horizon (λ counted. (fits.count counted, count_high p.sub p.cmd sound.sub inside counted)) in
     record {
       horizon = sound.signals.horizon;
-      until = omega arith;
+      until = until_within p start (start_within p start sound.plan.t0 begun);
       start = start_within p start sound.plan.t0 begun;
       begins = begins_by p.signals.horizon p.cmd.scan_begin.arg (p.cmd.scan_begin.src == source.timer) (p.cmd.scan_begin.src == source.ext) (edges_of p p.cmd.scan_begin.arg)
-          (λ timer. (fits.period timer, period_high p.sub p.cmd sound.sub inside timer)) (λ ext. line_edges p.signals p.cmd.scan_begin.arg sound.signals (fits.begin_line ext));
+          (λ timer. (fits.period timer, period_high p.sub p.cmd sound.sub inside timer)) (λ ext. line_edges p.signals (slope_of p.sub p.cmd.scan_begin.arg) (board.line_of p.sub p.cmd.scan_begin.arg) sound.signals (fits.begin_line ext));
       converts = converts_by p.signals.horizon p.cmd.convert.arg (p.cmd.convert.src == source.timer) (p.cmd.convert.src == source.ext) (edges_of p p.cmd.convert.arg)
-          (λ timer. (fits.gap timer, gap_high p.sub p.cmd sound.sub inside timer)) (λ ext. line_edges p.signals p.cmd.convert.arg sound.signals (fits.convert_line ext));
+          (λ timer. (fits.gap timer, gap_high p.sub p.cmd sound.sub inside timer)) (λ ext. line_edges p.signals (slope_of p.sub p.cmd.convert.arg) (board.line_of p.sub p.cmd.convert.arg) sound.signals (fits.convert_line ext));
       some = fits.some;
       few = omega (arith, fits.few);
       most = most.0;

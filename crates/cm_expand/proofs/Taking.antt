@@ -1,6 +1,6 @@
 -- Conversions taken from a board one after another.
-use Rattle.std.proofs.Common.{◌≡◌, ℕ, zero, suc, ◌+◌, ◌^◌, min, ◌<◌, ◌≤◌, List, [], ◌∷◌, ◌++◌, length, take, drop, set, Option, Some, None, refl, sym, ap, ◌∙◌, arith, add-one, drop-drop}
-use Rattle.std.specs.Prelude.{slice_get, nat_le}
+use Rattle.std.proofs.Common.{◌≡◌, ℕ, zero, suc, ◌+◌, ◌^◌, min, ◌<◌, ◌≤◌, List, [], ◌∷◌, ◌++◌, length, take, drop, set, Option, Some, None, true, false, refl, sym, ap, ◌∙◌, arith, add-one, drop-drop}
+use Rattle.std.specs.Prelude.{slice_get, nat_le, Ok}
 use Rattle.std.proofs.lemmas.Bool.{cond-true, cond-false, le-leb, lt-leb}
 use Rattle.std.proofs.lemmas.List.{take_more_set}
 use Rattle.cm_expand.specs.Board.{IsBoard, progress_of}
@@ -12,8 +12,10 @@ use Rattle.cm_expand.specs.Taking.{come_first}
 use Rattle.cm_expand.specs.declared.conv.Conv.{Conv}
 use Rattle.cm_expand.specs.declared.progress.Progress.{Progress}
 use Rattle.cm_expand.specs.declared.course.Course.{Course}
+use Rattle.cm_expand.specs.declared.course.Next.{Next}
+use Rattle.cm_expand.specs.declared.course.Next.TheVariants.{At, Done, Cut}
 use Rattle.cm_expand.specs.declared.course.Spot.{Spot}
-use Rattle.cm_expand.proofs.Boards.{board_item, board_none, no_course, times_short}
+use Rattle.cm_expand.proofs.Boards.{board_item, board_none, no_course, no_spot, times_short}
 
 -- what is left at a place begins with the item there
 drop-found : {X : Type 0} (xs : List X) (i : ℕ) (x : X) → slice_get xs i ≡ Some x → drop i xs ≡ x ∷ drop (suc i) xs
@@ -28,7 +30,7 @@ drop-missing (y ∷ ys) zero e = absurd (cc)
 drop-missing (y ∷ ys) (suc i) e = drop-missing ys i e
 
 -- the conversion of a board that runs is the first that is left
-pub left_first : (p : PlanText) (place k : ℕ) (r : Progress) → IsBoard p (place + k) (Some r) →
+pub left_first : (p : PlanText) (place k : ℕ) (r : Progress) → IsBoard p (place + k) (Ok r) →
     drop k (drop place (items_of p)) ≡ conv_at p (place + k) r.spot.time ∷ drop (k + 1) (drop place (items_of p))
 left_first p place k r is =
     let later : suc (place + k) ≡ place + (k + 1) = omega arith in
@@ -37,15 +39,16 @@ left_first p place k r is =
     ∙ ap (λ left. conv_at p (place + k) r.spot.time ∷ left) (ap (λ i. drop i (items_of p)) later ∙ sym (drop-drop (k + 1) place (items_of p)))
 
 -- nothing is left after the last conversion
-pub none_left : (p : PlanText) (place k : ℕ) → IsBoard p (place + k) None → drop k (drop place (items_of p)) ≡ []
-none_left p place k is = drop-drop k place (items_of p) ∙ drop-missing (items_of p) (place + k) (board_none p (place + k) is)
+pub none_left : (p : PlanText) (place k : ℕ) (course : Option Course) (next : Next) → ((s : Spot) → next ≡ At s → ⊥) → IsBoard p (place + k) (progress_of course next) →
+    drop k (drop place (items_of p)) ≡ []
+none_left p place k course next none is = drop-drop k place (items_of p) ∙ drop-missing (items_of p) (place + k) (no_spot p (place + k) course next none is)
 
 -- none comes first where the first comes later
-pub late_first : (p : PlanText) (place k time : ℕ) (r : Progress) → IsBoard p (place + k) (Some r) → time < r.spot.time → come_first time (drop k (drop place (items_of p))) ≡ 0
+pub late_first : (p : PlanText) (place k time : ℕ) (r : Progress) → IsBoard p (place + k) (Ok r) → time < r.spot.time → come_first time (drop k (drop place (items_of p))) ≡ 0
 late_first p place k time r is late = ap (come_first time) (left_first p place k r is) ∙ cond-false (nat_le r.spot.time time) _ _ (lt-leb _ _ late)
 
 -- one comes first, and then the others
-pub some_first : (p : PlanText) (place k time : ℕ) (r : Progress) → IsBoard p (place + k) (Some r) → r.spot.time ≤ time →
+pub some_first : (p : PlanText) (place k time : ℕ) (r : Progress) → IsBoard p (place + k) (Ok r) → r.spot.time ≤ time →
     come_first time (drop k (drop place (items_of p))) ≡ 1 + come_first time (drop (k + 1) (drop place (items_of p)))
 some_first p place k time r is early = ap (come_first time) (left_first p place k r is) ∙ cond-true (nat_le r.spot.time time) _ _ (le-leb _ _ early)
 
@@ -57,7 +60,7 @@ one_more (y ∷ xs) zero x rest e = let same : y ≡ x = cc in ap (λ z. z ∷ [
 one_more (y ∷ xs) (suc k) x rest e = ap (λ ys. y ∷ ys) (one_more xs k x rest e)
 
 -- what is made of the conversions so far, and then what is made of one more
-pub more_put : {X : Type 0} (made : List Conv → List X) (item : X) (p : PlanText) (place k : ℕ) (r : Progress) (out : List X) → IsBoard p (place + k) (Some r) → k < length out →
+pub more_put : {X : Type 0} (made : List Conv → List X) (item : X) (p : PlanText) (place k : ℕ) (r : Progress) (out : List X) → IsBoard p (place + k) (Ok r) → k < length out →
     take k out ≡ made (take k (drop place (items_of p))) →
     made (take k (drop place (items_of p)) ++ conv_at p (place + k) r.spot.time ∷ []) ≡ made (take k (drop place (items_of p))) ++ item ∷ [] →
     take (k + 1) (set out k item) ≡ made (take (k + 1) (drop place (items_of p)))
@@ -69,17 +72,20 @@ more_put made item p place k r out is room so_far this =
     ∙ ap (λ n. made (take n (drop place (items_of p)))) (sym (add-one k))
 
 -- nothing is left where a plan has no course
-pub never_left : (p : PlanText) (place : ℕ) (course : Option Course) (spot : Option Spot) → course ≡ None → IsBoard p place (progress_of course spot) →
+pub never_left : (p : PlanText) (place : ℕ) (course : Option Course) (spot : Next) → course ≡ None → IsBoard p place (progress_of course spot) →
     drop place (items_of p) ≡ []
 never_left p place course spot e is = drop-missing (items_of p) place (no_course p place course spot e is)
 
 -- a place can count what was taken of that which comes
-pub place_fits : (come : List Conv → ℕ) (p : PlanText) (place count most : ℕ) (course : Course) (from to : Option Spot) → come [] ≡ 0 → IsBoard p place (progress_of (Some course) from) →
+pub place_fits : (come : List Conv → ℕ) (p : PlanText) (place count most : ℕ) (course : Course) (from to : Next) → come [] ≡ 0 → IsBoard p place (progress_of (Some course) from) →
     IsBoard p (place + count) (progress_of (Some course) to) → count ≡ min most (come (drop place (items_of p))) → place < 2 ^ 64 → place + count < 2 ^ 64
-place_fits come p place count most course None to nothing is then counted fits =
-    let none = ap come (drop-missing (items_of p) place (board_none p place is)) in
+place_fits come p place count most course Done to nothing is then counted fits =
+    let none = ap come (drop-missing (items_of p) place (board_none p place true is)) in
     omega arith
-place_fits come p place count most course (Some spot) to nothing is then counted fits =
+place_fits come p place count most course Cut to nothing is then counted fits =
+    let none = ap come (drop-missing (items_of p) place (board_none p place false is)) in
+    omega arith
+place_fits come p place count most course (At spot) to nothing is then counted fits =
     let all = ap (λ (c : Option CourseText). length (times_if c)) is.running.same in
     let short = times_short (course_text course) is.running.course in
     let within = then.within in

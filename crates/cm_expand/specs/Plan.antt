@@ -1,13 +1,15 @@
 -- What a command's expansion is made from.
-use Rattle.std.specs.Prelude.{◌≡◌, ℕ, ◌+◌, ◌-◌, ◌≤◌, ◌*◌, Bool, false, ◌&&◌, ◌||◌, ◌==◌, if◌then◌else◌, nat_le, List, [], length, Option, Some, None, option_map}
+use Rattle.std.specs.Prelude.{◌≡◌, ℕ, ◌+◌, ◌-◌, ◌≤◌, ◌*◌, Bool, true, false, ◌&&◌, ◌||◌, ◌==◌, if◌then◌else◌, nat_le, List, [], length, Option, Some, None, option_map, option_and_then, unwrap_or, is_some}
 use Rattle.std.specs.List.{list_any}
-use Rattle.cm_board.specs.Board.{SubText}
+use Rattle.cm_board.specs.Board.{SubText, is_fall, line_of}
 use Rattle.cm_base.specs.Source as source
 use Rattle.cm_cmd.specs.Command.{CmdText}
 use Rattle.cm_test.specs.Questions.{tested}
-use Rattle.cm_signal.specs.Signals.{SignalsText, edges_at}
+use Rattle.cm_signal.specs.Signals.{SignalsText, times_at}
+use Rattle.cm_signal.specs.declared.signals.Slope.{Slope}
+use Rattle.cm_signal.specs.declared.signals.Slope.TheVariants as slopes
 use Rattle.cm_signal.specs.declared.signals.IntAt.{IntAt}
-use Rattle.cm_expand.specs.Course.{Course, Begins, Every, OnEdges, AnyTime, Converts, AtOnce, Spaced, PerEdge, least, times}
+use Rattle.cm_expand.specs.Course.{Course, Begins, Every, OnEdges, AnyTime, Converts, AtOnce, Spaced, PerEdge, least, begins, are_full, times}
 
 -- a command on the subdevice at a place of its board, which is called at `t0`, and maybe given a trigger
 pub record PlanText : Type 0 where
@@ -18,9 +20,13 @@ pub record PlanText : Type 0 where
   pub t0 : ℕ
   pub trig : Option ℕ
 
--- the edges that an argument names
+-- which edges of its line an external argument names
+abbrev pub slope_of : SubText → ℕ → Slope
+slope_of sub arg = if is_fall sub arg then slopes.Fall else slopes.Rise
+
+-- the edges that an external argument names
 abbrev pub edges_of : PlanText → ℕ → List ℕ
-edges_of p arg = edges_at p.signals arg
+edges_of p arg = times_at p.signals (slope_of p.sub arg) (line_of p.sub arg)
 
 -- whether a line has an edge at a time
 abbrev pub is_edge : List ℕ → ℕ → Bool
@@ -73,7 +79,15 @@ converts_of p =
 abbrev pub most_of : PlanText → ℕ
 most_of p = if p.cmd.stop.src == source.count then p.cmd.stop.arg else p.signals.horizon + 1
 
--- the course of a command that starts at a time
+-- the edge that stops a command which starts at a time: with stop EXT, the first one after the start
+abbrev pub stop_edge_from : PlanText → ℕ → Option ℕ
+stop_edge_from p start = if p.cmd.stop.src == source.ext then edge_since p p.cmd.stop.arg (start + 1) else None
+
+-- the edge that stops a command, if it starts
+abbrev pub stop_edge_of : PlanText → Option ℕ
+stop_edge_of p = option_and_then (stop_edge_from p) (start_of p)
+
+-- the course of a command that starts at a time, whose scans begin before the stop edge where there is one
 abbrev pub course_from : PlanText → ℕ → Course
 course_from p start = record {
   start = start;
@@ -81,7 +95,7 @@ course_from p start = record {
   converts = converts_of p;
   per_scan = length p.cmd.list;
   most = most_of p;
-  until = p.signals.horizon + 1;
+  until = unwrap_or (stop_edge_from p start) (p.signals.horizon + 1);
   horizon = p.signals.horizon;
 }
 
@@ -102,12 +116,17 @@ times_of p = times_if (course_of p)
 abbrev pub whole_count : PlanText → Option ℕ
 whole_count p = if p.cmd.stop.src == source.count then Some (p.cmd.stop.arg * length p.cmd.list) else None
 
--- whether all conversions of a stop count come by the horizon; without a count they never do
+-- whether all scans of a course have all their conversions; without a course no scan lacks one
+abbrev pub all_full : Option Course → Bool
+all_full None = true
+all_full (Some c) = are_full c (begins c)
+
+-- whether all conversions of a stop count come by the horizon; without a count, whether there is a stop edge and all come of the scans that begin before it
 abbrev pub is_complete_by : Option ℕ → PlanText → Bool
 is_complete_by (Some count) p = length (times_of p) == count
-is_complete_by None p = false
+is_complete_by None p = is_some (stop_edge_of p) && all_full (course_of p)
 
--- whether the expansion has all conversions of its stop count
+-- whether the expansion has all conversions that the command is to make until it stops
 abbrev pub is_complete : PlanText → Bool
 is_complete p = is_complete_by (whole_count p) p
 

@@ -1,12 +1,13 @@
 -- The munge of a command's buffer.
-use Rattle.std.specs.Prelude.{ℕ, ◌/◌, ◌%◌, Bool, true, false, ◌==◌, length, slice_index, if◌then◌else◌}
+use Rattle.std.specs.Prelude.{ℕ, ◌/◌, ◌%◌, Bool, true, false, ◌==◌, length, map, slice_index, if◌then◌else◌}
 use Rattle.cm_board.specs.Board.{SubText, maxdata_of, munge_of}
 use Rattle.cm_board.specs.declared.board.Kind.{Kind}
 use Rattle.cm_board.specs.declared.board.Kind.TheVariants as kinds
 use Rattle.cm_cmd.specs.Command.{CmdText}
 use Rattle.cm_cmd.specs.Entry.{chan}
 use Rattle.cm_sample.specs.Munging.{munged, unmunged}
-use Rattle.cm_sample.specs.declared.rule.MungeRule.{MungeRule}
+use Rattle.cm_sample.specs.Rule.{RuleText, rule_text}
+use Rattle.cm_sample.specs.declared.rule.MungeItem.{MungeItem}
 
 -- the kinds whose commands put samples out
 abbrev pub is_output : Kind → Bool
@@ -29,12 +30,13 @@ munged_at sub cmd place word =
     else (if is_output sub.kind then unmunged (munge_of sub (chan_at cmd place)) (maxdata_of sub (chan_at cmd place)) word
     else munged (munge_of sub (chan_at cmd place)) (maxdata_of sub (chan_at cmd place)) word)
 
--- the rule of a command
-abbrev pub rule_of : SubText → CmdText → MungeRule
-rule_of sub cmd = record {
-  kind = munge_of sub (chan_at cmd 0);
-  maxdata = maxdata_of sub (chan_at cmd 0);
-  len = length cmd.list;
-  out = is_output sub.kind;
-  raw = is_raw cmd.flags;
-}
+-- the munge of a channel, and of an entry
+abbrev pub channel_item : SubText → ℕ → MungeItem
+channel_item sub channel = record { kind = munge_of sub channel; maxdata = maxdata_of sub channel }
+
+abbrev pub item_of : SubText → ℕ → MungeItem
+item_of sub entry = channel_item sub (chan entry)
+
+-- the rule of a command, with an item for each entry of its list
+abbrev pub rule_of : SubText → CmdText → RuleText
+rule_of sub cmd = rule_text (map (item_of sub) cmd.list) (is_output sub.kind) (is_raw cmd.flags)

@@ -2,7 +2,7 @@
 ghost use Rattle.cm_expand.specs.Board.{IsBoard, progress_of};
 ghost use Rattle.cm_expand.specs.PlanView.{plan_text};
 
-use crate::course::{Course, Spot};
+use crate::course::{Course, Next, Spot};
 use crate::plan::Plan;
 
 /// A course with its next conversion.
@@ -13,11 +13,11 @@ pub struct Progress<'a> {
 }
 
 /// The course of a plan, and its first conversion.
-pub fn begun<'a>(plan: &Plan<'a>) -> (Option<Course<'a>>, Option<Spot>)
+pub fn begun<'a>(plan: &Plan<'a>) -> (Option<Course<'a>>, Next)
     ensures { IsBoard (plan_text plan.now) 0 (progress_of result.0 result.1) }
 {
     match plan.course() {
-        None => (None, None),
+        None => (None, Next::Done),
         Some(course) => {
             let spot = course.first_spot();
             (Some(course), spot)

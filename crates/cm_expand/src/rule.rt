@@ -1,5 +1,6 @@
 // The munge of a command's buffer.
-ghost use Rattle.std.specs.Prelude.{◌≡◌, ℕ, IfOk};
+ghost use Rattle.std.specs.Prelude.{◌≡◌, ◌<◌, ℕ, length, map, slice_index, IfOk};
+ghost use Rattle.cm_cmd.specs.Entry as bits;
 ghost use Rattle.cm_sample.specs.Rule.{munged_word};
 ghost use Rattle.cm_test.specs.Questions.{tested};
 ghost use Rattle.cm_expand.specs.Rule as spec;
@@ -7,7 +8,7 @@ ghost use Rattle.cm_expand.specs.Rule as spec;
 use cm_base::transfer::NoMemory;
 use cm_board::board::{Kind, Sub};
 use cm_cmd::entry::chan;
-use cm_sample::rule::MungeRule;
+use cm_sample::rule::{MungeItem, MungeRule};
 use cm_test::test::Accepted;
 use std::alloc::Global;
 
@@ -20,18 +21,37 @@ pub fn rule_of(alloc: Global, sub: &Sub, cmd: &Accepted) -> Result<MungeRule, No
     ensures rule { IfOk result (λ rule. rule ≡ spec.rule_of sub.now cmd.now) }
     ensures applies { IfOk result (λ rule. (place word : ℕ) → munged_word rule place word ≡ spec.munged_at sub.now cmd.now place word) }
 {
-    // No memory is taken today: the rule is the same for each word of the buffer.
-    let _ = alloc;
     let out = is_output(sub.kind);
     let cmd = cmd.cmd();
-    let first = chan(cmd.list[0]);
+    let items = items_of(alloc, sub, &cmd.list)?;
     Ok(MungeRule {
-        kind: sub.munge_of(first),
-        maxdata: sub.maxdata_of(first),
-        len: cmd.list.len() as u32,
+        items,
         out,
         raw: is_raw(cmd.flags),
     })
+}
+
+// The munge of each entry of a list.
+fn items_of(alloc: Global, sub: &Sub, list: &[u32]) -> Result<Vec<MungeItem>, NoMemory>
+    requires { (i : ℕ) → i < length list.now → bits.chan (slice_index list.now i) < sub.now.channels }
+    ensures { IfOk result (λ items. items.items ≡ map (spec.item_of sub.now) list.now) }
+{
+    let mut items = Vec::new(alloc);
+    for entry in list {
+        items.push(item_of(sub, chan(*entry)))?;
+    }
+    Ok(items)
+}
+
+// The munge of a channel.
+fn item_of(sub: &Sub, channel: u32) -> MungeItem
+    requires { channel < sub.now.channels }
+    ensures { result ≡ spec.channel_item sub.now channel }
+{
+    MungeItem {
+        kind: sub.munge_of(channel),
+        maxdata: sub.maxdata_of(channel),
+    }
 }
 
 /// Whether the commands of a kind put samples out.

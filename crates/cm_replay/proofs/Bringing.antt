@@ -70,7 +70,7 @@ neither e false = refl
 
 -- the end that a board and a full ring show is the one that has come
 pub end_shown-right : (s : Schedule) (limit w time : ℕ) → NeverFalls s.conversions → come s.horizon s.conversions ≡ length s.conversions → w ≡ min (come time s.conversions) limit →
-    end_shown (record { conversions = drop w s.conversions; complete = s.complete }) w s.horizon time ≡ end_by s limit time
+    end_shown (record { conversions = drop w s.conversions; complete = s.complete; edge = s.edge }) w s.horizon time ≡ end_by s limit time
 end_shown-right s limit w time order cut written = by_left (drop w s.conversions) refl
   where
     some : w ≤ come time s.conversions
@@ -82,7 +82,7 @@ end_shown-right s limit w time order cut written = by_left (drop w s.conversions
     count : length (drop w s.conversions) ≡ length s.conversions - w
     count = length-drop w s.conversions
 
-    by_left : (left : List Conv) → drop w s.conversions ≡ left → end_shown (record { conversions = left; complete = s.complete }) w s.horizon time ≡ end_by s limit time
+    by_left : (left : List Conv) → drop w s.conversions ≡ left → end_shown (record { conversions = left; complete = s.complete; edge = s.edge }) w s.horizon time ≡ end_by s limit time
     by_left [] none =
         let all : come time s.conversions ≡ length s.conversions = omega (arith, ap length none, count, some, come-le time s.conversions) in
         rw (le-ltb limit (come time s.conversions) (omega (arith, ap length none, count, written, come-le time s.conversions))) (rw (eq-eqb _ _ all) refl)
@@ -114,8 +114,11 @@ filled-in_step s ring board time order in_step some = (
         ∙ ap (λ xs. xs ++ munged_from (munged_at s.sub s.cmd) ring.w (take n (drop ring.w s.conversions))) in_step.held
         ∙ held-more (munged_at s.sub s.cmd) s.conversions ring.r ring.w n in_step.r_w (omega (arith, some, come-le time s.conversions))
         ∙ ap (λ k. drop ring.r (take k (samples s))) (sym place);
-    ahead = ap₂ (λ left complete. record { conversions = left; complete = complete })
-        (ap (drop n) left ∙ drop-drop n ring.w s.conversions ∙ ap (λ k. drop k s.conversions) (sym place)) (ap (λ (b : ToCome). b.complete) in_step.ahead);
+    ahead = λ i. record {
+      conversions = (ap (drop n) left ∙ drop-drop n ring.w s.conversions ∙ ap (λ k. drop k s.conversions) (sym place)) i;
+      complete = ap (λ (b : ToCome). b.complete) in_step.ahead i;
+      edge = ap (λ (b : ToCome). b.edge) in_step.ahead i;
+    };
     unmapped = in_step.unmapped;
   },
   place ∙ moved,

@@ -1,13 +1,12 @@
 -- A command's fields against what contracts see.
 use Rattle.std.proofs.Common.{◌≡◌, ℕ, ◌+◌, ◌<◌, ◌≤◌, ◌^◌, List, length, drop, Option, Some, None, Result, Ok, Err, OnOk, refl, sym, ap, ap₂, ◌∙◌, arith, subst, ◌-◌, ◌++◌, min, take, get_or, set, codes, length-drop, length-take, get_or-drop, get_or-take}
 use Rattle.std.proofs.lemmas.Bool.{eq-eqb}
-use Rattle.cm_sample.specs.Rule.{munged_word}
-use Rattle.cm_sample.specs.declared.rule.MungeRule.{MungeRule}
+use Rattle.cm_sample.specs.Rule.{RuleText, munged_word}
 use Rattle.cm_ring_core.specs.Local.{IsFresh, Ring}
 use Rattle.cm_replay.specs.CommandView.{IsCommand, IsInStep, its_schedule, running_of}
 use Rattle.cm_replay.specs.Conversions.{come}
 use Rattle.cm_replay.specs.Filling.{filled, moving}
-use Rattle.cm_replay.specs.Format.{Format, IsSample, sample_lines}
+use Rattle.cm_replay.specs.Format.{IsSample, sample_lines}
 use Rattle.std.proofs.lemmas.List.{get_or_default}
 use Rattle.cm_board.specs.Board.{SubText}
 use Rattle.cm_cmd.specs.Command.{CmdText}
@@ -107,7 +106,7 @@ pub reported-drained : (c : Running) → c.r ≡ c.w → c.end ≡ reported_end 
 reported-drained c empty = sym (rw (eq-eqb _ _ empty) refl)
 
 -- an empty ring and a board before its first conversion are in step
-pub fresh-in_step : (s : Schedule) (ring : Ring) (board : ToCome) (rule : MungeRule) (size : ℕ) → IsFresh ring rule size → munged_word rule ≡ munged_at s.sub s.cmd → size ≡ s.size → board ≡ record { conversions = s.conversions; complete = s.complete } → IsInStep s ring board
+pub fresh-in_step : (s : Schedule) (ring : Ring) (board : ToCome) (rule : RuleText) (size : ℕ) → IsFresh ring rule size → munged_word rule ≡ munged_at s.sub s.cmd → size ≡ s.size → board ≡ record { conversions = s.conversions; complete = s.complete; edge = s.edge } → IsInStep s ring board
 fresh-in_step s ring board rule size fresh munges its_size all = record {
   level = record { m_w = fresh.m ∙ sym fresh.w; w_a = fresh.w ∙ sym fresh.a };
   munge = ap munged_word fresh.its_rule ∙ munges;
@@ -116,7 +115,7 @@ fresh-in_step s ring board rule size fresh munges its_size all = record {
   within = omega (arith, fresh.w);
   w_room = omega (arith, fresh.w);
   held = fresh.held ∙ sym (ap₂ (λ r w. drop r (take w (samples s))) fresh.r fresh.w);
-  ahead = all ∙ ap (λ w. let t : ToCome = record { conversions = drop w s.conversions; complete = s.complete } in t) (sym fresh.w);
+  ahead = all ∙ ap (λ w. let t : ToCome = record { conversions = drop w s.conversions; complete = s.complete; edge = s.edge } in t) (sym fresh.w);
   unmapped = fresh.ra ∙ sym fresh.r;
 }
 

@@ -1,6 +1,6 @@
 -- What holds at every line of a session.
 use Rattle.std.proofs.Common.{ne_eqb, ◌≡◌, ℕ, zero, suc, ◌+◌, ◌-◌, ◌<◌, ◌≤◌, ◌^◌, min, Bool, true, false, List, [], ◌∷◌, length, get_or, set, replicate, take, drop, refl, sym, ap, ◌∙◌, inl, inr, arith, length-set, length-take, length-drop, get_or-set_same, get_or-set_other, subst, Option, Some, None}
-use Rattle.std.specs.Prelude.{nat_eq, if◌then◌else◌}
+use Rattle.std.specs.Prelude.{nat_eq, ◌&&◌, if◌then◌else◌}
 use Rattle.std.specs.List.{All}
 use Rattle.std.specs.Option.{option_map}
 use Rattle.std.proofs.lemmas.Bool.{cases_lt, cases_eq, eq-eqb, eqb-true, lt-ltb, le-ltb}
@@ -11,7 +11,7 @@ use Rattle.cm_replay.specs.Job.{CanRun, Fits, InOrder, IsJob, JobText, setting_o
 use Rattle.cm_replay.specs.Law.{Continues, GoesWell, IsDue, IsDueIfAny, IsLawful, Keeps, SessionLaw, gone_after, gone_of, named_sub}
 use Rattle.cm_replay.specs.Replies.{IsReady, StayReady}
 use Rattle.cm_replay.specs.Reply.{Fine, Reply, cmd_reply, read_command, read_reply, taken}
-use Rattle.cm_replay.specs.Running.{Running, Schedule, brought, end_by, moved_on, quiet_end, samples, some_if, started, written_by}
+use Rattle.cm_replay.specs.Running.{Running, Schedule, brought, end_by, has_stopped, moved_on, quiet_end, samples, some_if, started, written_by}
 use Rattle.cm_replay.specs.Schedules.{schedule_of}
 use Rattle.cm_replay.specs.Session.{Setting, Step, act, at_sub, brought_all, idle_subs, plan_at, step}
 use Rattle.cm_replay.specs.declared.ending.End.{End}
@@ -19,6 +19,7 @@ use Rattle.cm_replay.specs.declared.ending.End.TheVariants.{Done, Dry}
 use Rattle.cm_replay.specs.declared.session.Op.{Op}
 use Rattle.cm_replay.specs.declared.session.Op.TheVariants as ops
 use Rattle.cm_replay.specs.declared.session.SessionLine.{SessionLine}
+use Rattle.cm_base.proofs.Bools.{both}
 use Rattle.cm_replay.proofs.Bringing.{length-samples}
 use Rattle.cm_replay.proofs.Come.{come-le, come-later}
 use Rattle.cm_replay.proofs.Plans.{planned}
@@ -29,8 +30,8 @@ some-due e w all true h = h refl
 some-due e w all false h = tt
 
 quiet-due : (s : Schedule) (time : ℕ) (complete : Bool) → come s.horizon s.conversions ≡ length s.conversions →
-    IsDueIfAny (if complete then some_if (nat_eq (come time s.conversions) (length s.conversions)) Done else some_if (nat_eq time s.horizon) Dry) (come time s.conversions) (length s.conversions)
-quiet-due s time true cut = some-due Done _ _ _ (λ t. eqb-true _ _ t)
+    IsDueIfAny (if complete then some_if (nat_eq (come time s.conversions) (length s.conversions) && has_stopped s.edge time) Done else some_if (nat_eq time s.horizon) Dry) (come time s.conversions) (length s.conversions)
+quiet-due s time true cut = some-due Done _ _ _ (λ t. eqb-true _ _ (both (nat_eq (come time s.conversions) (length s.conversions)) (has_stopped s.edge time) t).0)
 quiet-due s time false cut = some-due Dry _ _ _ (λ t. ap (λ at. come at s.conversions) (eqb-true _ _ t) ∙ cut)
 
 -- what the passing of time does to a command keeps its rule

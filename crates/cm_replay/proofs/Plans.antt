@@ -4,7 +4,7 @@ use Rattle.std.specs.Prelude.{if◌then◌else◌, slice_index}
 use Rattle.std.proofs.lemmas.Bool.{cond-false}
 use Rattle.cm_cmd.specs.Command.{CmdText}
 use Rattle.cm_cmd.specs.Entry.{chan}
-use Rattle.cm_board.specs.Board.{maxdata_of}
+use Rattle.cm_board.specs.Board.{maxdata_of, munge_of}
 use Rattle.cm_sample.specs.Munging.{munged}
 use Rattle.cm_signal.specs.Signals as signals
 use Rattle.cm_expand.specs.Fit.{IsExpansion}
@@ -45,8 +45,8 @@ one_sample p place time is some input = λ raw.
     let entry = slice_index p.cmd.list (place % length p.cmd.list) in
     let code = is.codes (place % length p.cmd.list) time index in
     let word : raw_of p entry time ≡ input_at p entry time = cond-false (is_output p.sub.kind) 0 (input_at p entry time) input in
-    let same : munged p.sub.munge p.sub.maxdata (raw_of p entry time) ≤ maxdata_of p.sub (chan entry) =
-    subst (λ n. n ≤ maxdata_of p.sub (chan entry)) (sym (ap (munged p.sub.munge p.sub.maxdata) word ∙ code.back)) code.within in
+    let by_chan = munged (munge_of p.sub (chan entry)) (maxdata_of p.sub (chan entry)) in
+    let same : by_chan (raw_of p entry time) ≤ maxdata_of p.sub (chan entry) = subst (λ n. n ≤ maxdata_of p.sub (chan entry)) (sym (ap by_chan word ∙ code.back)) code.within in
     code_by (is_raw p.cmd.flags) (is_output p.sub.kind) _ _ _ _ raw input same
 
 samples_from : (p : PlanText) (place : ℕ) (ts : List ℕ) → IsExpansion p → 1 ≤ length p.cmd.list → is_output p.sub.kind ≡ false → (i : ℕ) → i < length ts →

@@ -34,7 +34,7 @@ pub record IsInStep (s : Schedule) (ring : Ring) (board : ToCome) : Type 0 where
   pub within : ring.w ≤ length s.conversions
   pub w_room : ring.w ≤ ring.r + s.size
   pub held : ring.held ≡ drop ring.r (take ring.w (samples s))
-  pub ahead : board ≡ record { conversions = drop ring.w s.conversions; complete = s.complete }
+  pub ahead : board ≡ record { conversions = drop ring.w s.conversions; complete = s.complete; edge = s.edge }
   pub unmapped : ring.ra ≡ ring.r
 
 pub record IsCommand (c : Inside) : Type 0 where

@@ -1,5 +1,5 @@
 -- A command that runs, and what the passing of time does to it.
-use Rattle.std.specs.Prelude.{ℕ, ◌+◌, min, Bool, nat_eq, nat_lt, List, length, Option, Some, None, if◌then◌else◌}
+use Rattle.std.specs.Prelude.{ℕ, ◌+◌, ◌&&◌, min, Bool, true, nat_eq, nat_le, nat_lt, List, length, Option, Some, None, if◌then◌else◌}
 use Rattle.cm_board.specs.Board.{SubText}
 use Rattle.cm_cmd.specs.Command.{CmdText}
 use Rattle.cm_expand.specs.Rule.{munged_at}
@@ -9,12 +9,13 @@ use Rattle.cm_replay.specs.Format.{Format}
 use Rattle.cm_replay.specs.declared.ending.End.{End}
 use Rattle.cm_replay.specs.declared.ending.End.TheVariants.{Done, Dry, Overrun}
 
--- what is planned for a command of a subdevice: its expansion, whether nothing of it is cut off, the buffer that takes it, and how its samples are reported
+-- what is planned for a command of a subdevice: its expansion, whether nothing of it is cut off, the edge that stops it, the buffer that takes it, and how its samples are reported
 pub record Schedule : Type 0 where
   pub sub : SubText
   pub cmd : CmdText
   pub conversions : List Conv
   pub complete : Bool
+  pub edge : Option ℕ
   pub horizon : ℕ
   pub size : ℕ
   pub format : Format
@@ -40,9 +41,14 @@ samples s = munged_from (munged_at s.sub s.cmd) 0 s.conversions
 abbrev pub some_if : {T : Type 0} → Bool → T → Option T
 some_if test x = if test then Some x else None
 
--- the end that comes without a loss
+-- whether the edge that stops a command has come, where one stops it
+abbrev pub has_stopped : Option ℕ → ℕ → Bool
+has_stopped None time = true
+has_stopped (Some edge) time = nat_le edge time
+
+-- the end that comes without a loss: once all has come, and the edge that stops the command too
 abbrev pub quiet_end : Schedule → ℕ → Option End
-quiet_end s time = if s.complete then some_if (nat_eq (come time s.conversions) (length s.conversions)) Done else some_if (nat_eq time s.horizon) Dry
+quiet_end s time = if s.complete then some_if (nat_eq (come time s.conversions) (length s.conversions) && has_stopped s.edge time) Done else some_if (nat_eq time s.horizon) Dry
 
 -- the end that has come by a time, where the buffer can hold the places below `limit`
 abbrev pub end_by : Schedule → ℕ → ℕ → Option End

@@ -1,6 +1,6 @@
 -- What is planned for a command of a board.
 use Rattle.cm_expand.specs.Items.{items_of}
-use Rattle.cm_expand.specs.Plan.{is_complete}
+use Rattle.cm_expand.specs.Plan.{is_complete, stop_edge_of}
 use Rattle.cm_expand.specs.Plan.{PlanText}
 use Rattle.cm_expand.specs.Rule.{is_raw}
 use Rattle.cm_replay.specs.Format.{Format}
@@ -15,6 +15,7 @@ schedule_of p = record {
   cmd = p.cmd;
   conversions = items_of p;
   complete = is_complete p;
+  edge = stop_edge_of p;
   horizon = p.signals.horizon;
   size = p.sub.buffer;
   format = format_of p;

@@ -39,6 +39,9 @@ no_sub = record {
   buffer = 1;
   same_range = false;
   forbidden = [];
+  chans = [];
+  invert = false;
+  fifo = None;
 }
 
 -- the subdevice with this number

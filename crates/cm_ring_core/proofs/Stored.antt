@@ -1,12 +1,11 @@
 -- Words stored in the cells of a ring, place after place.
-use Rattle.std.proofs.Common.{◌≡◌, ℕ, suc, ◌+◌, ◌-◌, ◌%◌, ◌<◌, ◌≤◌, List, [], ◌∷◌, ◌++◌, length, get_or, take, drop, set, refl, sym, ap, ap₂, ◌∙◌, inl, inr, arith, add-one, append_assoc, append-nil, length-set, length-append, mod-eq_of_lt, min, length-drop, get_or-drop, get_or-take}
+use Rattle.std.proofs.Common.{◌≡◌, ℕ, suc, ◌+◌, ◌-◌, ◌%◌, ◌<◌, ◌≤◌, List, [], ◌∷◌, ◌++◌, length, get_or, take, drop, set, refl, sym, ap, ap₂, ◌∙◌, inl, inr, arith, append_assoc, append-nil, length-set, length-append, mod-eq_of_lt, min, length-drop, get_or-drop, get_or-take}
 use native.Mathlib.Nat.{mod-add-mod}
-use Rattle.std.proofs.Math.Seq.{take-suc}
-use Rattle.std.proofs.lemmas.List.{take-append-drop, length-take-le, get_or-append_right, get_or_append_left, get_or_default, same_lists}
+use Rattle.std.proofs.lemmas.List.{drop-set-lt, take_more_set, take-append-drop, length-take-le, get_or-append_right, get_or_append_left, get_or_default, same_lists}
 use Rattle.std.proofs.lemmas.Bool.{cases_lt}
 use Rattle.cm_ring_core.specs.Held.{held_at, stored_from}
 use Rattle.cm_ring_core.proofs.Cells.{held_at-set, length-held_at, take-held_at, wraps_once, get_or-held_at}
-use Rattle.cm_ring_core.proofs.Munged.{length-map_from}
+use Rattle.cm_sample.proofs.Mapped.{length-map_from, map_from-append}
 use Rattle.cm_ring_core.proofs.Rings.{same_ring, written_last}
 use Rattle.cm_ring_core.specs.Local.{Ring}
 use Rattle.cm_ring_core.specs.Pushed.{pushed}
@@ -24,10 +23,6 @@ stored_from-append cells size place (x ∷ some) more =
     stored_from-append (set cells (place % size) x) size (suc place) some more
     ∙ ap (λ p. stored_from (stored_from (set cells (place % size) x) size (suc place) some) size p more) (omega arith)
 
-pub map_from-append : (f : ℕ → ℕ → ℕ) (place : ℕ) (some more : List ℕ) → map_from f place (some ++ more) ≡ map_from f place some ++ map_from f (place + length some) more
-map_from-append f place [] more = ap (λ p. map_from f p more) (omega arith)
-map_from-append f place (x ∷ some) more = ap (λ xs. f place x ∷ xs) (map_from-append f (suc place) some more ∙ ap (λ p. map_from f (suc place) some ++ map_from f p more) (omega arith))
-
 -- words stored one part after the other, each made by its place
 pub stored_parts : (f : ℕ → ℕ → ℕ) (cells : List ℕ) (size place : ℕ) (some more : List ℕ) →
     stored_from (stored_from cells size place (map_from f place some)) size (place + length some) (map_from f (place + length some) more)
@@ -37,16 +32,27 @@ stored_parts f cells size place some more =
     ∙ sym (stored_from-append cells size place (map_from f place some) (map_from f (place + length some) more))
     ∙ ap (stored_from cells size place) (sym (map_from-append f place some more))
 
--- one word more
-pub stored_next : (f : ℕ → ℕ → ℕ) (cells : List ℕ) (size place : ℕ) (words : List ℕ) (i cell word : ℕ) → i < length words → (place + i) % size ≡ cell → word ≡ f (place + i) (get_or words i 0) →
-    set (stored_from cells size place (map_from f place (take i words))) cell word ≡ stored_from cells size place (map_from f place (take (i + 1) words))
-stored_next f cells size place words i cell word below at this =
-    let prefix : length (take i words) ≡ i = length-take-le i words (omega arith) in
-    let so_far = stored_from cells size place (map_from f place (take i words)) in
-    ap₂ (λ k w. set so_far k w) (sym at) this
-    ∙ ap (λ n. stored_from so_far size (place + n) (map_from f (place + n) (get_or words i 0 ∷ []))) (sym prefix)
-    ∙ stored_parts f cells size place (take i words) (get_or words i 0 ∷ [])
-    ∙ ap (λ xs. stored_from cells size place (map_from f place xs)) (sym (take-suc words i 0 below) ∙ ap (λ n. take n words) (sym (add-one i)))
+-- words stored in cells one after the other
+pub stored_run : (cells : List ℕ) (size place cell : ℕ) (words : List ℕ) → cell + length words ≤ length cells → ((i : ℕ) → i < length words → (place + i) % size ≡ cell + i) →
+    stored_from cells size place words ≡ take cell cells ++ (words ++ drop (cell + length words) cells)
+stored_run cells size place cell [] fits at =
+    let here : cell ≡ cell + 0 = omega arith in
+    sym (take-append-drop cell cells) ∙ ap (λ n. take cell cells ++ drop n cells) here
+stored_run cells size place cell (x ∷ words) fits at =
+    let first : place % size ≡ cell = let p : place + 0 ≡ place = omega arith in let q : cell + 0 ≡ cell = omega arith in ap (λ n. n % size) (sym p) ∙ at 0 (omega arith) ∙ q in
+    let changed = set cells cell x in
+    let same = length-set cells cell x in
+    let last : cell + 1 + length words ≡ cell + suc (length words) = omega arith in
+    ap (λ k. stored_from (set cells k x) size (suc place) words) first
+    ∙ stored_run changed size (suc place) (cell + 1) words (omega arith) (λ i below. later i (at (suc i) (omega arith)))
+    ∙ ap₂ (λ (some rest : List ℕ). some ++ (words ++ rest)) (take_more_set cells cell x (omega arith)) (drop-set-lt (cell + 1 + length words) cells cell x (omega arith) ∙ ap (λ n. drop n cells) last)
+    ∙ append_assoc (take cell cells) (x ∷ []) (words ++ drop (cell + suc (length words)) cells)
+  where
+    later : (i : ℕ) → (place + suc i) % size ≡ cell + suc i → (suc place + i) % size ≡ cell + 1 + i
+    later i there =
+        let p : suc place + i ≡ place + suc i = omega arith in
+        let q : cell + suc i ≡ cell + 1 + i = omega arith in
+        ap (λ n. n % size) p ∙ there ∙ q
 
 -- the words up to one and those from it on
 pub stored_both : (f : ℕ → ℕ → ℕ) (cells : List ℕ) (size place : ℕ) (words : List ℕ) (k : ℕ) → k ≤ length words →

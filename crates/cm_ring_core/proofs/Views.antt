@@ -6,7 +6,7 @@ use Rattle.cm_ring_core.specs.Local.{IsRing}
 use Rattle.cm_ring_core.specs.LocalView.{ring_of, IsSoundRing}
 use Rattle.cm_ring_core.specs.declared.local.LocalRing.TheInside.{Inside}
 use Rattle.cm_ring_core.proofs.Cells.{length-held_at, get_or-held_at, Held-held_at, held_at-set, take-held_at, drop-held_at}
-use Rattle.cm_ring_core.proofs.Munged.{length-map_from}
+use Rattle.cm_sample.proofs.Mapped.{length-map_from}
 use Rattle.cm_ring_core.proofs.Rings.{same_ring}
 use Rattle.cm_ring_core.proofs.Stored.{held_at-stored_from, length-stored_from}
 use Rattle.cm_ring_core.specs.Pushed.{munged_from, pushed}

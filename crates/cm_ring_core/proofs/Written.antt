@@ -7,11 +7,11 @@ use Rattle.cm_ring_core.specs.Between.{munged_between}
 use Rattle.cm_ring_core.specs.Held.{stored_from}
 use Rattle.cm_ring_core.specs.Local.{Ring, IsRing}
 use Rattle.cm_ring_core.specs.Pushed.{munged_from, munged_to, samples_between}
-use Rattle.cm_ring_core.proofs.Munged.{get_or-map_from, map_from-next, map_from-none}
+use Rattle.cm_sample.proofs.Mapped.{get_or-map_from}
+use Rattle.cm_ring_core.proofs.Munged.{map_from-next, map_from-none}
 use Rattle.cm_ring_core.proofs.Rings.{same_ring}
 use Rattle.cm_ring_core.proofs.Stored.{stored_parts}
-use Rattle.cm_sample.specs.Rule.{map_from, munged_word}
-use Rattle.cm_sample.specs.declared.rule.MungeRule.{MungeRule}
+use Rattle.cm_sample.specs.Rule.{RuleText, map_from, munged_word}
 
 -- the samples up to the next place
 between_next : (ring : Ring) (c : ℕ) → IsRing ring → ring.m ≤ c → c < ring.w → samples_between ring ring.m (c + 1) ≡ samples_between ring ring.m c ++ get_or ring.held (c - ring.r) 0 ∷ []
@@ -30,7 +30,7 @@ between_count ring c is low high =
     omega (arith, is.r_ra, is.ra_m, length-drop (ring.m - ring.r) (take (c - ring.r) ring.held), length-take-le (c - ring.r) ring.held within)
 
 -- the next sample is not munged yet
-not_yet : (rule : MungeRule) (low place word : ℕ) → munged_between rule low place place word ≡ word
+not_yet : (rule : RuleText) (low place word : ℕ) → munged_between rule low place place word ≡ word
 not_yet rule low place word = grind (arith, nat_tests)
 
 next_word : (ring : Ring) (c : ℕ) → IsRing ring → ring.m ≤ c → c < ring.w →

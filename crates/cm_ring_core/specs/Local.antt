@@ -2,12 +2,11 @@
 use Rattle.std.specs.Prelude.{◌≡◌, ℕ, ◌+◌, ◌-◌, ◌≤◌, List, [], length}
 use Rattle.cm_ring_core.specs.Held.{Held}
 use Rattle.cm_ring_core.specs.declared.local.Places.{Places}
-use Rattle.cm_sample.specs.Rule.{IsRule}
-use Rattle.cm_sample.specs.declared.rule.MungeRule.{MungeRule}
+use Rattle.cm_sample.specs.Rule.{RuleText, IsRule}
 
 -- what contracts see of a ring: its rule, its size, its places, its cells, and the samples from place r to place a
 pub record Ring : Type 0 where
-  pub rule : MungeRule
+  pub rule : RuleText
   pub size : ℕ
   pub r : ℕ
   pub ra : ℕ
@@ -32,7 +31,7 @@ pub record IsRing (ring : Ring) : Type 0 where
   pub held : Held ring.cells ring.size ring.r ring.held
 
 -- an empty ring of this size, all of whose places are 0
-pub record IsFresh (ring : Ring) (rule : MungeRule) (size : ℕ) : Type 0 where
+pub record IsFresh (ring : Ring) (rule : RuleText) (size : ℕ) : Type 0 where
   pub its_rule : ring.rule ≡ rule
   pub its_size : ring.size ≡ size
   pub r : ring.r ≡ 0

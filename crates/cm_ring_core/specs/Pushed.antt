@@ -3,11 +3,10 @@ use Rattle.std.specs.Prelude.{ℕ, ◌+◌, ◌-◌, List, ◌++◌, length, tak
 use Rattle.cm_ring_core.specs.Between.{munged_between}
 use Rattle.cm_ring_core.specs.Held.{stored_from}
 use Rattle.cm_ring_core.specs.Local.{Ring}
-use Rattle.cm_sample.specs.Rule.{map_from, munged_word}
-use Rattle.cm_sample.specs.declared.rule.MungeRule.{MungeRule}
+use Rattle.cm_sample.specs.Rule.{RuleText, map_from, munged_word}
 
 -- words at the places from `place` on, each munged
-abbrev pub munged_from : MungeRule → ℕ → List ℕ → List ℕ
+abbrev pub munged_from : RuleText → ℕ → List ℕ → List ℕ
 munged_from rule place words = map_from (munged_word rule) place words
 
 -- the samples of the places from `low` up to `high`

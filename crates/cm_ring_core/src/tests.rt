@@ -4,7 +4,7 @@ ghost use Rattle.std.specs.Prelude.{◌≤◌, length};
 use crate::local::LocalRing;
 use cm_base::transfer::NoMemory;
 use cm_board::board::Munge;
-use cm_sample::rule::MungeRule;
+use cm_sample::rule::{MungeItem, MungeRule};
 use std::alloc::Global;
 use std::test::Fail;
 
@@ -33,10 +33,12 @@ fn read_back(alloc: Global, before: &[u32], words: &[u32]) -> Result<(Vec<u32>, 
     requires before { length before.now ≤ 4 }
     requires words { length words.now ≤ 4 }
 {
-    let rule = MungeRule {
+    let item = MungeItem {
         kind: Munge::Offset,
         maxdata: 65535,
-        len: 1,
+    };
+    let rule = MungeRule {
+        items: vec![in alloc; item]?,
         out: false,
         raw: false,
     };

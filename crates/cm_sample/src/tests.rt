@@ -1,8 +1,12 @@
 // Levels, codes and words at worked values.
+ghost use Rattle.std.specs.Prelude.{IfOk};
+ghost use Rattle.cm_sample.specs.Rule.{IsRule};
+
 use crate::munge::{munge, unmunge};
-use crate::rule::MungeRule;
+use crate::rule::{MungeItem, MungeRule};
 use crate::sample::{code_of, micro_of};
 use cm_board::board::{Munge, Range};
+use std::alloc::{AllocError, Global};
 use std::test::Fail;
 
 // The code of a level, and the level that a code stands for.
@@ -50,24 +54,46 @@ fn munges_of_words(rt: HostRuntime) -> Result<(), Fail> {
     Ok(())
 }
 
-// A rule munges the words of an input, goes the way back for an output, and leaves raw data.
+// A rule munges the words of an input, goes the way back for an output, and leaves raw data, each
+// place by its own item.
 #[test]
 fn rules_of_commands(rt: HostRuntime) -> Result<(), Fail> {
-    let rows: [(bool, bool, u32, u32); 4] = [
-        (false, false, 0xABC0, 0xABC),
-        (true, false, 0xABC, 0xABC0),
-        (false, true, 0xABC0, 0xABC0),
-        (true, true, 0xABC, 0xABC),
+    let rows: [(bool, bool, u32, [u32; 3]); 4] = [
+        (false, false, 0xAB00, [0xAB, 0xAB0, 0xAB]),
+        (true, false, 0xAB, [0xAB00, 0xAB0, 0xAB00]),
+        (false, true, 0xAB00, [0xAB00, 0xAB00, 0xAB00]),
+        (true, true, 0xAB, [0xAB, 0xAB, 0xAB]),
     ];
     for (out, raw, word, munged) in rows {
-        let rule = MungeRule {
-            kind: Munge::Left(4),
-            maxdata: 4095,
-            len: 1,
-            out,
-            raw,
-        };
-        assert!(rt; rule.apply(7, word) == munged, "munge of {word}");
+        let rule = two_shifts(rt.alloc(), out, raw)?;
+        let mut words = [word; 3];
+        rule.munge_words(7, &mut words);
+        for i in 0..3 {
+            assert!(rt; words[i] == munged[i], "munge of {word} at {i}");
+            assert!(rt;
+                rule.apply(7 + i as u64, word) == munged[i],
+                "munge of {word}"
+            );
+        }
     }
     Ok(())
+}
+
+// A rule of two entries, whose words are shifted by four bits and by eight.
+fn two_shifts(alloc: Global, out: bool, raw: bool) -> Result<MungeRule, AllocError>
+    ensures { IfOk result (λ rule. IsRule rule) }
+{
+    let few = MungeItem {
+        kind: Munge::Left(4),
+        maxdata: 4095,
+    };
+    let many = MungeItem {
+        kind: Munge::Left(8),
+        maxdata: 255,
+    };
+    Ok(MungeRule {
+        items: vec![in alloc; few, many]?,
+        out,
+        raw,
+    })
 }

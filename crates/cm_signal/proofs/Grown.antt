@@ -1,19 +1,23 @@
 -- Signals with one line more keep what signals keep.
 use Rattle.std.proofs.Common.{◌≡◌, ℕ, zero, suc, ◌+◌, ◌-◌, ◌<◌, ◌≤◌, ◌^◌, List, [], ◌∷◌, ◌++◌, length, get_or, set, Bool, true, false, cond, ◌&&◌, refl, ap, sym, subst, ◌∙◌, inl, inr, arith, rules, length-append}
-use Rattle.std.specs.Prelude.{◌==◌, ◌||◌, not, nat_le, int_le, slice_set, replicate}
+use Rattle.std.specs.Prelude.{◌==◌, not, nat_le, int_le, slice_index_or, slice_set, replicate}
 use Rattle.std.specs.List.{list_all, list_any}
 use Rattle.std.specs.List.Sorted.{IsStrictlyIncreasing}
+use Rattle.std.specs.Global.{Vec}
+use Rattle.std.specs.Vec.{with_items}
 use Rattle.std.proofs.lemmas.Bool.{cases_Bool, cases_eq, cases_lt, eqb-true, eq-eqb, leb-true, le-leb, and_from, or_from}
 use Rattle.std.proofs.lemmas.List.Folds.{list_all_at, list_any-append}
 use Rattle.std.proofs.Math.ListN.{get_or-append}
 use Rattle.std.proofs.Math.Seq.{get_or-append_right}
 use Rattle.std.proofs.lemmas.List.Elements.{All-nil, All-push}
-use Rattle.std.proofs.lemmas.List.{get_or-set_same, get_or-set_other, length-set}
+use Rattle.std.proofs.lemmas.List.{get_or-set_same, get_or-set_other, length-set, with_items_is}
 use Rattle.cm_base.proofs.Bools.{both, neither, not_true}
 use Rattle.cm_signal.specs.Said.{HasPeriod}
-use Rattle.cm_signal.specs.Signals.{SignalsText, IsSoundSignals, IsWave, AreEdges, edge_count, edges_at, have_own, is_at}
-use Rattle.cm_signal.specs.SignalsPart.{is_fine, has_room, rises_from, silent}
+use Rattle.cm_signal.specs.Signals.{SignalsText, IsSoundSignals, IsWave, AreEdges, edge_count, have_own, is_at, times_at}
+use Rattle.cm_signal.specs.SignalsPart.{is_fine, has_room, rises_from, silent, with_times}
 use Rattle.cm_signal.specs.declared.signals.IntAt.{IntAt}
+use Rattle.cm_signal.specs.declared.signals.Slope.{Slope}
+use Rattle.cm_signal.specs.declared.signals.Slope.TheVariants as slopes
 use Rattle.cm_signal.specs.declared.wave.Wave.{Wave}
 use Rattle.cm_signal.specs.declared.wave.Wave.TheVariants.{Const, Square, Saw, Table}
 use Rattle.cm_signal.specs.declared.wave.WaveAt.{WaveAt}
@@ -115,19 +119,51 @@ count_set [] line new h = absurd (omega arith)
 count_set (x ∷ xs) zero new h = omega arith
 count_set (x ∷ xs) (suc line) new h = let rest = count_set xs line new (omega arith) in omega arith
 
+-- lists of edges with another list for a line
+lists_with : (horizon : ℕ) (lists : List (List ℕ)) (line : ℕ) (new : List ℕ) → ((k : ℕ) → k < length lists → AreEdges horizon (get_or lists k [])) → line < length lists → AreEdges horizon new →
+    (k : ℕ) → k < length (set lists line new) → AreEdges horizon (get_or (set lists line new) k [])
+lists_with horizon lists line new are there is k below = elim (cases_eq k line) [
+  | inl same ↦ subst (λ n. AreEdges horizon (get_or (set lists line new) n [])) (sym same) (subst (AreEdges horizon) (sym (get_or-set_same lists line new [] there)) is)
+  | inr other ↦ subst (AreEdges horizon) (sym (get_or-set_other lists line k new [] other)) (are k (let same = length-set lists line new in omega arith))
+]
+
+-- the edges of a line with a slope
+pub line_edges : (s : SignalsText) (slope : Slope) (line : ℕ) → IsSoundSignals s → line < 16 → AreEdges s.horizon (times_at s slope line)
+line_edges s slopes.Rise line sound h = sound.edges line (omega (arith, sound.lines))
+line_edges s slopes.Fall line sound h = sound.falls line (omega (arith, sound.fall_lines))
+
+-- they are among all
+among_all : (s : SignalsText) (slope : Slope) (line : ℕ) → IsSoundSignals s → line < 16 → length (times_at s slope line) ≤ edge_count s.edges + edge_count s.falls
+among_all s slopes.Rise line sound h = let lines = sound.lines in let one = one_line s.edges line (omega arith) in omega arith
+among_all s slopes.Fall line sound h = let lines = sound.fall_lines in let one = one_line s.falls line (omega arith) in omega arith
+
 -- signals with other edges on a line
-pub sound_with : (s : SignalsText) (line : ℕ) (new : List ℕ) → IsSoundSignals s → line < 16 → AreEdges s.horizon new → edge_count s.edges + length new ≤ 10 ^ 5 + length (edges_at s line) →
-    IsSoundSignals (record s { edges = slice_set s.edges line new })
-sound_with s line new sound h are room =
+pub sound_with : (s : SignalsText) (slope : Slope) (line : ℕ) (new : List ℕ) → IsSoundSignals s → line < 16 → AreEdges s.horizon new →
+    edge_count s.edges + edge_count s.falls + length new ≤ 10 ^ 5 + length (times_at s slope line) → IsSoundSignals (with_times s slope line new)
+sound_with s slopes.Rise line new sound h are room =
     let lines = sound.lines in
     let counted = count_set s.edges line new (omega arith) in
     record {
       horizon = sound.horizon;
       lines = length-set s.edges line new ∙ sound.lines;
-      edges = λ k below. elim (cases_eq k line) [
-        | inl same ↦ subst (λ n. AreEdges s.horizon (get_or (set s.edges line new) n [])) (sym same) (subst (AreEdges s.horizon) (sym (get_or-set_same s.edges line new [] (omega arith))) are)
-        | inr other ↦ subst (AreEdges s.horizon) (sym (get_or-set_other s.edges line k new [] other)) (sound.edges k (let same = length-set s.edges line new in omega arith))
-      ];
+      fall_lines = sound.fall_lines;
+      edges = lists_with s.horizon s.edges line new sound.edges (omega arith) are;
+      falls = sound.falls;
+      few_edges = omega arith;
+      waves = sound.waves;
+      own = sound.own;
+      ints = sound.ints;
+      few_ints = sound.few_ints;
+    }
+sound_with s slopes.Fall line new sound h are room =
+    let lines = sound.fall_lines in
+    let counted = count_set s.falls line new (omega arith) in
+    record {
+      horizon = sound.horizon;
+      lines = sound.lines;
+      fall_lines = length-set s.falls line new ∙ sound.fall_lines;
+      edges = sound.edges;
+      falls = lists_with s.horizon s.falls line new sound.falls (omega arith) are;
       few_edges = omega arith;
       waves = sound.waves;
       own = sound.own;
@@ -135,21 +171,33 @@ sound_with s line new sound h are room =
       few_ints = sound.few_ints;
     }
 
+-- where there is room none of the edges is late, and with all others they aren't too many
+has_both : (s : SignalsText) (times : List ℕ) → has_room s times ≡ true → (list_all (λ time. nat_le time s.horizon) times ≡ true) × (edge_count s.edges + edge_count s.falls + length times ≤ 10 ^ 5)
+has_both s times room =
+    let parts = both (list_all (λ time. nat_le time s.horizon) times) (nat_le (edge_count s.edges + edge_count s.falls + length times) 100000) room in
+    (parts.0, leb-true _ 100000 parts.1)
+
+-- edges of one text line that may stand after those before them
+pub record MayStand (s : SignalsText) (slope : Slope) (line : ℕ) (times : List ℕ) : Type 0 where
+  pub below : line < 16
+  pub room : has_room s times ≡ true
+  pub rise : rises_from 0 (times_at s slope line ++ times) ≡ true
+
 -- the edges of a line with those of one text line more
-pub more_edges : (s : SignalsText) (line : ℕ) (times : List ℕ) → IsSoundSignals s → line < 16 → has_room s times ≡ true → rises_from 0 (edges_at s line ++ times) ≡ true → AreEdges s.horizon (edges_at s line ++ times)
-more_edges s line times sound h room rise =
-    let lines = sound.lines in
-    let parts = both (list_all (λ time. nat_le time s.horizon) times) (nat_le (edge_count s.edges + length times) 100000) room in
-    let few = leb-true _ 100000 parts.1 in
-    let one = one_line s.edges line (omega arith) in
-    let long = length-append (edges_at s line) times in
+pub more_edges : (s : SignalsText) (slope : Slope) (line : ℕ) (times : List ℕ) → IsSoundSignals s → MayStand s slope line times → AreEdges s.horizon (times_at s slope line ++ times)
+more_edges s slope line times sound may =
+    let old = times_at s slope line in
+    let room = has_both s times may.room in
+    let few = room.1 in
+    let one = among_all s slope line sound may.below in
+    let long = length-append old times in
     record {
-      rise = increasing 0 _ rise;
-      within = λ k below. elim (cases_lt k (length (edges_at s line))) [
-        | inl old ↦ subst (λ t. t ≤ s.horizon) (sym (get_or-append (edges_at s line) times 0 k old)) ((sound.edges line (omega arith)).within k old)
-        | inr new ↦
-            subst (λ t. t ≤ s.horizon) (sym (get_or-append_right (edges_at s line) times k 0 new))
-            (leb-true _ s.horizon (all_at (λ time. nat_le time s.horizon) times (k - length (edges_at s line)) parts.0 (omega arith)))
+      rise = increasing 0 _ may.rise;
+      within = λ k below. elim (cases_lt k (length old)) [
+        | inl before ↦ subst (λ t. t ≤ s.horizon) (sym (get_or-append old times 0 k before)) ((line_edges s slope line sound may.below).within k before)
+        | inr after ↦
+            subst (λ t. t ≤ s.horizon) (sym (get_or-append_right old times k 0 after))
+            (leb-true _ s.horizon (all_at (λ time. nat_le time s.horizon) times (k - length old) room.0 (omega arith)))
       ];
       few = omega arith;
     }
@@ -157,8 +205,7 @@ more_edges s line times sound h room rise =
 -- a place that a line names has at most so many edges, all of them early
 pub early : (s : SignalsText) (times : List ℕ) → IsSoundSignals s → has_room s times ≡ true → (k : ℕ) → k < length times → get_or times k 0 ≤ 10 ^ 12
 early s times sound room k h =
-    let parts = both (list_all (λ time. nat_le time s.horizon) times) (nat_le (edge_count s.edges + length times) 100000) room in
-    let low = leb-true _ s.horizon (all_at (λ time. nat_le time s.horizon) times k parts.0 h) in
+    let low = leb-true _ s.horizon (all_at (λ time. nat_le time s.horizon) times k (has_both s times room).0 h) in
     let high = sound.horizon in
     omega arith
 
@@ -167,7 +214,9 @@ pub more_waves : (s : SignalsText) (w : WaveAt) → IsSoundSignals s → HasPeri
 more_waves s w sound period other fine = record {
   horizon = sound.horizon;
   lines = sound.lines;
+  fall_lines = sound.fall_lines;
   edges = sound.edges;
+  falls = sound.falls;
   few_edges = sound.few_edges;
   waves = All-push (λ x. IsWave x.wave) s.waves w sound.waves (is_wave w.wave period fine);
   own = own_more s.waves w sound.own other;
@@ -176,17 +225,27 @@ more_waves s w sound period other fine = record {
 }
 
 -- the edges of a line as they were, or with more
-pub edges_either : (s : SignalsText) (line : ℕ) (times : List ℕ) (done : Bool) → IsSoundSignals s → line < 16 → has_room s times ≡ true → rises_from 0 (edges_at s line ++ times) ≡ true →
-    IsSoundSignals (record s { edges = slice_set s.edges line (cond done (edges_at s line ++ times) (edges_at s line)) })
-edges_either s line times true sound h room rise =
-    let parts = both (list_all (λ time. nat_le time s.horizon) times) (nat_le (edge_count s.edges + length times) 100000) room in
-    let few = leb-true _ 100000 parts.1 in
-    let long = length-append (edges_at s line) times in
-    sound_with s line (edges_at s line ++ times) sound h (more_edges s line times sound h room rise) (omega arith)
-edges_either s line times false sound h room rise =
-    let lines = sound.lines in
+pub edges_either : (s : SignalsText) (slope : Slope) (line : ℕ) (times : List ℕ) (done : Bool) → IsSoundSignals s → MayStand s slope line times →
+    IsSoundSignals (with_times s slope line (cond done (times_at s slope line ++ times) (times_at s slope line)))
+edges_either s slope line times true sound may =
+    let room = has_both s times may.room in
+    let few = room.1 in
+    let long = length-append (times_at s slope line) times in
+    sound_with s slope line (times_at s slope line ++ times) sound may.below (more_edges s slope line times sound may) (omega arith)
+edges_either s slope line times false sound may =
     let few = sound.few_edges in
-    sound_with s line (edges_at s line) sound h (sound.edges line (omega arith)) (omega arith)
+    sound_with s slope line (times_at s slope line) sound may.below (line_edges s slope line sound may.below) (omega arith)
+
+-- lists with more edges of a line, where there was memory
+abbrev pub extended : List (List ℕ) → ℕ → List ℕ → Bool → List (List ℕ)
+extended lists line times done = slice_set lists line (cond done (slice_index_or lists line [] ++ times) (slice_index_or lists line []))
+
+-- the lists that a call has made from those of a vector
+pub extended_items : (v : Vec (List ℕ)) (from new : List (List ℕ)) (line : ℕ) (more times : List ℕ) (done : Bool) → new ≡ extended from line more done → from ≡ v.items → more ≡ times →
+    (with_items v new).items ≡ extended v.items line times done
+extended_items v from new line more times done made e f =
+    let is = made ∙ ap (λ (lists : List (List ℕ)). extended lists line more done) e ∙ ap (λ (ts : List ℕ). extended v.items line ts done) f in
+    with_items_is v new (ap (length {A = List ℕ}) is ∙ length-set v.items line (cond done (slice_index_or v.items line [] ++ times) (slice_index_or v.items line [])) ∙ sym v.ok.0) ∙ is
 
 no_edges_anywhere : (horizon n : ℕ) (line : ℕ) → AreEdges horizon (get_or (replicate n []) line [])
 no_edges_anywhere horizon n line = subst (AreEdges horizon) (sym (nothing n line)) (record { rise = λ k h. absurd (omega arith); within = λ k h. absurd (omega arith); few = omega arith })
@@ -206,7 +265,9 @@ unfolding have_own
 silent_sound horizon h = record {
   horizon = h;
   lines = refl;
+  fall_lines = refl;
   edges = λ line below. no_edges_anywhere horizon 16 line;
+  falls = λ line below. no_edges_anywhere horizon 16 line;
   few_edges = let none = none_counted 16 in omega arith;
   waves = All-nil (λ x. IsWave x.wave);
   own = refl;
@@ -214,8 +275,9 @@ silent_sound horizon h = record {
   few_ints = omega arith;
 }
 
-pub silent_like : (horizon : ℕ) (waves : List WaveAt) (edges : List (List ℕ)) (ints : List IntAt) → waves ≡ [] → edges ≡ replicate 16 [] → ints ≡ [] → horizon ≤ 10 ^ 12 →
-    IsSoundSignals (record { horizon = horizon; waves = waves; edges = edges; ints = ints })
-silent_like horizon waves edges ints no_waves no_edges no_ints h =
-    let same : ◌≡◌ {A = SignalsText} (record { horizon = horizon; waves = waves; edges = edges; ints = ints }) (silent horizon) = λ i. record { horizon = horizon; waves = no_waves i; edges = no_edges i; ints = no_ints i } in
+pub silent_like : (horizon : ℕ) (waves : List WaveAt) (edges falls : List (List ℕ)) (ints : List IntAt) → waves ≡ [] → edges ≡ replicate 16 [] → falls ≡ replicate 16 [] → ints ≡ [] → horizon ≤ 10 ^ 12 →
+    IsSoundSignals (record { horizon = horizon; waves = waves; edges = edges; falls = falls; ints = ints })
+silent_like horizon waves edges falls ints no_waves no_edges no_falls no_ints h =
+    let same : ◌≡◌ {A = SignalsText} (record { horizon = horizon; waves = waves; edges = edges; falls = falls; ints = ints }) (silent horizon) =
+    λ i. record { horizon = horizon; waves = no_waves i; edges = no_edges i; falls = no_falls i; ints = no_ints i } in
     subst IsSoundSignals (sym same) (silent_sound horizon h)

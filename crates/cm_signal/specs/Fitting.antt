@@ -20,7 +20,7 @@ HasSub subs int = int.sub < length subs
 -- a line names a channel with levels, or a subdevice, that the board has
 abbrev pub Fits : List SubText → Said → Type 0
 Fits subs (said.Wave w) = HasChannel subs w
-Fits subs (said.Edges line times) = Unit {0}
+Fits subs (said.Edges slope line times) = Unit {0}
 Fits subs (said.Int int) = HasSub subs int
 
 -- each wave is that of a channel with levels, and each trigger one of a subdevice

@@ -15,5 +15,5 @@ HasPeriod (Table period levels) = (1 ≤ period) × (period ≤ 10 ^ 12) × (1 �
 -- a wave with its period, one of the 16 lines, or a trigger up to the horizon
 abbrev pub IsSaid : ℕ → Said → Type 0
 IsSaid horizon (said.Wave w) = HasPeriod w.wave
-IsSaid horizon (said.Edges line times) = line < 16
+IsSaid horizon (said.Edges slope line times) = line < 16
 IsSaid horizon (said.Int int) = int.time ≤ horizon

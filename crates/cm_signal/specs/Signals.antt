@@ -3,6 +3,8 @@ use Rattle.std.specs.Prelude.{◌≡◌, ℕ, ◌+◌, ◌*◌, ◌/◌, ◌%◌
 use Rattle.std.specs.List.{All, list_any}
 use Rattle.std.specs.List.Sorted.{IsStrictlyIncreasing}
 use Rattle.cm_signal.specs.declared.signals.IntAt.{IntAt}
+use Rattle.cm_signal.specs.declared.signals.Slope.{Slope}
+use Rattle.cm_signal.specs.declared.signals.Slope.TheVariants as slopes
 use Rattle.cm_signal.specs.declared.wave.Wave.{Wave}
 use Rattle.cm_signal.specs.declared.wave.Wave.TheVariants.{Const, Square, Saw, Table}
 use Rattle.cm_signal.specs.declared.wave.WaveAt.{WaveAt}
@@ -12,6 +14,7 @@ pub record SignalsText : Type 0 where
   pub horizon : ℕ
   pub waves : List WaveAt
   pub edges : List (List ℕ)
+  pub falls : List (List ℕ)
   pub ints : List IntAt
 
 -- a wave has a period, a saw rises, and a table has levels
@@ -27,11 +30,20 @@ pub record AreEdges (horizon : ℕ) (edges : List ℕ) : Type 0 where
   pub within : (k : ℕ) → k < length edges → slice_index edges k ≤ horizon
   pub few : length edges ≤ 10 ^ 5
 
--- the edges of a line
+-- the rises of a line
 abbrev pub edges_at : SignalsText → ℕ → List ℕ
 edges_at s line = slice_index_or s.edges line []
 
--- how many edges all lines have together
+-- the falls of a line
+abbrev pub falls_at : SignalsText → ℕ → List ℕ
+falls_at s line = slice_index_or s.falls line []
+
+-- the edges of a line with a slope
+abbrev pub times_at : SignalsText → Slope → ℕ → List ℕ
+times_at s slopes.Rise line = edges_at s line
+times_at s slopes.Fall line = falls_at s line
+
+-- how many edges the lists of all lines have together
 abbrev pub edge_count : List (List ℕ) → ℕ
 edge_count [] = 0
 edge_count (edges ∷ more) = length edges + edge_count more
@@ -49,8 +61,10 @@ have_own (w ∷ ws) = not (list_any (is_at w.sub w.chan) ws) && have_own ws
 pub record IsSoundSignals (s : SignalsText) : Type 0 where
   pub horizon : s.horizon ≤ 10 ^ 12
   pub lines : length s.edges ≡ 16
+  pub fall_lines : length s.falls ≡ 16
   pub edges : (line : ℕ) → line < length s.edges → AreEdges s.horizon (slice_index_or s.edges line [])
-  pub few_edges : edge_count s.edges ≤ 10 ^ 5
+  pub falls : (line : ℕ) → line < length s.falls → AreEdges s.horizon (slice_index_or s.falls line [])
+  pub few_edges : edge_count s.edges + edge_count s.falls ≤ 10 ^ 5
   pub waves : All (λ w. IsWave w.wave) s.waves
   pub own : IsTrue (have_own s.waves)
   pub ints : All (λ int. int.time ≤ s.horizon) s.ints

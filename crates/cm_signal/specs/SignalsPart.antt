@@ -12,9 +12,11 @@ use Rattle.cm_base.specs.declared.faults.Refused.{Refused}
 use Rattle.cm_board.specs.Board.{BoardText, SubText}
 use Rattle.cm_board.specs.declared.board.Kind.{Kind}
 use Rattle.cm_board.specs.declared.board.Kind.TheVariants as kinds
-use Rattle.cm_signal.specs.Signals.{SignalsText, edge_count, edges_at, is_at}
+use Rattle.cm_signal.specs.Signals.{SignalsText, edge_count, is_at, times_at}
 use Rattle.cm_signal.specs.declared.said.Said.{Said}
 use Rattle.cm_signal.specs.declared.said.Said.TheVariants as said
+use Rattle.cm_signal.specs.declared.signals.Slope.{Slope}
+use Rattle.cm_signal.specs.declared.signals.Slope.TheVariants as slopes
 use Rattle.cm_signal.specs.declared.wave.Wave.{Wave}
 use Rattle.cm_signal.specs.declared.wave.Wave.TheVariants as waves
 use Rattle.cm_signal.specs.declared.wave.WaveAt.{WaveAt}
@@ -84,9 +86,9 @@ wave_words subs words = three_and_more words >>= λ w. keyword (wave_forms subs)
 abbrev pub line_word : List ℕ → Result ℕ Fault
 line_word = number_in 0 15
 
--- `edges LINE T..`
-abbrev pub edges_words : ℕ → Form Said
-edges_words horizon words = one_and_more words >>= λ w. line_word w.0 >>= λ line. each_word (number_in 0 horizon) [] w.1 >>= λ times. Ok (said.Edges line times)
+-- `edges LINE T..` and `falls LINE T..`
+abbrev pub edges_words : Slope → ℕ → Form Said
+edges_words slope horizon words = one_and_more words >>= λ w. line_word w.0 >>= λ line. each_word (number_in 0 horizon) [] w.1 >>= λ times. Ok (said.Edges slope line times)
 
 -- so many times, each a period after the one before
 abbrev pub progression : ℕ → ℕ → ℕ → List ℕ
@@ -99,9 +101,9 @@ every_numbers words =
     four_words words >>= λ w. line_word w.0 >>= λ line. or_fault BadNumber (number_of w.1) >>= λ first.
     period_word w.2 >>= λ period. number_in 1 100000 w.3 >>= λ count. Ok (line, first, period, count)
 
--- edges at equal distances
+-- rises at equal distances
 abbrev pub every_words : Form Said
-every_words words = every_numbers words >>= λ n. Ok (said.Edges n.0 (progression n.1 n.2 n.3))
+every_words words = every_numbers words >>= λ n. Ok (said.Edges slopes.Rise n.0 (progression n.1 n.2 n.3))
 
 -- `int SUB T ARG`
 abbrev pub int_words : List SubText → ℕ → Form Said
@@ -112,7 +114,8 @@ int_words subs horizon words =
 -- the lines of the part, by their first word
 abbrev pub signal_forms : List SubText → ℕ → List (List ℕ × Form Said)
 signal_forms subs horizon =
-    (codes "wave", wave_words subs) ∷ (codes "edges", edges_words horizon) ∷ (codes "every", every_words) ∷ (codes "int", int_words subs horizon) ∷ []
+    (codes "wave", wave_words subs) ∷ (codes "edges", edges_words slopes.Rise horizon) ∷ (codes "falls", edges_words slopes.Fall horizon) ∷
+    (codes "every", every_words) ∷ (codes "int", int_words subs horizon) ∷ []
 
 -- what a line of the signals part says
 abbrev pub said_words : List SubText → ℕ → List (List ℕ) → Result Said Fault
@@ -133,17 +136,17 @@ abbrev pub rises_from : ℕ → List ℕ → Bool
 rises_from least [] = true
 rises_from least (time ∷ times) = nat_le least time && rises_from (time + 1) times
 
--- none of these edges is above the horizon, and all edges together aren't too many
+-- none of these edges is above the horizon, and all rises and falls together aren't too many
 abbrev pub has_room : SignalsText → List ℕ → Bool
-has_room s times = list_all (λ time. nat_le time s.horizon) times && nat_le (edge_count s.edges + length times) 100000
+has_room s times = list_all (λ time. nat_le time s.horizon) times && nat_le (edge_count s.edges + edge_count s.falls + length times) 100000
 
 -- whether a line's wave may stand after those before it
 abbrev pub checked_wave : SignalsText → WaveAt → Result (Unit {0}) Fault
 checked_wave s w = if list_any (is_at w.sub w.chan) s.waves then Err Double else (if is_fine w.wave then Ok tt else Err Bad)
 
--- whether a line's edges may stand after those before them
-abbrev pub checked_edges : SignalsText → ℕ → List ℕ → Result (Unit {0}) Fault
-checked_edges s line times = if has_room s times then (if rises_from 0 (edges_at s line ++ times) then Ok tt else Err Bad) else Err Limit
+-- whether a line's edges may stand after those before them with the same slope
+abbrev pub checked_edges : SignalsText → Slope → ℕ → List ℕ → Result (Unit {0}) Fault
+checked_edges s slope line times = if has_room s times then (if rises_from 0 (times_at s slope line ++ times) then Ok tt else Err Bad) else Err Limit
 
 -- whether a line's trigger may stand after those before it
 abbrev pub checked_int : SignalsText → Result (Unit {0}) Fault
@@ -152,13 +155,18 @@ checked_int s = limited (nat_lt (length s.ints) 1000) tt
 -- whether a line may stand after those before it
 abbrev pub checked : SignalsText → Said → Result (Unit {0}) Fault
 checked s (said.Wave w) = checked_wave s w
-checked s (said.Edges line times) = checked_edges s line times
+checked s (said.Edges slope line times) = checked_edges s slope line times
 checked s (said.Int int) = checked_int s
+
+-- the signals with other edges of a line with a slope
+abbrev pub with_times : SignalsText → Slope → ℕ → List ℕ → SignalsText
+with_times s slopes.Rise line times = record s { edges = slice_set s.edges line times }
+with_times s slopes.Fall line times = record s { falls = slice_set s.falls line times }
 
 -- the signals with one line more
 abbrev pub with_said : SignalsText → Said → SignalsText
 with_said s (said.Wave w) = record s { waves = s.waves ++ w ∷ [] }
-with_said s (said.Edges line times) = record s { edges = slice_set s.edges line (edges_at s line ++ times) }
+with_said s (said.Edges slope line times) = with_times s slope line (times_at s slope line ++ times)
 with_said s (said.Int int) = record s { ints = s.ints ++ int ∷ [] }
 
 -- what a line adds to the signals of the lines before it
@@ -167,7 +175,7 @@ said_after subs s line = said_line subs s.horizon line >>= λ what. checked s wh
 
 -- no wave, no edge and no trigger
 abbrev pub silent : ℕ → SignalsText
-silent horizon = record { horizon = horizon; waves = []; edges = replicate 16 []; ints = [] }
+silent horizon = record { horizon = horizon; waves = []; edges = replicate 16 []; falls = replicate 16 []; ints = [] }
 
 -- the line that starts the session
 abbrev pub is_session : LineText → Bool

@@ -8,5 +8,6 @@ signals_text s = record {
   horizon = s.horizon;
   waves = s.waves.items;
   edges = s.edges.items;
+  falls = s.falls.items;
   ints = s.ints.items;
 }

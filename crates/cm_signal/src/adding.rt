@@ -1,12 +1,12 @@
 // The signals of several lines, one line after another.
-ghost use Rattle.std.specs.Prelude.{◌≡◌, ℕ, ◌<◌, ◌≤◌, ◌^◌, ◌++◌, [], length, nat_le, replicate, slice_index, IfOk};
+ghost use Rattle.std.specs.Prelude.{◌≡◌, ℕ, ◌<◌, ◌≤◌, ◌^◌, ◌++◌, [], length, nat_le, replicate, slice_index, slice_index_or, slice_set, is_ok, if◌then◌else◌, IfOk};
 ghost use Rattle.std.specs.List.{list_all};
 ghost use Rattle.std.specs.List.Sorted.{IsStrictlyIncreasing};
-ghost use Rattle.cm_signal.specs.Signals as spec;
+ghost use Rattle.cm_signal.specs.Signals.{edge_count};
 ghost use Rattle.cm_signal.specs.SignalsPart as part;
 
 use crate::said::Said;
-use crate::signals::{IntAt, Signals};
+use crate::signals::{IntAt, Signals, Slope};
 use crate::wave::{Wave, WaveAt};
 use cm_base::faults::Fault;
 use cm_base::lists::Times;
@@ -17,8 +17,8 @@ impl Signals {
     ghost use Rattle.std.specs.List.{list_any};
     ghost use Rattle.cm_base.specs.Reading.{seen};
     ghost use Rattle.cm_signal.specs.Said.{HasPeriod, IsSaid};
-    ghost use Rattle.cm_signal.specs.Signals.{SignalsText, edge_count, edges_at, is_at};
-    ghost use Rattle.cm_signal.specs.SignalsPart.{checked, has_room, is_fine, rises_from, silent, with_said};
+    ghost use Rattle.cm_signal.specs.Signals.{SignalsText, edge_count, is_at, times_at};
+    ghost use Rattle.cm_signal.specs.SignalsPart.{checked, has_room, is_fine, rises_from, silent, with_said, with_times};
 
     /// No wave, no edge and no trigger up to a horizon.
     pub fn silent(alloc: Global, horizon: u64) -> Result<Signals, AllocError>
@@ -29,6 +29,7 @@ impl Signals {
             horizon,
             waves: Vec::new(alloc),
             edges: no_edges(alloc)?,
+            falls: no_edges(alloc)?,
             ints: Vec::new(alloc),
         })
     }
@@ -40,7 +41,7 @@ impl Signals {
     {
         match said {
             Said::Wave(wave) => self.check_wave(wave),
-            Said::Edges(line, times) => self.check_edges(*line, times.as_slice()),
+            Said::Edges(slope, line, times) => self.check_edges(*slope, *line, times.as_slice()),
             Said::Int(_) => self.check_int(),
         }
     }
@@ -66,15 +67,15 @@ impl Signals {
             .any(|wave| wave.sub == sub && wave.chan == chan)
     }
 
-    fn check_edges(&self, line: u32, times: &[u64]) -> Result<(), Fault>
+    fn check_edges(&self, slope: Slope, line: u32, times: &[u64]) -> Result<(), Fault>
         requires { line < 16 }
-        ensures { seen (λ u. tt) result ≡ part.checked_edges self.now line times.now }
+        ensures { seen (λ u. tt) result ≡ part.checked_edges self.now slope line times.now }
     {
         // This read shows what holds of the signals so far: each line has its list of edges.
         let _horizon = self.horizon;
         if !self.has_room(times) {
             Err(Fault::Limit)
-        } else if rises_after(self.line(line), times) {
+        } else if rises_after(self.line(slope, line), times) {
             Ok(())
         } else {
             Err(Fault::Bad)
@@ -88,16 +89,12 @@ impl Signals {
         are_up_to(times, self.horizon) && self.edge_count() + times.len() <= 100_000
     }
 
-    // How many edges all lines have.
+    // How many rises and falls all lines have.
     fn edge_count(&self) -> usize
-        ensures count { result ≡ edge_count self.now.edges }
+        ensures count { result ≡ edge_count self.now.edges + edge_count self.now.falls }
         ensures few { result ≤ 100000 }
     {
-        let mut count = 0;
-        for times in &self.edges {
-            count += times.as_slice().len();
-        }
-        count
+        count_of(&self.edges) + count_of(&self.falls)
     }
 
     fn check_int(&self) -> Result<(), Fault>
@@ -118,7 +115,7 @@ impl Signals {
     {
         match said {
             Said::Wave(wave) => self.put_wave(wave),
-            Said::Edges(line, times) => self.put_edges(line, &times),
+            Said::Edges(slope, line, times) => self.put_edges(slope, line, &times),
             Said::Int(int) => self.put_int(int),
         }
     }
@@ -133,14 +130,16 @@ impl Signals {
         Ok(())
     }
 
-    fn put_edges(&mut self, line: u32, times: &Times) -> Result<(), AllocError>
+    fn put_edges(&mut self, slope: Slope, line: u32, times: &Times) -> Result<(), AllocError>
         requires line { line < 16 }
         requires room { has_room self.old times.now ≡ true }
-        requires rise { rises_from 0 (edges_at self.old line ++ times.now) ≡ true }
-        ensures { OnOk result (self.new ≡ record self.old { edges = slice_set self.old.edges line (edges_at self.old line ++ times.now) }) }
+        requires rise { rises_from 0 (times_at self.old slope line ++ times.now) ≡ true }
+        ensures { OnOk result (self.new ≡ with_times self.old slope line (times_at self.old slope line ++ times.now)) }
     {
-        let edges = &mut self.edges[line as usize];
-        edges.extend(times.as_slice())
+        match slope {
+            Slope::Rise => extend_line(&mut self.edges, line, times.as_slice()),
+            Slope::Fall => extend_line(&mut self.falls, line, times.as_slice()),
+        }
     }
 
     fn put_int(&mut self, int: IntAt) -> Result<(), AllocError>
@@ -162,6 +161,27 @@ fn no_edges(alloc: Global) -> Result<Vec<Times>, AllocError>
         lines.push(Times::new(Vec::new(alloc)))?;
     }
     Ok(lines)
+}
+
+// Adds times to the list of a line. Where memory runs out nothing changes.
+fn extend_line(lines: &mut [Times], line: u32, times: &[u64]) -> Result<(), AllocError>
+    requires { line < length lines.old }
+    ensures { lines.new ≡ slice_set lines.old line (if is_ok result then slice_index_or lines.old line [] ++ times.now else slice_index_or lines.old line []) }
+{
+    let list = &mut lines[line as usize];
+    list.extend(times)
+}
+
+// How many edges these lists have together.
+fn count_of(lines: &[Times]) -> usize
+    requires few { edge_count lines.now ≤ 10 ^ 5 }
+    ensures { result ≡ edge_count lines.now }
+{
+    let mut count = 0;
+    for times in lines {
+        count += times.as_slice().len();
+    }
+    count
 }
 
 // A saw does not fall.

@@ -10,7 +10,7 @@ ghost use Rattle.cm_signal.specs.Fitting.{Fits};
 ghost use Rattle.cm_signal.specs.Said.{IsSaid};
 ghost use Rattle.cm_signal.specs.SignalsPart as spec;
 
-use crate::signals::IntAt;
+use crate::signals::{IntAt, Slope};
 use crate::wave::{Wave, WaveAt};
 use cm_base::faults::{Fault, ReadStop};
 use cm_base::lines::Line;
@@ -29,8 +29,8 @@ use std::alloc::{AllocError, Global};
 pub enum Said {
     /// The wave of a channel.
     Wave(WaveAt),
-    /// Edges of an external line.
-    Edges(u32, Times),
+    /// Edges of an external line, all with one slope.
+    Edges(Slope, u32, Times),
     /// An internal trigger.
     Int(IntAt),
 }
@@ -74,7 +74,9 @@ fn read_words(
     if key == b"wave".as_slice() {
         read_wave(alloc, number, subs, words)
     } else if key == b"edges".as_slice() {
-        read_edges(alloc, number, horizon, words)
+        read_edges(alloc, number, Slope::Rise, horizon, words)
+    } else if key == b"falls".as_slice() {
+        read_edges(alloc, number, Slope::Fall, horizon, words)
     } else if key == b"every".as_slice() {
         read_every(alloc, number, words)
     } else if key == b"int".as_slice() {
@@ -170,16 +172,22 @@ fn read_table(
     Ok(Said::Wave(WaveAt { sub, chan, wave }))
 }
 
-// `edges LINE T..`
-fn read_edges(alloc: Global, number: u32, horizon: u64, words: &[&[u8]]) -> Result<Said, ReadStop>
-    ensures value { Gives (λ said. said) result (at_line number (spec.edges_words horizon (map (λ word. word.now) words.now))) }
+// `edges LINE T..` and `falls LINE T..`
+fn read_edges(
+    alloc: Global,
+    number: u32,
+    slope: Slope,
+    horizon: u64,
+    words: &[&[u8]],
+) -> Result<Said, ReadStop>
+    ensures value { Gives (λ said. said) result (at_line number (spec.edges_words slope horizon (map (λ word. word.now) words.now))) }
     ensures limits { IfOk result (IsSaid 0) }
     ensures fits { IfOk result (Fits []) }
 {
     let (line, times) = at_line(number, one_and_more(words))?;
     let line = at_line(number, read_line_number(line))?;
     let times = times_in(alloc, number, times, horizon)?;
-    Ok(Said::Edges(line, Times::new(times)))
+    Ok(Said::Edges(slope, line, Times::new(times)))
 }
 
 // `every LINE FIRST PERIOD COUNT`
@@ -190,7 +198,7 @@ fn read_every(alloc: Global, number: u32, words: &[&[u8]]) -> Result<Said, ReadS
 {
     let (line, first, period, count) = at_line(number, read_numbers(words))?;
     let times = progression(alloc, first, period, count)?;
-    Ok(Said::Edges(line, Times::new(times)))
+    Ok(Said::Edges(Slope::Rise, line, Times::new(times)))
 }
 
 // The numbers of `every LINE FIRST PERIOD COUNT`.

@@ -1,6 +1,7 @@
 -- A command that the test has adjusted passes the steps up to that one.
-use Rattle.std.proofs.Common.{◌≡◌, ℕ, ◌<◌, ◌≤◌, Bool, true, false, ◌&&◌, refl, ap, arith, inl, inr, ◌⊎◌}
+use Rattle.std.proofs.Common.{◌≡◌, ℕ, ◌<◌, ◌≤◌, Bool, true, false, ◌&&◌, refl, sym, ap, ◌∙◌, arith, inl, inr, ◌⊎◌}
 use Rattle.std.specs.Prelude.{◌==◌, not, if◌then◌else◌}
+use Rattle.std.proofs.lemmas.Bool.{cond-true, eqb-true}
 use Rattle.cm_board.specs.Board.{SubText, IsSoundSub}
 use Rattle.cm_base.specs.Source as source
 use Rattle.cm_cmd.specs.Command.{CmdText}
@@ -8,16 +9,13 @@ use Rattle.cm_cmd.specs.declared.command.Trig.{Trig}
 use Rattle.std.specs.Prelude.{◌^◌}
 use Rattle.cm_test.specs.declared.limits.Limits.{Limits}
 use Rattle.cm_test.specs.ValidList.{is_valid_list}
-use Rattle.cm_test.specs.Steps.{narrowed, repaired, rounded, ticked, rounding, rounded_by, scan_time, moved_into, scan_length, exactly, line_limits, start_limits, scan_begin_limits, convert_limits, scan_end_limits, stop_limits}
+use Rattle.cm_test.specs.Steps.{narrowed, repaired, rounded, ticked, rounding, rounded_by, scan_time, moved_into, scan_length, exactly, line_limits, start_limits, scan_begin_limits, convert_limits, stop_limits, moved, with_arg}
 use Rattle.cm_test.specs.Questions.{same_triggers, has_sources, is_narrow, is_compatible, is_within, is_rounded, tested}
-use Rattle.cm_test.specs.Law.{PassesThree, PassesFour, IsSettled, RepairedPasses, RoundedPasses, RoundedSettles}
+use Rattle.cm_test.specs.Law.{PassesThree, PassesFour, IsSettled, KeepEdges, RepairedKeepsEdges, RepairedPasses, RoundedPasses, RoundedSettles}
 use Rattle.cm_base.proofs.Bools.{both, and_true}
+use Rattle.cm_test.proofs.Moved.{FromZero, keeps_edge, moved_twice, moved_whole}
 use Rattle.cm_test.proofs.Same.{are_same, triggers_same}
-use Rattle.cm_test.proofs.Kept.{OnTick, begin, conversion, needed, slow_fits, rounded_in, begin_on_tick, conv_on_tick, moved_twice, convert_within, begin_within, time_twice, begin_twice, time_of}
-
--- the same trigger with another argument
-abbrev pub with_arg : ℕ → Trig → Trig
-with_arg a t = record { src = t.src; arg = a }
+use Rattle.cm_test.proofs.Kept.{OnTick, begin, conversion, needed, slow_fits, rounded_in, begin_on_tick, conv_on_tick, convert_within, begin_within, time_twice, begin_twice, time_of}
 
 -- the same command with other arguments
 abbrev pub with_args : CmdText → ℕ → ℕ → ℕ → ℕ → ℕ → CmdText
@@ -45,15 +43,54 @@ narrow_stays sub cmd a b c d e h =
 compatible_stays : (sub : SubText) (cmd : CmdText) (a b c d e : ℕ) → is_compatible sub cmd ≡ true → is_compatible sub (with_args cmd a b c d e) ≡ true
 compatible_stays sub cmd a b c d e h = h
 
+-- the limits of an external argument begin at 0
+line_low : (sub : SubText) (external : Bool) → (if external then line_limits sub else exactly 0).low ≡ 0
+line_low sub true = refl
+line_low sub false = refl
+
+-- the limits of an external argument are those of a line, where other arguments have their own
+other_low : (sub : SubText) (src other : ℕ) (l : Limits) → (source.ext == other) ≡ false → (src == source.ext) ≡ true → (if src == other then l else (if src == source.ext then line_limits sub else exactly 0)).low ≡ 0
+other_low sub src other l apart is =
+    let e = eqb-true src source.ext is in
+    rw (e, apart) refl
+
+-- the limits of each external argument begin at 0
+record FromZeros (sub : SubText) (cmd : CmdText) : Type 0 where
+  pub start : FromZero (start_limits sub cmd) cmd.start
+  pub scan_begin : FromZero (scan_begin_limits sub cmd) cmd.scan_begin
+  pub convert : FromZero (convert_limits sub cmd) cmd.convert
+  pub stop : FromZero (stop_limits sub cmd) cmd.stop
+
+from_zeros : (sub : SubText) (cmd : CmdText) → FromZeros sub cmd
+from_zeros sub cmd = record {
+  start = λ is. line_low sub (cmd.start.src == source.ext);
+  scan_begin = other_low sub cmd.scan_begin.src source.timer _ refl;
+  convert = other_low sub cmd.convert.src source.timer _ refl;
+  stop = other_low sub cmd.stop.src source.count _ refl;
+}
+
 -- a repaired command needs no repair
 within_repaired : (sub : SubText) (cmd : CmdText) → is_within sub (repaired sub cmd) ≡ true
-within_repaired sub cmd = triggers_same (repaired sub (repaired sub cmd)) (repaired sub cmd) (record {
-  start = ap (λ a. with_arg a cmd.start) (moved_twice (start_limits sub cmd) cmd.start.arg);
-  scan_begin = ap (λ a. with_arg a cmd.scan_begin) (moved_twice (scan_begin_limits sub cmd) cmd.scan_begin.arg);
-  convert = ap (λ a. with_arg a cmd.convert) (moved_twice (convert_limits sub cmd) cmd.convert.arg);
-  scan_end = ap (λ a. with_arg a cmd.scan_end) (moved_twice (scan_end_limits sub cmd) cmd.scan_end.arg);
-  stop = ap (λ a. with_arg a cmd.stop) (moved_twice (stop_limits sub cmd) cmd.stop.arg);
-})
+within_repaired sub cmd =
+    let low = from_zeros sub cmd in
+    triggers_same (repaired sub (repaired sub cmd)) (repaired sub cmd) (record {
+      start = moved_twice sub (start_limits sub cmd) cmd.start low.start;
+      scan_begin = moved_twice sub (scan_begin_limits sub cmd) cmd.scan_begin low.scan_begin;
+      convert = moved_twice sub (convert_limits sub cmd) cmd.convert low.convert;
+      scan_end = refl;
+      stop = moved_twice sub (stop_limits sub cmd) cmd.stop low.stop;
+    })
+
+-- a repaired command asks for the same edges
+edges_repaired : (sub : SubText) (cmd : CmdText) → KeepEdges sub cmd (repaired sub cmd)
+edges_repaired sub cmd =
+    let low = from_zeros sub cmd in
+    record {
+      start = keeps_edge sub (start_limits sub cmd) cmd.start low.start;
+      scan_begin = keeps_edge sub (scan_begin_limits sub cmd) cmd.scan_begin low.scan_begin;
+      convert = keeps_edge sub (convert_limits sub cmd) cmd.convert low.convert;
+      stop = keeps_edge sub (stop_limits sub cmd) cmd.stop low.stop;
+    }
 
 passes_repaired : (sub : SubText) (cmd : CmdText) → is_narrow sub cmd ≡ true → is_compatible sub cmd ≡ true → PassesThree sub (repaired sub cmd)
 passes_repaired sub cmd n c =
@@ -68,6 +105,30 @@ passes_repaired sub cmd n c =
 pub scan_length_fits : (sub : SubText) (cmd : CmdText) → IsSoundSub sub → (1 ≤ scan_length sub cmd) × (scan_length sub cmd ≤ sub.list_max)
 scan_length_fits sub cmd ok = let l = ok.list.low in (omega arith, omega arith)
 
+-- a period in its limits
+abbrev moved_begin : SubText → CmdText → ℕ → ℕ
+moved_begin sub cmd a = (moved sub (scan_begin_limits sub cmd) (with_arg a cmd.scan_begin)).arg
+
+timed_begin : (sub : SubText) (cmd : CmdText) → (cmd.scan_begin.src == source.timer) ≡ true → (a : ℕ) → moved_begin sub cmd a ≡ moved_into (begin sub) a
+timed_begin sub cmd timer a =
+    moved_whole sub (scan_begin_limits sub cmd) (with_arg a cmd.scan_begin) source.timer refl (eqb-true cmd.scan_begin.src source.timer timer) ∙ ap (λ l. moved_into l a) (cond-true _ _ _ timer)
+
+-- a conversion time in its limits
+abbrev moved_convert : SubText → CmdText → ℕ → ℕ
+moved_convert sub cmd a = (moved sub (convert_limits sub cmd) (with_arg a cmd.convert)).arg
+
+timed_convert : (sub : SubText) (cmd : CmdText) → (cmd.convert.src == source.timer) ≡ true → (a : ℕ) → moved_convert sub cmd a ≡ moved_into (conversion sub (scan_length sub cmd) (cmd.scan_begin.src == source.timer)) a
+timed_convert sub cmd timer a =
+    moved_whole sub (convert_limits sub cmd) (with_arg a cmd.convert) source.timer refl (eqb-true cmd.convert.src source.timer timer) ∙ ap (λ l. moved_into l a) (cond-true _ _ _ timer)
+
+-- a period of a command in its limits, and a conversion time
+begin_in : (sub : SubText) (cmd : CmdText) → is_within sub cmd ≡ true → (cmd.scan_begin.src == source.timer) ≡ true → moved_into (begin sub) cmd.scan_begin.arg ≡ cmd.scan_begin.arg
+begin_in sub cmd h timer = sym (timed_begin sub cmd timer cmd.scan_begin.arg) ∙ ap (λ (t : Trig). t.arg) (are_same (repaired sub cmd) cmd h).scan_begin
+
+convert_in : (sub : SubText) (cmd : CmdText) → is_within sub cmd ≡ true → (cmd.convert.src == source.timer) ≡ true →
+    moved_into (conversion sub (scan_length sub cmd) (cmd.scan_begin.src == source.timer)) cmd.convert.arg ≡ cmd.convert.arg
+convert_in sub cmd h timer = sym (timed_convert sub cmd timer cmd.convert.arg) ∙ ap (λ (t : Trig). t.arg) (are_same (repaired sub cmd) cmd h).convert
+
 -- a rounded command is within its limits
 within_rounded : (sub : SubText) (cmd : CmdText) → IsSoundSub sub → is_within sub cmd ≡ true → is_within sub (rounded sub cmd) ≡ true
 within_rounded sub cmd ok h =
@@ -76,12 +137,10 @@ within_rounded sub cmd ok h =
     let fits = scan_length_fits sub cmd ok in
     let scan : Bool = cmd.scan_begin.src == source.timer in
     let conv : Bool = cmd.convert.src == source.timer in
-    let elsewhere = if cmd.convert.src == source.ext then line_limits sub else exactly 0 in
-    let otherwise = if cmd.scan_begin.src == source.ext then line_limits sub else exactly 0 in
     triggers_same (repaired sub (rounded sub cmd)) (rounded sub cmd) (record {
       start = s.start;
-      scan_begin = ap (λ a. with_arg a cmd.scan_begin) (begin_within sub n (rounding cmd.flags) cmd.scan_begin.arg cmd.convert.arg scan conv otherwise elsewhere ok fits.0 fits.1 (ap (λ (t : Trig). t.arg) s.scan_begin) (ap (λ (t : Trig). t.arg) s.convert));
-      convert = ap (λ a. with_arg a cmd.convert) (convert_within sub n (rounding cmd.flags) cmd.convert.arg scan conv elsewhere ok fits.0 fits.1 (ap (λ (t : Trig). t.arg) s.convert));
+      scan_begin = ap (λ a. with_arg a cmd.scan_begin) (begin_within sub n (rounding cmd.flags) cmd.scan_begin.arg cmd.convert.arg scan conv (moved_begin sub cmd) ok fits.0 fits.1 (timed_begin sub cmd) (ap (λ (t : Trig). t.arg) s.scan_begin) (convert_in sub cmd h));
+      convert = ap (λ a. with_arg a cmd.convert) (convert_within sub n (rounding cmd.flags) cmd.convert.arg scan conv (moved_convert sub cmd) ok fits.0 fits.1 (timed_convert sub cmd) (ap (λ (t : Trig). t.arg) s.convert));
       scan_end = s.scan_end;
       stop = s.stop;
     })
@@ -148,6 +207,11 @@ repaired_passes sub cmd ok h =
     let t = at_three (is_narrow sub cmd) (is_compatible sub cmd) (is_within sub cmd) (is_rounded sub cmd) (is_valid_list sub cmd.list) cmd (narrowed sub cmd) (repaired sub cmd) (rounded sub cmd) h in
     rw t.2 (passes_repaired sub cmd t.0 t.1)
 
+pub repaired_keeps_edges : RepairedKeepsEdges
+repaired_keeps_edges sub cmd h =
+    let t = at_three (is_narrow sub cmd) (is_compatible sub cmd) (is_within sub cmd) (is_rounded sub cmd) (is_valid_list sub cmd.list) cmd (narrowed sub cmd) (repaired sub cmd) (rounded sub cmd) h in
+    rw t.2 (edges_repaired sub cmd)
+
 pub rounded_passes : RoundedPasses
 rounded_passes sub cmd ok h =
     let t = at_four (is_narrow sub cmd) (is_compatible sub cmd) (is_within sub cmd) (is_rounded sub cmd) (is_valid_list sub cmd.list) cmd (narrowed sub cmd) (repaired sub cmd) (rounded sub cmd) h in
@@ -166,14 +230,7 @@ time_fits : (mode tick a : ℕ) (l : Limits) → OnTick tick l → l.high ≤ 40
 time_fits mode tick a l on few e = let i = rounded_in mode tick a l on e in omega arith
 
 pub begin_fits : (sub : SubText) (cmd : CmdText) → IsSoundSub sub → is_within sub cmd ≡ true → (cmd.scan_begin.src == source.timer) ≡ true → rounded_by (rounding cmd.flags) sub.tick cmd.scan_begin.arg < 2 ^ 32
-begin_fits sub cmd ok h timer =
-    let s = are_same (repaired sub cmd) cmd h in
-    time_fits (rounding cmd.flags) sub.tick cmd.scan_begin.arg (begin sub) (begin_on_tick sub ok) ok.scan.high (let e : moved_into (scan_begin_limits sub cmd) cmd.scan_begin.arg ≡ cmd.scan_begin.arg = ap (λ (t : Trig). t.arg) s.scan_begin in rw timer at e)
-
-convert_in : (sub : SubText) (cmd : CmdText) → is_within sub cmd ≡ true → (cmd.convert.src == source.timer) ≡ true →
-    moved_into (conversion sub (scan_length sub cmd) (cmd.scan_begin.src == source.timer)) cmd.convert.arg ≡ cmd.convert.arg
-convert_in sub cmd h timer = let s = are_same (repaired sub cmd) cmd h in
-    let e : moved_into (convert_limits sub cmd) cmd.convert.arg ≡ cmd.convert.arg = ap (λ (t : Trig). t.arg) s.convert in rw timer at e
+begin_fits sub cmd ok h timer = time_fits (rounding cmd.flags) sub.tick cmd.scan_begin.arg (begin sub) (begin_on_tick sub ok) ok.scan.high (begin_in sub cmd h timer)
 
 few_high : (sub : SubText) (n : ℕ) (timed : Bool) → IsSoundSub sub → (conversion sub n timed).high ≤ 4000000000
 few_high sub n true ok = let h = ok.convert.high in omega arith

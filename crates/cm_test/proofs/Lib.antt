@@ -5,3 +5,4 @@ pub mod Inside
 pub mod Kept
 pub mod Passed
 pub mod Rounding
+pub mod Moved

@@ -15,7 +15,7 @@ use Rattle.cm_cmd.specs.declared.command.Trig.{Trig}
 use Rattle.cm_test.specs.Law.{AreInside}
 use Rattle.cm_test.specs.Passed.{IsOneOf, IsEntry, PassedIsTaken}
 use Rattle.cm_test.specs.Questions.{same_triggers, has_sources, is_narrow, is_compatible, is_within, is_rounded, is_one_bit, are_single, is_endless}
-use Rattle.cm_test.specs.Steps.{narrowed, narrowed_to, repaired, rounded, ticked, on_tick, scan_length, scan_time, scan_begin_limits, convert_limits, stop_limits}
+use Rattle.cm_test.specs.Steps.{narrowed, narrowed_to, repaired, rounded, ticked, on_tick, scan_length, scan_time, scan_begin_limits, convert_limits, stop_limits, limited}
 use Rattle.cm_test.specs.ValidList.{is_valid_entry, is_valid_list, has_valid_length, has_valid_ranges}
 use Rattle.cm_base.proofs.SourcesBack.{each_below}
 use Rattle.cm_test.proofs.Adjusted.{first_no}
@@ -61,7 +61,7 @@ not_first false b p q = cc
 reported : (set mask src : ℕ) (p : ℕ → Bool) → set < 512 → list_all (is_reported set p) (range_with_len 0 512) ≡ true → is_among set mask ≡ true → IsOneOf mask src → p src ≡ true
 reported set mask src p small table among o =
     let kept : bit_and src mask ≡ src = eqb-true (bit_and src mask) src o.allowed in
-    let inner : bit_and mask set ≡ mask = eqb-true (bit_and mask set) mask (both _ _ among).1 in
+    let inner : bit_and mask set ≡ mask = eqb-true (bit_and mask set) mask (both (not (mask == 0)) (bit_and mask set == mask) among).1 in
     let inside : bit_and src set ≡ src = ap (λ s. bit_and s set) (sym kept) ∙ and_assoc set src mask ∙ ap (bit_and src) inner ∙ kept in
     let few : src ≤ set = (let le = and_le_r src set in omega (arith, le, inside)) in
     let some : not (src == 0) ≡ true = (let s = o.some in grind (arith, nat_tests)) in
@@ -88,7 +88,7 @@ converts = refl
 scan_ends : list_all (is_reported 32 (is_that 32)) (range_with_len 0 512) ≡ true
 scan_ends = refl
 
-stops : list_all (is_reported 33 (any_of_two 1 32)) (range_with_len 0 512) ≡ true
+stops : list_all (is_reported 97 (any_of_three 1 32 64)) (range_with_len 0 512) ≡ true
 stops = refl
 
 either : (a b : Bool) → (a || b) ≡ true → (a ≡ true) ⊎ (b ≡ true)
@@ -117,11 +117,11 @@ record AreFull (m : Masks) : Type 0 where
   pub scan_begin : is_among 84 m.scan_begin ≡ true
   pub convert : is_among 82 m.convert ≡ true
   pub scan_end : is_among 32 m.scan_end ≡ true
-  pub stop : is_among 33 m.stop ≡ true
+  pub stop : is_among 97 m.stop ≡ true
 
 masks_full : (m : Masks) → are_full m ≡ true → AreFull m
 masks_full m h =
-    let e4 = both _ (is_among 33 m.stop) h in
+    let e4 = both _ (is_among 97 m.stop) h in
     let e3 = both _ (is_among 32 m.scan_end) e4.0 in
     let e2 = both _ (is_among 82 m.convert) e3.0 in
     let e1 = both (is_among 194 m.start) (is_among 84 m.scan_begin) e2.0 in
@@ -147,15 +147,15 @@ timed_low : (least a : ℕ) → 1 ≤ least → least ≤ a → 1 ≤ a
 timed_low least a h k = omega arith
 
 period : (sub : SubText) (cmd : CmdText) → IsSoundSub sub → AreInside sub cmd → cmd.scan_begin.src ≡ source.timer → 1 ≤ cmd.scan_begin.arg
-period sub cmd ok i is = let l : (scan_begin_limits sub cmd).low ≤ cmd.scan_begin.arg = i.scan_begin.low in timed_low sub.scan_min cmd.scan_begin.arg ok.scan.some (rw is at l)
+period sub cmd ok i is = let l : (scan_begin_limits sub cmd).low ≤ limited sub cmd.scan_begin = i.scan_begin.low in timed_low sub.scan_min cmd.scan_begin.arg ok.scan.some (rw is at l)
 
 gap : (sub : SubText) (cmd : CmdText) → IsSoundSub sub → AreInside sub cmd → cmd.convert.src ≡ source.timer → 1 ≤ cmd.convert.arg
-gap sub cmd ok i is = let l : (convert_limits sub cmd).low ≤ cmd.convert.arg = i.convert.low in timed_low sub.conv_min cmd.convert.arg ok.convert.some (rw is at l)
+gap sub cmd ok i is = let l : (convert_limits sub cmd).low ≤ limited sub cmd.convert = i.convert.low in timed_low sub.conv_min cmd.convert.arg ok.convert.some (rw is at l)
 
 scans : (sub : SubText) (cmd : CmdText) → AreInside sub cmd → cmd.stop.src ≡ source.count → IsFrom1To sub.scans_max cmd.stop.arg
 scans sub cmd i is =
-    let l : (stop_limits sub cmd).low ≤ cmd.stop.arg = i.stop.low in
-    let h : cmd.stop.arg ≤ (stop_limits sub cmd).high = i.stop.high in
+    let l : (stop_limits sub cmd).low ≤ limited sub cmd.stop = i.stop.low in
+    let h : limited sub cmd.stop ≤ (stop_limits sub cmd).high = i.stop.high in
     record { low = rw is at l; high = rw is at h }
 
 needed_is : (b : Bool) (x : ℕ) → b ≡ true → (if b then x else 0) ≡ x
@@ -223,7 +223,7 @@ passed sub cmd ok zero =
       scan_begin = three_ways source.follow source.timer source.ext cmd.scan_begin.src (reported 84 sub.masks.scan_begin cmd.scan_begin.src (any_of_three 4 16 64) (omega arith) scan_begins full.scan_begin o2);
       convert = three_ways source.now source.timer source.ext cmd.convert.src (reported 82 sub.masks.convert cmd.convert.src (any_of_three 2 16 64) (omega arith) converts full.convert o3);
       scan_end = eqb-true cmd.scan_end.src source.count (reported 32 sub.masks.scan_end cmd.scan_end.src (is_that 32) (omega arith) scan_ends full.scan_end o4);
-      stop = two_ways source.none source.count cmd.stop.src (reported 33 sub.masks.stop cmd.stop.src (any_of_two 1 32) (omega arith) stops full.stop o5);
+      stop = three_ways source.none source.count source.ext cmd.stop.src (reported 97 sub.masks.stop cmd.stop.src (any_of_three 1 32 64) (omega arith) stops full.stop o5);
       ends = d.1;
       inside = i;
       period = period sub cmd ok i;

@@ -27,9 +27,9 @@ IsScanBegin src = (src ≡ source.follow) ⊎ ((src ≡ source.timer) ⊎ (src �
 abbrev pub IsConvert : ℕ → Type 0
 IsConvert src = (src ≡ source.now) ⊎ ((src ≡ source.timer) ⊎ (src ≡ source.ext))
 
--- a command stops after a count of scans or never
+-- a command never stops, or it stops after a count of scans or at an edge
 abbrev pub IsStop : ℕ → Type 0
-IsStop src = (src ≡ source.none) ⊎ (src ≡ source.count)
+IsStop src = (src ≡ source.none) ⊎ ((src ≡ source.count) ⊎ (src ≡ source.ext))
 
 -- an entry of a channel that the subdevice has, with a range that the channel has
 pub record IsEntry (sub : SubText) (entry : ℕ) : Type 0 where

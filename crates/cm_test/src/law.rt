@@ -1,10 +1,12 @@
 // What holds of the definitions alone.
-ghost use Rattle.cm_test.specs.Law.{PassedIsInside, RepairedPasses, RoundedIsOnTick, RoundedPasses, RoundedSettles, RoundingIsAsNamed};
+ghost use Rattle.cm_test.specs.Law.{PassedIsInside, RepairedKeepsEdges, RepairedPasses, RoundedIsOnTick, RoundedPasses, RoundedSettles, RoundingIsAsNamed};
 ghost use Rattle.cm_test.specs.Passed.{PassedIsTaken};
 
-/// A command that the test has adjusted passes the steps up to that one.
+/// A command that the test has adjusted passes the steps up to that one. Where lines can be inverted,
+/// a repaired argument asks for the same edges as before.
 pub fn an_adjusted_command_passes()
     ensures repaired { RepairedPasses }
+    ensures edges { RepairedKeepsEdges }
     ensures rounded { RoundedPasses }
     ensures settled { RoundedSettles }
 {}

@@ -1,6 +1,8 @@
 // The command test: whether a subdevice takes a command, and what it would take instead.
 #![tactic(auto)]
 
+ghost use Rattle.std.specs.Prelude.{◌≤◌};
+
 pub mod law;
 pub mod limits;
 pub mod lists;
@@ -24,7 +26,7 @@ mod tests {
     // Commands that are tested in turn: the step of each, and the text that the test leaves.
     #[test]
     fn answers_step_and_command(rt: HostRuntime) -> Result<(), Fail> {
-        let cases: [(&str, u8, &str); 11] = [
+        let cases: [(&str, u8, &str); 13] = [
             (
                 "0 0 now|follow:0 timer:1000 now:0 count:1 count:3 0/0/ground",
                 1,
@@ -80,8 +82,49 @@ mod tests {
                 3,
                 "0 0 ext:1 timer:1000 timer:200 count:1 count:1 0/0/ground",
             ),
+            (
+                "0 0 ext:2147483648 timer:1000 now:0 count:1 ext:5 0/0/ground",
+                3,
+                "0 0 ext:1 timer:1000 now:0 count:1 ext:1 0/0/ground",
+            ),
+            (
+                "0 0 ext:1 timer:1000 now:0 count:1 ext:0 0/0/ground",
+                0,
+                "0 0 ext:1 timer:1000 now:0 count:1 ext:0 0/0/ground",
+            ),
         ];
-        let sub = demo(rt.alloc())?;
+        let sub = demo(rt.alloc(), 2, false)?;
+        for (text, step, left) in cases {
+            let mut cmd = read(rt.alloc(), text)?;
+            assert!(rt; cmd.list.len() < 300);
+            assert_eq!(rt; command_test(&sub, &mut cmd), step, "at {text}");
+            let printed = print_cmd(rt.alloc(), &cmd)?;
+            assert!(rt; printed.as_slice() == left.as_bytes(), "at {text}");
+        }
+        Ok(())
+    }
+
+    // Where lines can be inverted, the line of an external argument is moved and bit 31 stays.
+    #[test]
+    fn moves_the_line_alone(rt: HostRuntime) -> Result<(), Fail> {
+        let cases: [(&str, u8, &str); 3] = [
+            (
+                "0 0 ext:2147483651 timer:1000 now:0 count:1 ext:5 0/0/ground",
+                3,
+                "0 0 ext:2147483648 timer:1000 now:0 count:1 ext:0 0/0/ground",
+            ),
+            (
+                "0 0 ext:2147483648 timer:1000 now:0 count:1 ext:0 0/0/ground",
+                0,
+                "0 0 ext:2147483648 timer:1000 now:0 count:1 ext:0 0/0/ground",
+            ),
+            (
+                "0 0 now:2147483648 ext:2147483648 now:0 count:1 count:2147483648 0/0/ground",
+                3,
+                "0 0 now:0 ext:2147483648 now:0 count:1 count:1000000 0/0/ground",
+            ),
+        ];
+        let sub = demo(rt.alloc(), 1, true)?;
         for (text, step, left) in cases {
             let mut cmd = read(rt.alloc(), text)?;
             assert!(rt; cmd.list.len() < 300);
@@ -95,7 +138,7 @@ mod tests {
     // Sixteen conversions: repaired first, then raised, then taken.
     #[test]
     fn repairs_raises_and_takes(rt: HostRuntime) -> Result<(), Fail> {
-        let sub = demo(rt.alloc())?;
+        let sub = demo(rt.alloc(), 2, false)?;
         let text =
             "0 0 now:0 timer:1000 timer:10001 count:16 count:1 0/0/ground,0/0/ground,0/0/ground,0/0/ground,0/0/ground,0/0/ground,0/0/ground,0/0/ground,0/0/ground,0/0/ground,0/0/ground,0/0/ground,0/0/ground,0/0/ground,0/0/ground,0/0/ground";
         let mut cmd = read(rt.alloc(), text)?;
@@ -110,8 +153,11 @@ mod tests {
     }
 
     // An analog input, on which scans and conversions may not both begin at edges.
-    #[tactic(auto, unfolding(cm_board::specs::Board::has_text, cm_board::specs::Board::has_munge))]
-    fn demo(alloc: Global) -> Result<Sub, AllocError> {
+    #[tactic(auto, unfolding(cm_board::specs::Board::has_text, cm_board::specs::Board::is_bits_ok, cm_board::specs::Board::maxdata_of, cm_board::specs::Board::munge_of))]
+    fn demo(alloc: Global, lines: u32, invert: bool) -> Result<Sub, AllocError>
+        requires some { 1 ≤ lines }
+        requires few { lines ≤ 16 }
+    {
         let wide = Range {
             min: -10000000,
             max: 10000000,
@@ -141,7 +187,7 @@ mod tests {
                 FOLLOW | TIMER | EXT,
                 NOW | TIMER | EXT,
                 COUNT,
-                NONE | COUNT,
+                NONE | COUNT | EXT,
             ],
             tick: 100,
             scan_min: 1000,
@@ -150,10 +196,13 @@ mod tests {
             conv_max: 1000000,
             list_max: 16,
             scans_max: 1000000,
-            lines: 2,
+            lines,
             buffer: 4,
             same_range: false,
             forbidden,
+            chans: Vec::new(alloc),
+            invert,
+            fifo: None,
         })
     }
 

@@ -1,5 +1,6 @@
 // The limits of each trigger's argument.
-ghost use Rattle.std.specs.Prelude.{◌≡◌, ◌≤◌, ◌<◌, ◌^◌, length, IsTrue};
+ghost use Rattle.std.specs.Prelude.{◌≡◌, ◌≤◌, ◌<◌, ◌^◌, ◌==◌, length, IsTrue};
+ghost use Rattle.cm_base.specs.Source as source;
 ghost use Rattle.cm_test.specs.Steps as spec;
 ghost use Rattle.cm_test.specs.Questions.{same_trigger, is_within};
 
@@ -22,15 +23,15 @@ pub(crate) fn repair(sub: &Sub, cmd: &mut Cmd) -> bool
     ensures kept { IsTrue result → cmd.new ≡ cmd.old }
 {
     let limits = start_limits(sub, cmd);
-    let start = limits.repair(&mut cmd.start);
+    let start = limits.repair(sub, &mut cmd.start);
     let limits = scan_begin_limits(sub, cmd);
-    let scan_begin = limits.repair(&mut cmd.scan_begin);
+    let scan_begin = limits.repair(sub, &mut cmd.scan_begin);
     let limits = convert_limits(sub, cmd);
-    let convert = limits.repair(&mut cmd.convert);
-    let limits = scan_end_limits(cmd);
-    let scan_end = limits.repair(&mut cmd.scan_end);
+    let convert = limits.repair(sub, &mut cmd.convert);
+    let length = cmd.list.len() as u32;
+    let scan_end = put(&mut cmd.scan_end, length);
     let limits = stop_limits(sub, cmd);
-    let stop = limits.repair(&mut cmd.stop);
+    let stop = limits.repair(sub, &mut cmd.stop);
     start && scan_begin && convert && scan_end && stop
 }
 
@@ -55,15 +56,38 @@ impl Limits {
         }
     }
 
-    // Moves an argument to the nearest value in the limits, and reports whether it was there.
-    fn repair(self, trigger: &mut Trig) -> bool
-        ensures trigger { trigger.new ≡ spec.moved self trigger.old }
+    // Moves an argument to the nearest value in the limits, and reports whether it was there. Of an
+    // external one the line is moved, and bit 31 stays where lines can be inverted.
+    fn repair(self, sub: &Sub, trigger: &mut Trig) -> bool
+        requires { IsTrue (trigger.old.src == source.ext) → self.low ≡ 0 }
+        ensures trigger { trigger.new ≡ spec.moved sub.now self trigger.old }
         ensures result { result ≡ same_trigger trigger.new trigger.old }
     {
-        let old = *trigger;
-        trigger.arg = trigger.arg.min(self.high).max(self.low);
-        *trigger == old
+        let limited = limited(sub, *trigger);
+        let rest = trigger.arg - limited;
+        put(trigger, limited.min(self.high).max(self.low) + rest)
     }
+}
+
+// The part of an argument that its limits are about: the line of an external one.
+fn limited(sub: &Sub, trigger: Trig) -> u32
+    ensures value { result ≡ spec.limited sub.now trigger }
+    ensures part { result ≤ trigger.arg }
+{
+    match trigger.src {
+        EXT => sub.line_of(trigger.arg),
+        _ => trigger.arg,
+    }
+}
+
+// Gives a trigger an argument, and reports whether it had it.
+fn put(trigger: &mut Trig, arg: u32) -> bool
+    ensures trigger { trigger.new ≡ spec.with_arg arg trigger.old }
+    ensures result { result ≡ same_trigger trigger.new trigger.old }
+{
+    let old = *trigger;
+    trigger.arg = arg;
+    *trigger == old
 }
 
 fn start_limits(sub: &Sub, cmd: &Cmd) -> Limits
@@ -126,13 +150,6 @@ pub(crate) fn scan_length(sub: &Sub, cmd: &Cmd) -> u32
     length.min(sub.list_max).max(1)
 }
 
-fn scan_end_limits(cmd: &Cmd) -> Limits
-    requires { length cmd.now.list < 2 ^ 32 }
-    ensures { result ≡ spec.exactly (length cmd.now.list) }
-{
-    Limits::exactly(cmd.list.len() as u32)
-}
-
 fn stop_limits(sub: &Sub, cmd: &Cmd) -> Limits
     ensures { result ≡ spec.stop_limits sub.now cmd.now }
 {
@@ -141,6 +158,7 @@ fn stop_limits(sub: &Sub, cmd: &Cmd) -> Limits
             low: 1,
             high: sub.scans_max,
         },
+        EXT => Limits::lines(sub),
         _ => Limits::exactly(0),
     }
 }

@@ -10,15 +10,19 @@ use std::test::Fail;
 
 #[test]
 fn real_boards_are_printed_and_read_again(rt: HostRuntime) -> Result<(), Fail> {
-    let boards: [&str; 9] = [
+    let boards: [&str; 13] = [
         real_boards::ADL_PCI9111,
+        real_boards::ADL_PCI9111_FIFO,
         real_boards::CB_PCIDAS1602_16,
         real_boards::CIO_DAS16_JR,
         real_boards::CIO_DAS802_16,
         real_boards::COMEDI_TEST,
+        real_boards::DAS1801ST,
         real_boards::DT2811_PGH,
         real_boards::NI_PCI_6025E,
+        real_boards::NI_PCI_6025E_FIFO,
         real_boards::NI_PCI_6221,
+        real_boards::NI_PCI_6704,
         real_boards::NI_PCI_MIO_16E_1,
     ];
     for board in boards {

@@ -8,7 +8,11 @@ mod board_tests;
 #[cfg(test)]
 mod boards;
 #[cfg(test)]
+mod job;
+#[cfg(test)]
 mod real_boards;
+#[cfg(test)]
+mod second_tests;
 #[cfg(test)]
 mod tests;
 #[cfg(test)]

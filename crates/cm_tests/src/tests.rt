@@ -1,39 +1,10 @@
 // Whole jobs, and jobs that are cut short.
 use crate::boards;
+use crate::job::{Job, check, text_of, word};
 use cm_base::memory::{MemSink, MemSource};
-use cm_base::transfer::NoMemory;
 use cm_cli::answer::answer;
 use cm_cli::status::Status;
-use std::alloc::Global;
-use std::process::Abort;
 use std::test::Fail;
-
-// A job of one command: what it shows, its board, its signals, the lines after them, and its whole answer.
-#[derive(Clone, Copy)]
-struct Job {
-    name: &'static str,
-    command: &'static str,
-    board: &'static str,
-    signals: &'static str,
-    lines: &'static str,
-    answer: &'static str,
-    status: Status,
-}
-
-// The text of a job.
-fn text_of(alloc: Global, job: &Job) -> Result<Vec<u8>, NoMemory> {
-    let mut text = job.board.as_bytes().to_vec(alloc)?;
-    text.extend_from_slice(job.signals.as_bytes())?;
-    text.extend_from_slice(job.lines.as_bytes())?;
-    Ok(text)
-}
-
-// The program's one word.
-fn word(alloc: Global, command: &str) -> Result<Vec<String>, NoMemory> {
-    let mut words = Vec::new(alloc);
-    words.push(command.to_string(alloc)?)?;
-    Ok(words)
-}
 
 // Whole jobs and their answers.
 const JOBS: [Job; 18] = [
@@ -141,7 +112,7 @@ const JOBS: [Job; 18] = [
         command: "replay",
         board: "",
         signals: "",
-        lines: "comedi 2\n",
+        lines: "comedi 3\n",
         answer: "refused 1 Limit\n",
         status: Status::Refused,
     },
@@ -206,17 +177,6 @@ fn answers_jobs(rt: HostRuntime) -> Result<(), Fail> {
     for job in JOBS {
         check(&rt, rt.alloc(), &job)?;
     }
-    Ok(())
-}
-
-// Runs a job, which must give its answer and its status.
-fn check(rt: &impl Abort, alloc: Global, job: &Job) -> Result<(), Fail> {
-    let words = word(alloc, job.command)?;
-    let mut source = MemSource::new(text_of(alloc, job)?, 700, Vec::new(alloc));
-    let mut sink = MemSink::new(alloc, 4096, 300, Vec::new(alloc))?;
-    let status = answer(alloc, &words, &mut source, &mut sink);
-    assert_eq!(rt; status, job.status, "at {}", job.name);
-    assert!(rt; sink.text() == job.answer.as_bytes(), "at {}", job.name);
     Ok(())
 }
 

@@ -9,7 +9,7 @@ abbrev pub invariant-loop-alloc : goal.invariant-loop-alloc
 invariant-loop-alloc l = record {
   within : l.at ≤ length l.lines;
   between : IsTrue (is_between (map line_view (drop l.at l.lines)));
-  reported : blocks_from l.end 0 (map line_view l.lines) ≡ with_prefix (l.subs.items) (blocks_from l.end (length l.subs.items) (map line_view (drop l.at l.lines)));
+  reported : blocks_from l.version l.end 0 (map line_view l.lines) ≡ with_prefix (l.subs.items) (blocks_from l.version l.end (length l.subs.items) (map line_view (drop l.at l.lines)));
 }
 
 abbrev pub decreases-loop-alloc : goal.decreases-loop-alloc

@@ -16,10 +16,10 @@ loop-line-preserved c =
     let items : List Item = c.loop-line.invariant.0 in
     let item : Item = c.in_ok-item.item in
     let line : LineText = line_view c.line-item.result in
-    let said : item_after c.args.kind items line ≡ Ok item = sym (c.item_after.ensures items c.loop-line.invariant.1) ∙ at_line_ok _ _ item c.in_ok-item.ensures in (
+    let said : item_after c.args.head.now items line ≡ Ok item = sym (c.item_after.ensures items c.loop-line.invariant.1) ∙ at_line_ok _ _ item c.in_ok-item.ensures in (
       items ++ item ∷ [],
-      c.in_ok-put.ensures ∙ ap (with_item item) c.loop-line.invariant.1 ∙ sym (item_added items item (has_room c.args.kind items line item said)),
+      c.in_ok-put.ensures ∙ ap (with_item item) c.loop-line.invariant.1 ∙ sym (item_added items item (has_room c.args.head.now items line item said)),
       c.loop-line.invariant.2
-          ∙ ap (λ (ls : List LineText). said_after c.args.kind items ls) (next_line c.args.lines.now c.loop-line.line-index c.line-item.result c.loop-line-test.true c.line-item.is)
-          ∙ said_more c.args.kind items line (map line_view (drop (c.loop-line.line-index + 1) c.args.lines.now)) item said,
+          ∙ ap (λ (ls : List LineText). said_after c.args.head.now items ls) (next_line c.args.lines.now c.loop-line.line-index c.line-item.result c.loop-line-test.true c.line-item.is)
+          ∙ said_more c.args.head.now items line (map line_view (drop (c.loop-line.line-index + 1) c.args.lines.now)) item said,
     )

@@ -10,4 +10,4 @@ use Rattle.cm_board.proofs.reading.read_items.Given as goal
 abbrev pub invariant-loop-line : goal.invariant-loop-line
 invariant-loop-line l =
     (items : List Item) × (block_view l.draft ≡ block_of items)
-    × (block_said l.kind (map line_view l.lines) ≡ said_after l.kind items (map line_view (drop l.line-index l.lines)))
+    × (block_said l.head (map line_view l.lines) ≡ said_after l.head items (map line_view (drop l.line-index l.lines)))

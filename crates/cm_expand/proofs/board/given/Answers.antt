@@ -1,8 +1,9 @@
-use Rattle.std.proofs.Common.{◌≡◌, ℕ, ◌+◌, ◌++◌, ◌∷◌, [], length, set, drop, take, Some, None, List, refl, sym, ap, subst, ◌∙◌, arith, length-set}
+use Rattle.std.proofs.Common.{◌≡◌, ◌+◌, ◌++◌, ◌∷◌, [], length, drop, take, Some, List, refl, sym, ap, subst, ◌∙◌, arith, length-set}
 use Rattle.cm_expand.specs.Board.{IsBoard, progress_of}
 use Rattle.cm_expand.specs.Items.{items_of}
 use Rattle.cm_expand.specs.PlanView.{plan_text}
 use Rattle.cm_expand.specs.declared.conv.Conv.{Conv}
+use Rattle.cm_expand.specs.declared.course.Next.TheVariants.{At}
 use Rattle.cm_expand.specs.declared.progress.Progress.{Progress}
 use Rattle.cm_expand.proofs.Boards.{board_follows, board_room, runs_at}
 use Rattle.cm_expand.proofs.Taking.{left_first, more_put, none_left}
@@ -25,10 +26,10 @@ loop-count-preserved c =
     let p = plan_text c.args.plan.now in
     let course = c.args.course.now in
     let count = c.loop-count.count in
-    let r : Progress = record { course = course; spot = c.in-Some.now } in
-    let is = runs_at p (c.args.place + count) (Some course) c.loop-count.spot (Some c.in-Some.now) course refl c.in-Some.is c.loop-count.invariant.board in
+    let r : Progress = record { course = course; spot = c.in-At.now } in
+    let is = runs_at p (c.args.place + count) (Some course) c.loop-count.spot (At c.in-At.now) course refl c.in-At.is c.loop-count.invariant.board in
     let one = ap (length {A = Conv}) (left_first p c.args.place count r is) in
-    let next = board_follows p (c.args.place + count) (Some course) course c.in-Some.now c.following-spot.result refl is c.following-spot.ensures.rest c.following-spot.ensures.spot c.following-spot.ensures.index in
+    let next = board_follows p (c.args.place + count) (Some course) course c.in-At.now c.following-spot.result refl is c.following-spot.ensures.rest c.following-spot.ensures.full c.following-spot.ensures.spot c.following-spot.ensures.index in
     let there : c.args.place + count + 1 ≡ c.args.place + (count + 1) = omega arith in
     let kept = length-set c.loop-count.out count c.conversion.result in
     let size = c.loop-count.invariant.size in
@@ -46,9 +47,7 @@ pub returns-in_default-clause-count : goal.returns-in_default-clause-count
 returns-in_default-clause-count c =
     let p = plan_text c.args.plan.now in
     let course = c.args.course.now in
-    let ended : c.loop-count.spot ≡ None = cc in
-    let is = runs_at p (c.args.place + c.loop-count.count) (Some course) c.loop-count.spot None course refl ended c.loop-count.invariant.board in
-    let none = ap (length {A = Conv}) (none_left p c.args.place c.loop-count.count is) in
+    let none = ap (length {A = Conv}) (none_left p c.args.place c.loop-count.count (Some course) c.loop-count.spot c.in_default.not-At c.loop-count.invariant.board) in
     let come = c.loop-count.invariant.come in
     let size = c.loop-count.invariant.size in
     omega arith
@@ -57,6 +56,6 @@ pub overflow_add-place : goal.overflow_add-place
 overflow_add-place c =
     let p = plan_text c.args.plan.now in
     let course = c.args.course.now in
-    let is = runs_at p (c.args.place + c.loop-count.count) (Some course) c.loop-count.spot (Some c.in-Some.now) course refl c.in-Some.is c.loop-count.invariant.board in
-    let room = board_room p (c.args.place + c.loop-count.count) (record { course = course; spot = c.in-Some.now }) is in
+    let is = runs_at p (c.args.place + c.loop-count.count) (Some course) c.loop-count.spot (At c.in-At.now) course refl c.in-At.is c.loop-count.invariant.board in
+    let room = board_room p (c.args.place + c.loop-count.count) (record { course = course; spot = c.in-At.now }) is in
     omega arith

@@ -1,12 +1,11 @@
-use Rattle.std.proofs.Common.{◌≡◌, ℕ, ◌+◌, ◌++◌, ◌∷◌, [], length, set, drop, take, Some, None, List, refl, sym, ap, subst, ◌∙◌, arith, length-set}
-use Rattle.std.specs.Prelude.{Option}
+use Rattle.std.proofs.Common.{◌≡◌, ◌+◌, ◌++◌, ◌∷◌, [], drop, take, Some, refl, sym, ap, subst, ◌∙◌, arith, length-set}
 use Rattle.std.proofs.lemmas.List.{map-append}
 use Rattle.cm_expand.specs.Board.{IsBoard, progress_of}
-use Rattle.cm_expand.specs.Items.{conv_at, items_of, raw_at}
+use Rattle.cm_expand.specs.Items.{items_of, raw_at}
 use Rattle.cm_expand.specs.PlanView.{plan_text}
 use Rattle.cm_expand.specs.Taking.{come_first, raw_words}
 use Rattle.cm_expand.specs.declared.conv.Conv.{Conv}
-use Rattle.cm_expand.specs.declared.course.Spot.{Spot}
+use Rattle.cm_expand.specs.declared.course.Next.TheVariants.{At}
 use Rattle.cm_expand.specs.declared.progress.Progress.{Progress}
 use Rattle.cm_expand.proofs.Boards.{board_follows, runs_at}
 use Rattle.cm_expand.proofs.Taking.{late_first, more_put, none_left, some_first}
@@ -29,11 +28,11 @@ loop-count-preserved c =
     let p = plan_text c.args.plan.now in
     let course = c.args.course.now in
     let count = c.loop-count.count in
-    let r : Progress = record { course = course; spot = c.in-Some.now } in
-    let is = runs_at p (c.args.place + count) (Some course) c.loop-count.spot (Some c.in-Some.now) course refl c.in-Some.is c.loop-count.invariant.board in
+    let r : Progress = record { course = course; spot = c.in-At.now } in
+    let is = runs_at p (c.args.place + count) (Some course) c.loop-count.spot (At c.in-At.now) course refl c.in-At.is c.loop-count.invariant.board in
     let one = some_first p c.args.place count c.args.time r is (omega arith) in
-    let next = board_follows p (c.args.place + count) (Some course) course c.in-Some.now c.following-spot.result refl is c.following-spot.ensures.rest c.following-spot.ensures.spot c.following-spot.ensures.index in
-    let word = c.raw_word.ensures ∙ ap (λ i. raw_at p i c.in-Some.now.time) is.running.index in
+    let next = board_follows p (c.args.place + count) (Some course) course c.in-At.now c.following-spot.result refl is c.following-spot.ensures.rest c.following-spot.ensures.full c.following-spot.ensures.spot c.following-spot.ensures.index in
+    let word = c.raw_word.ensures ∙ ap (λ i. raw_at p i c.in-At.now.time) is.running.index in
     let there : c.args.place + count + 1 ≡ c.args.place + (count + 1) = omega arith in
     let kept = length-set c.loop-count.out count c.raw_word.result in
     let size = c.loop-count.invariant.size in
@@ -51,9 +50,7 @@ pub returns-in_default-clause-count : goal.returns-in_default-clause-count
 returns-in_default-clause-count c =
     let p = plan_text c.args.plan.now in
     let course = c.args.course.now in
-    let ended : c.loop-count.spot ≡ None = cc in
-    let is = runs_at p (c.args.place + c.loop-count.count) (Some course) c.loop-count.spot None course refl ended c.loop-count.invariant.board in
-    let none = ap (come_first c.args.time) (none_left p c.args.place c.loop-count.count is) in
+    let none = ap (come_first c.args.time) (none_left p c.args.place c.loop-count.count (Some course) c.loop-count.spot c.in_default.not-At c.loop-count.invariant.board) in
     let come = c.loop-count.invariant.come in
     let size = c.loop-count.invariant.size in
     omega arith
@@ -62,8 +59,8 @@ pub returns-then-time-now-clause-count : goal.returns-then-time-now-clause-count
 returns-then-time-now-clause-count c =
     let p = plan_text c.args.plan.now in
     let course = c.args.course.now in
-    let is = runs_at p (c.args.place + c.loop-count.count) (Some course) c.loop-count.spot (Some c.in-Some.now) course refl c.in-Some.is c.loop-count.invariant.board in
-    let late = late_first p c.args.place c.loop-count.count c.args.time (record { course = course; spot = c.in-Some.now }) is c.if-time-now.true in
+    let is = runs_at p (c.args.place + c.loop-count.count) (Some course) c.loop-count.spot (At c.in-At.now) course refl c.in-At.is c.loop-count.invariant.board in
+    let late = late_first p c.args.place c.loop-count.count c.args.time (record { course = course; spot = c.in-At.now }) is c.if-time-now.true in
     let come = c.loop-count.invariant.come in
     let size = c.loop-count.invariant.size in
     omega arith

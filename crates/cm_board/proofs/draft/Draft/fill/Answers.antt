@@ -1,9 +1,9 @@
 use Rattle.std.proofs.Common.{ℕ, ap, ◌∙◌}
-use Rattle.cm_board.specs.Block.{masks_said, said_or}
+use Rattle.cm_board.specs.Block.{masks_said, said_or, sets_of}
 use Rattle.std.specs.Prelude.{option_to_list}
 use Rattle.cm_board.specs.declared.items.Sources.{Sources}
 use Rattle.cm_board.specs.declared.items.Span.{Span}
-use Rattle.cm_board.proofs.Fields.{flag, said, scans_default}
+use Rattle.cm_board.proofs.Fields.{first, flag, said, scans_default}
 use Rattle.cm_board.proofs.draft.Draft.fill.Goals as goal
 
 pub returns : goal.returns
@@ -25,4 +25,7 @@ returns c = λ i. record {
   buffer = said c.args.self.buffer _ _ c.unwrap_or-9.ensures i;
   same_range = flag c.args.self.same_range i;
   forbidden = c.args.self.forbidden.items;
+  chans = (c.in_ok-chans.ensures ∙ ap (sets_of c.args.head.channels) c.deref.ensures.value) i;
+  invert = flag c.args.self.invert i;
+  fifo = first c.args.self.fifo i;
 }

@@ -1,4 +1,4 @@
-use Rattle.std.proofs.Common.{List, length, min, Some, refl, sym, ap, ◌∙◌, arith}
+use Rattle.std.proofs.Common.{length, refl, ap, arith}
 use Rattle.cm_expand.specs.Board.{BoardState}
 use Rattle.cm_expand.specs.PlanView.{plan_text}
 use Rattle.cm_expand.specs.Taking.{left_of}

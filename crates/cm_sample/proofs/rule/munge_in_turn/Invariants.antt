@@ -1,0 +1,13 @@
+use Rattle.std.proofs.Common.{◌≡◌, ◌+◌, ◌%◌, ◌<◌, length, false}
+use Rattle.cm_sample.specs.Rule.{munged_word, rule_text}
+use Rattle.cm_sample.proofs.Mapped.{mapped_to}
+use Rattle.cm_sample.proofs.rule.munge_in_turn.Given as goal
+
+-- the words so far are munged, and the item of the next
+abbrev pub invariant-loop-i : goal.invariant-loop-i
+invariant-loop-i l = record {
+  so_far : l.words ≡ mapped_to (munged_word (rule_text l.items l.out false)) l.place l.i l.initial.words;
+  size : length l.words ≡ length l.initial.words;
+  index : l.index ≡ (l.place + l.i) % length l.items;
+  within : l.index < length l.items;
+}
