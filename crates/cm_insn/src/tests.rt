@@ -65,7 +65,7 @@ const ROWS: [Row; 36] = [
     // Lines that are only inputs are read.
     (4, 0, InsnCode::Bits, (0, 0), &[3, 1], Some(&[3, 2])),
     (4, 0, InsnCode::Config, (0, 0), &[1], None),
-    // The time of day is told everywhere, and nothing else where there is no subdevice.
+    // The time of day is given everywhere, and nothing else where there is no subdevice.
     (3, 0, InsnCode::Read, (0, 0), &[0], None),
     (3, 0, InsnCode::Bits, (0, 0), &[0, 0], None),
     (
