@@ -149,6 +149,11 @@ abbrev pub one_and_more : List (List ℕ) → Result (List ℕ × List (List ℕ
 one_and_more (v ∷ w ∷ more) = Ok (v, w ∷ more)
 one_and_more words = Err BadLine
 
+-- the first two words, and at least one after them
+abbrev pub two_and_more : List (List ℕ) → Result (List ℕ × List ℕ × List (List ℕ)) Fault
+two_and_more (v ∷ w ∷ x ∷ more) = Ok (v, w, x ∷ more)
+two_and_more words = Err BadLine
+
 -- the first three words, and those after them
 abbrev pub three_and_more : List (List ℕ) → Result (List ℕ × List ℕ × List ℕ × List (List ℕ)) Fault
 three_and_more (v ∷ w ∷ x ∷ more) = Ok (v, w, x, more)

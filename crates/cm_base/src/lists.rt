@@ -32,6 +32,36 @@ impl Ints {
     }
 }
 
+/// Numbers, such as the words of a line or the data of an instruction, seen by contracts as their list.
+#[derive(Drop)]
+pub struct Nums {
+    items: Vec<u32>,
+}
+
+impl Model for Nums {
+    ghost use Rattle.std.specs.Prelude.{List, ℕ};
+
+    ghost Value = { List ℕ };
+
+    ghost view = { λ n. n.items.items };
+}
+
+impl Nums {
+    ghost use Rattle.std.specs.Prelude.{◌≡◌};
+
+    pub fn new(items: Vec<u32>) -> Nums
+        ensures { result ≡ items.items }
+    {
+        Nums { items }
+    }
+
+    pub fn as_slice(&self) -> &[u32]
+        ensures { result.now ≡ self.now }
+    {
+        &self.items
+    }
+}
+
 /// Times in nanoseconds, seen by contracts as their list.
 #[derive(Drop)]
 pub struct Times {

@@ -2,7 +2,7 @@
 ghost use Rattle.std.specs.Prelude.{[], map, ◌≡◌, ◌<◌, ◌≤◌, ◌^◌, ◌+◌, length, drop, IfOk, IfSome};
 ghost use Rattle.std.specs.List.{position, slice_split};
 ghost use Rattle.cm_base.specs.Source.{bit_of};
-ghost use Rattle.cm_base.specs.Words.{each_word, up_to, values, number_below, number_in, one_and_more, three_and_more, signed_number, bit_from, bits_of, is_bar, source_of, source_in, sources_in, no_words, one_word, two_words, three_words, four_words, five_words};
+ghost use Rattle.cm_base.specs.Words.{each_word, up_to, values, number_below, number_in, one_and_more, two_and_more, three_and_more, signed_number, bit_from, bits_of, is_bar, source_of, source_in, sources_in, no_words, one_word, two_words, three_words, four_words, five_words};
 ghost use Rattle.cm_base.specs.ReadStop.{Gives};
 ghost use Rattle.cm_base.specs.Reading.{at_line, seen};
 
@@ -252,6 +252,25 @@ pub fn one_and_more<'a, 'b>(words: &'b [&'a [u8]]) -> Result<(&'a [u8], &'b [&'a
     }
 }
 
+/// The first two words, and at least one after them.
+pub fn two_and_more<'a, 'b>(
+    words: &'b [&'a [u8]],
+) -> Result<(&'a [u8], &'a [u8], &'b [&'a [u8]]), Fault>
+    ensures value { seen (λ w. (w.0.now, w.1.now, map (λ word. word.now) w.2.now)) result ≡ two_and_more (map (λ word. word.now) words.now) }
+    ensures some { IfOk result (λ w. 1 ≤ length w.2.now) }
+{
+    match words {
+        [v, w, more @ ..] => {
+            if more.is_empty() {
+                Err(Fault::BadLine)
+            } else {
+                Ok((v, w, more))
+            }
+        }
+        _ => Err(Fault::BadLine),
+    }
+}
+
 /// The first three words, and those after them.
 pub fn three_and_more<'a, 'b>(
     words: &'b [&'a [u8]],
@@ -284,6 +303,34 @@ pub fn times_in(alloc: Global, line: u32, words: &[&[u8]], most: u64) -> Result<
         times.push(time)?;
     }
     Ok(times)
+}
+
+/// At most `count` numbers of 32 bits of the line with this number.
+pub fn numbers(
+    alloc: Global,
+    line: u32,
+    words: &[&[u8]],
+    count: usize,
+) -> Result<Vec<u32>, ReadStop>
+    ensures { Gives (λ numbers. numbers.items) result (at_line line (values count (number_in 0 4294967295) [] (map (λ word. word.now) words.now))) }
+{
+    let mut numbers = Vec::new(alloc);
+    for word in words {
+        let number = at_line(line, number_after(numbers.len(), word, count))?;
+        numbers.push(number)?;
+    }
+    Ok(numbers)
+}
+
+// A number of 32 bits after others, of which at most `count` may stand.
+fn number_after(before: usize, word: &[u8], count: usize) -> Result<u32, Fault>
+    ensures { result ≡ up_to count (number_in 0 4294967295) before word.now }
+{
+    if before < count {
+        number_in(word, 0, u32::MAX)
+    } else {
+        Err(Fault::Limit)
+    }
 }
 
 /// At most `count` signed numbers of the line with this number.

@@ -9,7 +9,7 @@ use Rattle.std.proofs.lemmas.Bool.{le-leb, eqb-true, eq-eqb}
 use Rattle.cm_base.specs.declared.faults.Fault.TheVariants as faults
 use Rattle.cm_base.proofs.Bools.{and_true, both, not_true}
 use Rattle.cm_base.specs.Source.{allows, ext}
-use Rattle.cm_board.specs.Board.{ChanText, HasLine, IsSoundSub, Masks, SubText, are_empty, are_full, fits_commands, fits_kind, fits_lines, fits_range, has_channels, has_text, is_bare, is_fifo, is_idle, is_maxdata, is_munge, is_pair, is_plain, is_unused, may_command, may_fifo, takes_commands}
+use Rattle.cm_board.specs.Board.{ChanText, HasLine, IsSoundSub, Masks, SubText, are_empty, are_full, fits_commands, fits_kind, fits_lines, fits_range, has_channels, has_text, idle_sub, is_bare, is_fifo, is_idle, is_maxdata, is_munge, is_pair, is_plain, is_unused, may_command, may_fifo, takes_commands}
 use Rattle.cm_board.specs.Block.{block_of, count_of, finished, has_line, is_board_ok, is_empty, lacks, masks_said, most_of, no_sources, sets_of, sub_of}
 use Rattle.cm_board.specs.Rows.{Block, block_by, field, said}
 use Rattle.cm_board.specs.declared.items.Row.{Row}
@@ -271,22 +271,7 @@ nil_if (x ∷ xs) h = absurd (grind (arith, nat_tests))
 
 -- a subdevice with the numbers of one that takes no commands
 abbrev idle_of : SubText → SubText
-idle_of s = record s {
-  masks = masks_said no_sources;
-  tick = 1;
-  scan_min = 1;
-  scan_max = 1;
-  conv_min = 1;
-  conv_max = 1;
-  list_max = 1;
-  scans_max = 1;
-  lines = 0;
-  buffer = 1;
-  same_range = false;
-  forbidden = [];
-  invert = false;
-  fifo = None;
-}
+idle_of s = record (idle_sub s.kind s.channels s.maxdata s.ranges) { munge = s.munge; chans = s.chans }
 
 no_masks : (m : Masks) → are_empty m ≡ true → m ≡ masks_said no_sources
 no_masks m h =

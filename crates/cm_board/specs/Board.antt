@@ -51,6 +51,35 @@ pub record SubText : Type 0 where
   pub invert : Bool
   pub fifo : Option Fifo
 
+-- a subdevice of a kind that takes no commands, with this many channels, this greatest code and these ranges, and nothing else
+abbrev pub idle_sub : Kind → ℕ → ℕ → List Range → SubText
+idle_sub kind channels maxdata ranges = record {
+  kind = kind;
+  channels = channels;
+  maxdata = maxdata;
+  munge = munges.Plain;
+  ranges = ranges;
+  masks = record { start = 0; scan_begin = 0; convert = 0; scan_end = 0; stop = 0 };
+  tick = 1;
+  scan_min = 1;
+  scan_max = 1;
+  conv_min = 1;
+  conv_max = 1;
+  list_max = 1;
+  scans_max = 1;
+  lines = 0;
+  buffer = 1;
+  same_range = false;
+  forbidden = [];
+  chans = [];
+  invert = false;
+  fifo = None;
+}
+
+-- a place of a board that has no subdevice
+abbrev pub no_sub : SubText
+no_sub = idle_sub kinds.Unused 0 1 []
+
 -- a board as a plain record
 pub record BoardText : Type 0 where
   pub version : ℕ

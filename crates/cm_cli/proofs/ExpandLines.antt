@@ -13,7 +13,8 @@ use Rattle.cm_base.proofs.Each.{each-more}
 use Rattle.cm_base.proofs.Values.{at_line_ok}
 use Rattle.cm_board.specs.Board.{BoardText, SubText}
 use Rattle.cm_cmd.specs.Command.{CmdText}
-use Rattle.cm_replay.specs.Session.{Setting, no_sub, sub_at}
+use Rattle.cm_board.specs.Board.{no_sub}
+use Rattle.cm_replay.specs.State.{Setting, sub_at}
 use Rattle.cm_test.specs.Questions.{tested}
 use Rattle.cm_cli.specs.ExpandSession.{CanExpand, accepted_line, expand_line, is_accepted, length_of, length_of_all}
 use Rattle.cm_cli.specs.declared.expanding.ExpandLine.{ExpandLine}

@@ -12,7 +12,7 @@ use Rattle.cm_expand.specs.Items.{items_of}
 use Rattle.cm_expand.specs.Plan.{PlanText, is_complete}
 use Rattle.cm_expand.specs.Taking.{left_of}
 use Rattle.cm_expand.specs.declared.conv.Conv.{Conv}
-use Rattle.cm_replay.specs.Session.{Setting}
+use Rattle.cm_replay.specs.State.{Setting}
 use Rattle.cm_cli.specs.ExpandSession.{conversion_line, end_line, expands_text, expansion_text, plan_of}
 use Rattle.cm_cli.specs.declared.expanding.ExpandLine.{ExpandLine}
 use Rattle.cm_cli.proofs.Texts.{next-item}

@@ -1,9 +1,7 @@
-pub mod After
 pub mod ExpandLines
 pub mod Expansions
-pub mod InOrder
-pub mod Served
-pub mod Tests
 pub mod Rooms
-pub mod Texts
+pub mod Served
 pub mod Tails
+pub mod Tests
+pub mod Texts

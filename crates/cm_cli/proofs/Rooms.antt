@@ -10,7 +10,7 @@ use Rattle.cm_base.specs.declared.faults.Fault.TheVariants.{Limit}
 use Rattle.cm_base.specs.declared.faults.ReadStop.{ReadStop}
 use Rattle.cm_base.specs.declared.faults.ReadStop.TheVariants as stops
 use Rattle.cm_expand.specs.declared.conv.TooMany.{TooMany}
-use Rattle.cm_replay.specs.Session.{Setting}
+use Rattle.cm_replay.specs.State.{Setting}
 use Rattle.cm_cli.specs.ExpandSession.{has_room, length_of, length_of_all}
 use Rattle.cm_cli.specs.Totals.{Adds, Reports}
 use Rattle.cm_cli.specs.declared.expanding.ExpandLine.{ExpandLine}

@@ -8,7 +8,8 @@ use Rattle.cm_base.specs.Transfer.{IsUnderWay}
 use Rattle.cm_base.proofs.UnderWay.{under_way-more}
 use Rattle.cm_board.specs.Board.{BoardText, SubText}
 use Rattle.cm_cmd.specs.Command.{CmdText}
-use Rattle.cm_replay.specs.Session.{no_sub, sub_at}
+use Rattle.cm_board.specs.Board.{no_sub}
+use Rattle.cm_replay.specs.State.{sub_at}
 use Rattle.cm_cli.specs.TestSession.{test_answer, test_on, tests_text}
 use Rattle.cm_cli.proofs.Texts.{next-item}
 

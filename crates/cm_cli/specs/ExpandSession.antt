@@ -14,7 +14,7 @@ use Rattle.cm_cmd.specs.CommandText.{command_of}
 use Rattle.cm_expand.specs.Items.{items_of}
 use Rattle.cm_expand.specs.Plan.{PlanText, is_complete}
 use Rattle.cm_expand.specs.declared.conv.Conv.{Conv}
-use Rattle.cm_replay.specs.Session.{Setting, plan_at, sub_at}
+use Rattle.cm_replay.specs.State.{Setting, plan_at, sub_at}
 use Rattle.cm_test.specs.Questions.{tested}
 use Rattle.cm_cli.specs.Sessions.{only_word}
 use Rattle.cm_cli.specs.declared.expanding.ExpandLine.{ExpandLine}

@@ -1,13 +1,13 @@
 pub mod Answer
 pub mod Asked
-pub mod Tasks
 pub mod ExpandSession
-pub mod FirstSession
 pub mod Said
 pub mod Serving
 pub mod Sessions
 pub mod Statuses
 pub mod Stopped
+pub mod Tasks
 pub mod TestSession
 pub mod Top
 pub mod Totals
+pub mod Unplayed

@@ -4,11 +4,11 @@ use Rattle.std.specs.String.{string_bytes}
 use Rattle.std.specs.declared.alloc.Global.{Global}
 use Rattle.cm_base.specs.Words.{listed}
 use Rattle.cm_cli.specs.declared.task.Task.{Task}
-use Rattle.cm_cli.specs.declared.task.Task.TheVariants.{Test, Expand, Replay}
+use Rattle.cm_cli.specs.declared.task.Task.TheVariants.{Test, Expand, Insn, Replay}
 
 -- the task that a word names
 abbrev pub task_named : List ℕ → Option Task
-task_named = listed ((codes "test", Test) ∷ (codes "expand", Expand) ∷ (codes "replay", Replay) ∷ [])
+task_named = listed ((codes "test", Test) ∷ (codes "expand", Expand) ∷ (codes "insn", Insn) ∷ (codes "replay", Replay) ∷ [])
 
 -- the task that one word asks
 abbrev pub task_of : List (String Global) → Option Task

@@ -9,7 +9,7 @@ use Rattle.cm_base.specs.declared.faults.Refused.{Refused}
 use Rattle.cm_board.specs.Board.{BoardText, SubText, takes_commands}
 use Rattle.cm_cmd.specs.Command.{CmdText}
 use Rattle.cm_cmd.specs.CommandText.{command_of, command_text}
-use Rattle.cm_replay.specs.Session.{sub_at}
+use Rattle.cm_replay.specs.State.{sub_at}
 use Rattle.cm_test.specs.Questions.{tested}
 use Rattle.cm_cli.specs.Sessions.{only_word}
 

@@ -2,7 +2,7 @@
 use Rattle.std.specs.Prelude.{◌≡◌, ℕ, ◌+◌, ◌≤◌, true, false, Result, Ok, Err}
 use Rattle.cm_base.specs.declared.faults.Fault.{Fault}
 use Rattle.cm_base.specs.declared.faults.Fault.TheVariants.{Limit}
-use Rattle.cm_replay.specs.Session.{Setting}
+use Rattle.cm_replay.specs.State.{Setting}
 use Rattle.cm_cli.specs.ExpandSession.{has_room, length_of}
 use Rattle.cm_cli.specs.declared.expanding.ExpandLine.{ExpandLine}
 use Rattle.cm_cli.specs.declared.totals.Total.{Total}

@@ -4,10 +4,10 @@
 pub mod answer;
 pub mod asked;
 pub mod expanding;
-pub mod first_session;
 pub mod serving;
 pub mod status;
 pub mod stop;
 pub mod task;
 pub mod testing;
 pub mod totals;
+pub mod unplayed;

@@ -1,16 +1,18 @@
 // A whole text, and what is made of it.
-ghost use Rattle.std.specs.Prelude.{◌≡◌, ◌-◌, ◌<◌, ◌≤◌, ◌^◌, length, IsErrOf};
+ghost use Rattle.std.specs.Prelude.{◌≡◌, ◌-◌, ◌<◌, ◌≤◌, ◌^◌, true, drop, length, IfOk, IsErrOf};
+ghost use Rattle.std.specs.List.{All};
 ghost use Rattle.cm_base.specs.Causes.{Rose};
 ghost use Rattle.cm_base.specs.ReadStop.{Gives};
+ghost use Rattle.cm_replay.specs.Replies.{is_played};
 ghost use Rattle.cm_signal.specs.Fitting.{FitBoard};
-ghost use Rattle.cm_cli.specs.Said.{expands_said, job_of, lines_said, replay_said, said, session_said, tests_said};
+ghost use Rattle.cm_cli.specs.Said.{expands_said, job_of, lines_said, said, session_answer, session_said, tests_said};
 ghost use Rattle.cm_cli.specs.Serving.{Serves};
 
 use crate::expanding::{expand_all, read_expands};
-use crate::first_session::read_session;
 use crate::stop::Stop;
 use crate::task::Task;
 use crate::testing::{read_tests, test_all};
+use crate::unplayed::check_played;
 use cm_base::faults::ReadStop;
 use cm_base::lines::{Cursor, Lines, split_lines};
 use cm_base::outside::Sink;
@@ -19,6 +21,7 @@ use cm_board::reading::read_board;
 use cm_replay::job::Job;
 use cm_replay::replay::replay;
 use cm_replay::setting::Setting;
+use cm_session::reading::read_session;
 use cm_signal::reading::read_signals;
 use cm_signal::signals::Signals;
 use std::alloc::Global;
@@ -52,8 +55,7 @@ fn serve_lines<K: Sink>(
 {
     let (board, at) = read_board(alloc, lines)?;
     let (signals, at) = read_signals(alloc, &board, lines, at)?;
-    let end = lines.end();
-    serve_session(alloc, task, board, signals, lines.from(at), end, sink)
+    serve_session(alloc, task, board, signals, lines, at, sink)
 }
 
 fn serve_session<K: Sink>(
@@ -61,19 +63,20 @@ fn serve_session<K: Sink>(
     task: Task,
     board: BoardDesc,
     signals: Signals,
-    lines: Cursor<'_>,
-    end: u32,
+    lines: &Lines<'_>,
+    at: usize,
     sink: &mut K,
 ) -> Result<(), Stop>
     requires { FitBoard board.subs signals }
-    ensures said { Serves result (session_said task (record { board = board; signals = signals }) end lines.entry) (K.text sink.old) (K.text sink.new) }
+    ensures said { Serves result (session_said task (record { board = board; signals = signals }) (drop at lines.now.list)) (K.text sink.old) (K.text sink.new) }
     ensures fault { IsErrOf result Stop.WriteFault → Rose (K.faults sink.old) (K.faults sink.new) }
     ensures later { K.faults sink.old ≤ K.faults sink.new }
 {
     match task {
-        Task::Test => serve_tests(alloc, &board, lines, sink),
-        Task::Expand => serve_expands(alloc, &board, &signals, lines, sink),
-        Task::Replay => serve_replay(alloc, board, signals, lines, end, sink),
+        Task::Test => serve_tests(alloc, &board, lines.from(at), sink),
+        Task::Expand => serve_expands(alloc, &board, &signals, lines.from(at), sink),
+        Task::Insn => play(alloc, true, board, signals, lines, at, sink),
+        Task::Replay => play(alloc, false, board, signals, lines, at, sink),
     }
 }
 
@@ -109,42 +112,44 @@ fn serve_expands<K: Sink>(
     Ok(())
 }
 
-fn serve_replay<K: Sink>(
+// Plays a session, of instructions alone or of all kinds of lines.
+fn play<K: Sink>(
     alloc: Global,
+    only_insn: bool,
     board: BoardDesc,
     signals: Signals,
-    lines: Cursor<'_>,
-    end: u32,
+    lines: &Lines<'_>,
+    at: usize,
     sink: &mut K,
 ) -> Result<(), Stop>
     requires { FitBoard board.subs signals }
-    ensures said { Serves result (replay_said (record { board = board; signals = signals }) end lines.entry) (K.text sink.old) (K.text sink.new) }
+    ensures said { Serves result (session_answer only_insn (record { board = board; signals = signals }) (drop at lines.now.list)) (K.text sink.old) (K.text sink.new) }
     ensures fault { IsErrOf result Stop.WriteFault → Rose (K.faults sink.old) (K.faults sink.new) }
     ensures later { K.faults sink.old ≤ K.faults sink.new }
 {
-    let job = read_job(alloc, board, signals, lines, end)?;
+    let job = read_job(alloc, only_insn, board, signals, lines, at)?;
     replay(alloc, &job, sink)?;
     Ok(())
 }
 
-// The job of a replay.
+// The job of a session.
 fn read_job(
     alloc: Global,
+    only_insn: bool,
     board: BoardDesc,
     signals: Signals,
-    lines: Cursor<'_>,
-    end: u32,
+    lines: &Lines<'_>,
+    at: usize,
 ) -> Result<Job, ReadStop>
     requires { FitBoard board.subs signals }
-    ensures { Gives (λ job. job) result (job_of (record { board = board; signals = signals }) end lines.entry) }
+    ensures job { Gives (λ job. job) result (job_of only_insn (record { board = board; signals = signals }) (drop at lines.now.list)) }
+    ensures played { IfOk result (λ job. All (λ line. is_played job.board line.op ≡ true) job.lines) }
 {
-    let sub = &board.subs[0];
-    // This read shows what holds of each subdevice, which the session's lines need.
-    let _kind = sub.kind;
-    let lines = read_session(alloc, sub, signals.horizon, lines, end)?;
+    let session = read_session(alloc, &signals, lines, at, only_insn)?;
+    check_played(alloc, &board, lines.from(at), &session)?;
     Ok(Job {
         board,
         signals,
-        lines,
+        lines: session,
     })
 }

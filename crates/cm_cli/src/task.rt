@@ -8,6 +8,8 @@ pub enum Task {
     Test,
     /// Lists the conversions of commands.
     Expand,
+    /// Plays a session of instructions, without commands.
+    Insn,
     /// Replays a session in board time.
     Replay,
 }
@@ -31,6 +33,8 @@ fn task_named(word: &[u8]) -> Option<Task>
         Some(Task::Test)
     } else if word == b"expand".as_slice() {
         Some(Task::Expand)
+    } else if word == b"insn".as_slice() {
+        Some(Task::Insn)
     } else if word == b"replay".as_slice() {
         Some(Task::Replay)
     } else {

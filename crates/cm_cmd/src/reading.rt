@@ -150,9 +150,9 @@ fn read_next_entry(before: usize, text: &[u8]) -> Result<u32, Fault>
     }
 }
 
-// A channel, a range and a reference, with slashes between them.
+/// The list entry that a word says: a channel, a range and a reference, with slashes between them.
 #[tactic(auto, unfolding(crate::specs::ListText::entry_of))]
-fn read_entry(text: &[u8]) -> Result<u32, Fault>
+pub fn read_entry(text: &[u8]) -> Result<u32, Fault>
     ensures { result ≡ lists.entry_of text.now }
 {
     let (chan, range, aref) = three_parts(text, b'/')?;

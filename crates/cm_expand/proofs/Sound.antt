@@ -96,7 +96,7 @@ until_within p start by =
 
 -- the edges of a line
 
-course_is : (p : PlanText) (start : ℕ) → IsSoundPlan p → start_of p ≡ Some start → IsCourse (course_from p start)
+pub course_is : (p : PlanText) (start : ℕ) → IsSoundPlan p → start_of p ≡ Some start → IsCourse (course_from p start)
 course_is p start sound begun =
     let fits = fit p sound.sub sound.plan in
     let inside = (passed p.sub p.cmd sound.sub sound.plan.passed).inside in

@@ -1,6 +1,6 @@
 -- Instructions at worked values, on eight digital lines and on two outputs of twelve bits.
 use Rattle.std.proofs.Common.{◌≡◌, ℕ, true, false, List, [], ◌∷◌, Option, Some, None, pos, replicate, set, refl}
-use Rattle.cm_board.specs.Board.{SubText, maxdata_of, ranges_of}
+use Rattle.cm_board.specs.Board.{SubText, idle_sub, maxdata_of, ranges_of}
 use Rattle.cm_board.specs.declared.board.Kind.{Kind}
 use Rattle.cm_board.specs.declared.board.Kind.TheVariants as kinds
 use Rattle.cm_board.specs.declared.board.Munge.TheVariants as munges
@@ -11,35 +11,10 @@ use Rattle.cm_insn.specs.Insn.{Done, insn}
 use Rattle.cm_insn.specs.Site.{SiteText}
 use Rattle.cm_insn.specs.declared.insn.InsnCode.TheVariants as codes
 
--- a subdevice without commands
-abbrev sub_of : Kind → ℕ → ℕ → Range → SubText
-sub_of kind channels maxdata range = record {
-  kind = kind;
-  channels = channels;
-  maxdata = maxdata;
-  munge = munges.Plain;
-  ranges = range ∷ [];
-  masks = record { start = 0; scan_begin = 0; convert = 0; scan_end = 0; stop = 0 };
-  tick = 1;
-  scan_min = 1;
-  scan_max = 1;
-  conv_min = 1;
-  conv_max = 1;
-  list_max = 1;
-  scans_max = 1;
-  lines = 0;
-  buffer = 1;
-  same_range = false;
-  forbidden = [];
-  chans = [];
-  invert = false;
-  fifo = None;
-}
-
 -- eight lines
 abbrev lines : SiteText
 lines = record {
-  sub = sub_of kinds.Dio 8 1 (record { min = pos 0; max = pos 1; unit = 2 });
+  sub = idle_sub kinds.Dio 8 1 (record { min = pos 0; max = pos 1; unit = 2 } ∷ []);
   index = 0;
   signals = record { horizon = 3000000000; waves = []; edges = []; falls = []; ints = [] };
   time = 2500001000;
@@ -47,7 +22,7 @@ lines = record {
 
 -- two outputs, at the next place
 abbrev outputs : SiteText
-outputs = record lines { sub = sub_of kinds.Ao 2 4095 (record { min = pos 0; max = pos 1; unit = 0 }); index = 1 }
+outputs = record lines { sub = idle_sub kinds.Ao 2 4095 (record { min = pos 0; max = pos 1; unit = 0 } ∷ []); index = 1 }
 
 -- the state of eight lines of which the fourth is an output with this value
 abbrev fourth : ℕ → StateText

@@ -1,5 +1,5 @@
 // What each instruction does.
-ghost use Rattle.std.specs.Prelude.{◌≡◌, ◌≤◌, length};
+ghost use Rattle.std.specs.Prelude.{◌≡◌, ◌≤◌, ◌^◌, length};
 ghost use Rattle.cm_board.specs.Board as board;
 ghost use Rattle.cm_insn.specs.Insn as table;
 ghost use Rattle.cm_insn.specs.Insn.{answer_of, insn_at, state_after, words_after};
@@ -189,16 +189,25 @@ impl Site<'_> {
         ensures answer { (state : StateText) → result ≡ answer_of (table.gtod self.now.time state words.old) }
         ensures words { (state : StateText) → words.new ≡ words_after (table.gtod self.now.time state words.old) words.old }
     {
-        let time = [
-            (self.time / 1_000_000_000) as u32,
-            (self.time / 1000 % 1_000_000) as u32,
-        ];
+        let time = time_words(self.time);
         if words.len() != 2 {
             return Err(Errno::Inval);
         }
         words.copy_from_slice(&time);
         Ok(2)
     }
+}
+
+/// The time of day at a time in nanoseconds: its seconds, and the microseconds since the last of
+/// them.
+pub fn time_words(time: u64) -> [u32; 2]
+    requires { time ≤ 10 ^ 12 }
+    ensures { result ≡ table.time_words time }
+{
+    [
+        (time / 1_000_000_000) as u32,
+        (time / 1000 % 1_000_000) as u32,
+    ]
 }
 
 // Whether no word is above a greatest code.

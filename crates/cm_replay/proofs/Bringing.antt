@@ -1,20 +1,20 @@
 -- What is left of an expansion once some of it has come.
 use Rattle.std.proofs.Common.{◌≡◌, ℕ, zero, suc, ◌+◌, ◌-◌, ◌<◌, ◌≤◌, min, List, [], ◌∷◌, ◌++◌, length, take, drop, Bool, true, false, Option, Some, None, refl, sym, ap, ap₂, ◌∙◌, inl, inr, arith, subst, length-take, length-drop, drop-drop}
-use Rattle.std.specs.Prelude.{if◌then◌else◌}
+use Rattle.std.specs.Prelude.{◌&&◌, nat_eq, nat_lt, if◌then◌else◌}
 use Rattle.std.proofs.lemmas.Bool.{cases_lt, le-leb, lt-leb, eq-eqb, lt-ltb, le-ltb, ne_eqb}
 use Rattle.std.proofs.lemmas.List.{length-map, drop-append-le, drop-take, length-take-le, take-take}
 use Rattle.cm_base.proofs.Pieces.{take_sum}
 use Rattle.cm_ring_core.specs.Local.{Ring}
-use Rattle.cm_expand.specs.Rule.{munged_at}
 use Rattle.cm_expand.specs.Taking.{raw_words}
 use Rattle.cm_replay.specs.Conversions.{come, munged_from, NeverFalls}
-use Rattle.cm_replay.specs.Running.{Schedule, end_by, samples}
+use Rattle.cm_replay.specs.Running.{Schedule, end_by, has_stopped, is_out, munge_in, samples, some_if}
 use Rattle.cm_replay.specs.CommandView.{IsInStep}
 use Rattle.cm_replay.specs.Filling.{moving, filled}
 use Rattle.cm_replay.specs.ToCome.{ToCome, end_shown}
 use Rattle.cm_expand.specs.declared.conv.Conv.{Conv}
 use Rattle.cm_replay.specs.declared.ending.End.{End}
-use Rattle.cm_replay.specs.declared.ending.End.TheVariants.{Overrun}
+use Rattle.cm_replay.specs.declared.ending.End.TheVariants.{Done, Dry, Overrun}
+use Rattle.cm_replay.proofs.Samples.{length-munged_from}
 use Rattle.cm_replay.proofs.Come.{come-first, come-later_first, come-none, come-le, from_start}
 
 -- some have come where the first has
@@ -48,13 +48,6 @@ munged_from-take munge place zero cs = refl
 munged_from-take munge place (suc n) [] = refl
 munged_from-take munge place (suc n) (c ∷ cs) = ap (λ xs. munge place c.raw ∷ xs) (munged_from-take munge (suc place) n cs)
 
-pub length-munged_from : (munge : ℕ → ℕ → ℕ) (place : ℕ) (cs : List Conv) → length (munged_from munge place cs) ≡ length cs
-length-munged_from munge place [] = refl
-length-munged_from munge place (c ∷ cs) = ap suc (length-munged_from munge (suc place) cs)
-
-pub length-samples : (s : Schedule) → length (samples s) ≡ length s.conversions
-length-samples s = length-munged_from (munged_at s.sub s.cmd) 0 s.conversions
-
 -- the samples from r on with those of more conversions
 pub held-more : (munge : ℕ → ℕ → ℕ) (cs : List Conv) (r w n : ℕ) → r ≤ w → w ≤ length cs →
     drop r (take w (munged_from munge 0 cs)) ++ munged_from munge w (take n (drop w cs)) ≡ drop r (take (w + n) (munged_from munge 0 cs))
@@ -68,10 +61,15 @@ neither : (e : Option End) (complete : Bool) → e ≡ (if complete then e else 
 neither e true = refl
 neither e false = refl
 
+-- the end that has come to an input whose conversions reach the buffer as they are made
+abbrev pub plain_end : Schedule → ℕ → ℕ → Option End
+plain_end s limit time = if nat_lt limit (come time s.conversions) then Some (Overrun limit) else
+    (if s.complete then some_if (nat_eq (come time s.conversions) (length s.conversions) && has_stopped s.edge time) Done else some_if (nat_eq time s.horizon) Dry)
+
 -- the end that a board and a full ring show is the one that has come
-pub end_shown-right : (s : Schedule) (limit w time : ℕ) → NeverFalls s.conversions → come s.horizon s.conversions ≡ length s.conversions → w ≡ min (come time s.conversions) limit →
-    end_shown (record { conversions = drop w s.conversions; complete = s.complete; edge = s.edge }) w s.horizon time ≡ end_by s limit time
-end_shown-right s limit w time order cut written = by_left (drop w s.conversions) refl
+pub plain_end-right : (s : Schedule) (limit w time : ℕ) → NeverFalls s.conversions → come s.horizon s.conversions ≡ length s.conversions → w ≡ min (come time s.conversions) limit →
+    end_shown (record { conversions = drop w s.conversions; complete = s.complete; edge = s.edge }) w s.horizon time ≡ plain_end s limit time
+plain_end-right s limit w time order cut written = by_left (drop w s.conversions) refl
   where
     some : w ≤ come time s.conversions
     some = omega arith
@@ -82,7 +80,7 @@ end_shown-right s limit w time order cut written = by_left (drop w s.conversions
     count : length (drop w s.conversions) ≡ length s.conversions - w
     count = length-drop w s.conversions
 
-    by_left : (left : List Conv) → drop w s.conversions ≡ left → end_shown (record { conversions = left; complete = s.complete; edge = s.edge }) w s.horizon time ≡ end_by s limit time
+    by_left : (left : List Conv) → drop w s.conversions ≡ left → end_shown (record { conversions = left; complete = s.complete; edge = s.edge }) w s.horizon time ≡ plain_end s limit time
     by_left [] none =
         let all : come time s.conversions ≡ length s.conversions = omega (arith, ap length none, count, some, come-le time s.conversions) in
         rw (le-ltb limit (come time s.conversions) (omega (arith, ap length none, count, written, come-le time s.conversions))) (rw (eq-eqb _ _ all) refl)
@@ -107,19 +105,19 @@ filled-in_step s ring board time order in_step some = (
     level = record { m_w = refl; w_a = refl };
     munge = in_step.munge;
     size = in_step.size;
-    r_w = omega (arith, in_step.r_w);
+    r_ra = in_step.r_ra;
+    ra_w = omega (arith, in_step.ra_w);
     within = omega (arith, moved, place, come-le time s.conversions);
     w_room = omega (arith, moved, place, in_step.w_room);
     held = ap₂ (λ to_come munge. ring.held ++ munged_from munge ring.w (take n to_come)) left in_step.munge
-        ∙ ap (λ xs. xs ++ munged_from (munged_at s.sub s.cmd) ring.w (take n (drop ring.w s.conversions))) in_step.held
-        ∙ held-more (munged_at s.sub s.cmd) s.conversions ring.r ring.w n in_step.r_w (omega (arith, some, come-le time s.conversions))
+        ∙ ap (λ xs. xs ++ munged_from (munge_in s) ring.w (take n (drop ring.w s.conversions))) in_step.held
+        ∙ held-more (munge_in s) s.conversions ring.r ring.w n (omega (arith, in_step.r_ra, in_step.ra_w)) (omega (arith, some, come-le time s.conversions))
         ∙ ap (λ k. drop ring.r (take k (samples s))) (sym place);
     ahead = λ i. record {
       conversions = (ap (drop n) left ∙ drop-drop n ring.w s.conversions ∙ ap (λ k. drop k s.conversions) (sym place)) i;
       complete = ap (λ (b : ToCome). b.complete) in_step.ahead i;
       edge = ap (λ (b : ToCome). b.edge) in_step.ahead i;
     };
-    unmapped = in_step.unmapped;
   },
   place ∙ moved,
 )
@@ -146,4 +144,4 @@ take-held s r w k r_w k_w =
     ap (λ i. take k (drop r (take i (samples s)))) there ∙ ap (take k) (drop-take r (w - r) (samples s)) ∙ take-take k (w - r) (drop r (samples s)) k_w
 
 pub length-held : (s : Schedule) (r w : ℕ) → r ≤ w → w ≤ length s.conversions → length (drop r (take w (samples s))) ≡ w - r
-length-held s r w r_w within = omega (arith, length-drop r (take w (samples s)), length-take w (samples s), length-munged_from (munged_at s.sub s.cmd) 0 s.conversions)
+length-held s r w r_w within = omega (arith, length-drop r (take w (samples s)), length-take w (samples s), length-munged_from (munge_in s) 0 s.conversions)

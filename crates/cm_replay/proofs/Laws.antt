@@ -1,63 +1,114 @@
--- What holds at every line of a session.
-use Rattle.std.proofs.Common.{ne_eqb, ◌≡◌, ℕ, zero, suc, ◌+◌, ◌-◌, ◌<◌, ◌≤◌, ◌^◌, min, Bool, true, false, List, [], ◌∷◌, length, get_or, set, replicate, take, drop, refl, sym, ap, ◌∙◌, inl, inr, arith, length-set, length-take, length-drop, get_or-set_same, get_or-set_other, subst, Option, Some, None}
-use Rattle.std.specs.Prelude.{nat_eq, ◌&&◌, if◌then◌else◌}
-use Rattle.std.specs.List.{All}
+-- What holds of a command at every line of a session.
+use Rattle.std.proofs.Common.{ne_eqb, ◌≡◌, ℕ, ◌+◌, ◌-◌, ◌<◌, ◌≤◌, Bool, true, false, List, [], ◌++◌, length, take, drop, refl, sym, ap, ap₂, ◌∙◌, inl, inr, arith, length-take, length-drop, length-append, drop-drop, subst, Option, Some, None}
+use Rattle.std.specs.Prelude.{nat_eq, not, ◌&&◌, ◌||◌, if◌then◌else◌, slice_index}
 use Rattle.std.specs.Option.{option_map}
-use Rattle.std.proofs.lemmas.Bool.{cases_lt, cases_eq, eq-eqb, eqb-true, lt-ltb, le-ltb}
-use Rattle.std.proofs.lemmas.List.{get_or_default, length-map}
-use Rattle.cm_signal.specs.Signals as signals
-use Rattle.cm_replay.specs.Conversions.{come}
-use Rattle.cm_replay.specs.Job.{CanRun, Fits, InOrder, IsJob, JobText, setting_of}
-use Rattle.cm_replay.specs.Law.{Continues, GoesWell, IsDue, IsDueIfAny, IsLawful, Keeps, SessionLaw, gone_after, gone_of, named_sub}
-use Rattle.cm_replay.specs.Replies.{IsReady, StayReady}
-use Rattle.cm_replay.specs.Reply.{Fine, Reply, cmd_reply, read_command, read_reply, taken}
-use Rattle.cm_replay.specs.Running.{Running, Schedule, brought, end_by, has_stopped, moved_on, quiet_end, samples, some_if, started, written_by}
-use Rattle.cm_replay.specs.Schedules.{schedule_of}
-use Rattle.cm_replay.specs.Session.{Setting, Step, act, at_sub, brought_all, idle_subs, plan_at, step}
+use Rattle.std.proofs.lemmas.Bool.{cases_eq, cases_Bool, eq-eqb, cond-true, cond-false}
+use Rattle.std.proofs.lemmas.List.{drop-append-le}
+use Rattle.cm_sample.specs.Rule.{map_from}
+use Rattle.cm_expand.specs.Plan.{start_of}
+use Rattle.cm_replay.specs.Law.{Continues, HasPlaces, History, IsDueIfAny, IsInput, IsLawful, IsOf, IsOutput, Keeps, Spot, PutsOut, Remembers, remembered, served}
+use Rattle.cm_replay.specs.Timely.{IsTimely}
+use Rattle.cm_replay.specs.Running.{Running, Schedule, arrived, brought, collected, due, end_by, is_out, moved_on, munge_in, outputs, put_by, put_out, samples, started, written_by}
+use Rattle.cm_replay.specs.Schedules.{schedule_of, triggered}
+use Rattle.cm_replay.specs.Answers.{Answer, Ended, Filled, Looked, Mapped, Released, Written}
+use Rattle.cm_replay.specs.Calling.{has_come, trigger_on, waits}
+use Rattle.cm_replay.specs.Reading.{map_on, mapping, read_on, reported_end, taken, taking}
+use Rattle.cm_replay.specs.Writing.{fill_on, mark_on, munged_within, taken_in, write_on}
 use Rattle.cm_replay.specs.declared.ending.End.{End}
-use Rattle.cm_replay.specs.declared.ending.End.TheVariants.{Done, Dry}
-use Rattle.cm_replay.specs.declared.session.Op.{Op}
-use Rattle.cm_replay.specs.declared.session.Op.TheVariants as ops
-use Rattle.cm_replay.specs.declared.session.SessionLine.{SessionLine}
-use Rattle.cm_base.proofs.Bools.{both}
-use Rattle.cm_replay.proofs.Bringing.{length-samples}
-use Rattle.cm_replay.proofs.Come.{come-le, come-later}
-use Rattle.cm_replay.proofs.Plans.{planned}
+use Rattle.cm_replay.proofs.Come.{come-later}
+use Rattle.cm_replay.proofs.Ends.{arrived-le, end-due}
+use Rattle.cm_replay.proofs.Samples.{length-samples}
+use Rattle.cm_replay.proofs.Words.{map_from-append, map_from-after, map_from-drop, map_from-further, outputs-munged}
 
--- an end that comes under a test is due where the test shows it
-some-due : (e : End) (w all : ℕ) (test : Bool) → (test ≡ true → IsDue e w all) → IsDueIfAny (some_if test e) w all
-some-due e w all true h = h refl
-some-due e w all false h = tt
+-- the places of a command by its direction
+pub input : (out : Bool) (time : ℕ) (c : Running) → out ≡ false → HasPlaces out time c → IsInput time c
+input out time c e places = subst (λ o. HasPlaces o time c) e places
 
-quiet-due : (s : Schedule) (time : ℕ) (complete : Bool) → come s.horizon s.conversions ≡ length s.conversions →
-    IsDueIfAny (if complete then some_if (nat_eq (come time s.conversions) (length s.conversions) && has_stopped s.edge time) Done else some_if (nat_eq time s.horizon) Dry) (come time s.conversions) (length s.conversions)
-quiet-due s time true cut = some-due Done _ _ _ (λ t. eqb-true _ _ (both (nat_eq (come time s.conversions) (length s.conversions)) (has_stopped s.edge time) t).0)
-quiet-due s time false cut = some-due Dry _ _ _ (λ t. ap (λ at. come at s.conversions) (eqb-true _ _ t) ∙ cut)
+pub output : (out : Bool) (time : ℕ) (c : Running) → out ≡ true → HasPlaces out time c → IsOutput time c
+output out time c e places = subst (λ o. HasPlaces o time c) e places
 
--- what the passing of time does to a command keeps its rule
-moved_on-lawful : (before time : ℕ) (c : Running) → before ≤ time → IsLawful before c → IsLawful time (moved_on c time)
-moved_on-lawful before time c later lawful =
-    let more = come-later before time c.schedule.conversions later in
-    let all = come-le time c.schedule.conversions in
+pub as_input : (out : Bool) (time : ℕ) (c : Running) → out ≡ false → IsInput time c → HasPlaces out time c
+as_input out time c e places = subst (λ o. HasPlaces o time c) (sym e) places
+
+pub as_output : (out : Bool) (time : ℕ) (c : Running) → out ≡ true → IsOutput time c → HasPlaces out time c
+as_output out time c e places = subst (λ o. HasPlaces o time c) (sym e) places
+
+pub moves-in : (c : Running) (time : ℕ) → is_out c.schedule ≡ false → moved_on c time ≡ collected c time
+moves-in c time e = cond-false (is_out c.schedule) (put_out c time) (collected c time) e
+
+pub moves-out : (c : Running) (time : ℕ) → is_out c.schedule ≡ true → moved_on c time ≡ put_out c time
+moves-out c time e = cond-true (is_out c.schedule) (put_out c time) (collected c time) e
+
+pub served-in : (c : Running) → is_out c.schedule ≡ false → served c ≡ c.w
+served-in c e = cond-false (is_out c.schedule) c.r c.w e
+
+pub served-out : (c : Running) → is_out c.schedule ≡ true → served c ≡ c.r
+served-out c e = cond-true (is_out c.schedule) c.r c.w e
+
+-- what the passing of time does to an input keeps its rule
+collected-lawful : (before time : ℕ) (c : Running) → before ≤ time → is_out c.schedule ≡ false → IsLawful before c → IsLawful time (collected c time)
+collected-lawful before time c later e lawful =
+    let i = input (is_out c.schedule) before c e lawful.places in
+    let more = come-later before time c.schedule.arrivals later in
     record {
-      r_ra = lawful.r_ra;
-      ra_w = omega arith;
-      w_all = omega arith;
-      w_size = omega arith;
-      w_a = refl;
-      w_come = omega arith;
-      cut = lawful.cut;
-      end = due c time lawful.cut;
+      timely = lawful.timely;
+      later = λ at h below. lawful.later at (omega arith) below;
+      same = lawful.same;
+      places = as_input (is_out c.schedule) time (collected c time) e (record {
+        r_ra = i.r_ra;
+        ra_w = omega (arith, i.ra_w, i.w_come, i.w_size);
+        w_a = refl;
+        w_size = omega arith;
+        w_come = omega arith;
+      });
+      end = subst (λ p. IsDueIfAny (end_by c.schedule (c.r + c.schedule.size) time) p (length c.schedule.conversions)) (sym (served-in (collected c time) e))
+          (end-due c.schedule (c.r + c.schedule.size) time (written_by c time) lawful.timely refl);
     }
-  where
-    due : (c : Running) (time : ℕ) → come c.schedule.horizon c.schedule.conversions ≡ length c.schedule.conversions →
-        IsDueIfAny (end_by c.schedule (c.r + c.schedule.size) time) (written_by c time) (length c.schedule.conversions)
-    due c time cut = elim (cases_lt (c.r + c.schedule.size) (come time c.schedule.conversions)) [
-      | inl over ↦ rw (lt-ltb _ _ over) (omega arith, omega (arith, come-le time c.schedule.conversions))
-      | inr fits ↦
-          let all : written_by c time ≡ come time c.schedule.conversions = omega arith in
-          rw (le-ltb _ _ fits) (subst (λ w. IsDueIfAny (quiet_end c.schedule time) w (length c.schedule.conversions)) (sym all) (quiet-due c.schedule time c.schedule.complete cut))
-    ]
+
+put_out-lawful : (before time : ℕ) (c : Running) → before ≤ time → is_out c.schedule ≡ true → IsLawful before c → IsLawful time (put_out c time)
+put_out-lawful before time c later e lawful =
+    let o = output (is_out c.schedule) before c e lawful.places in
+    let more = come-later before time c.schedule.arrivals later in
+    record {
+      timely = lawful.timely;
+      later = λ at h below. lawful.later at (omega arith) below;
+      same = lawful.same;
+      places = as_output (is_out c.schedule) time (put_out c time) e (record {
+        r_ra = refl;
+        r_w = omega arith;
+        w_a = o.w_a;
+        a_size = omega (arith, o.a_size, o.r_w, o.r_come);
+        r_come = omega arith;
+      });
+      end = subst (λ p. IsDueIfAny (end_by c.schedule c.w time) p (length c.schedule.conversions)) (sym (served-out (put_out c time) e))
+          (end-due c.schedule c.w time (put_by c time) lawful.timely refl);
+    }
+
+-- a later time keeps the rule of a command that has ended
+later-places : (out : Bool) (before time : ℕ) (c : Running) → before ≤ time → HasPlaces out before c → HasPlaces out time c
+later-places false before time c later i = record {
+  r_ra = i.r_ra;
+  ra_w = i.ra_w;
+  w_a = i.w_a;
+  w_size = i.w_size;
+  w_come = omega (arith, i.w_come, come-later before time c.schedule.arrivals later);
+}
+later-places true before time c later o = record {
+  r_ra = o.r_ra;
+  r_w = o.r_w;
+  w_a = o.w_a;
+  a_size = o.a_size;
+  r_come = omega (arith, o.r_come, come-later before time c.schedule.arrivals later);
+}
+
+later-lawful : (before time : ℕ) (c : Running) → before ≤ time → IsLawful before c → IsLawful time c
+later-lawful before time c later lawful = record {
+  timely = lawful.timely;
+  later = λ at h below. lawful.later at (omega arith) below;
+  same = lawful.same;
+  places = later-places (is_out c.schedule) before time c later lawful.places;
+  end = lawful.end;
+}
 
 pub stays : (time : ℕ) (c : Running) (e : End) → c.end ≡ Some e → brought time c ≡ c
 stays time c e ended = rw ended refl
@@ -65,187 +116,257 @@ stays time c e ended = rw ended refl
 pub moves : (time : ℕ) (c : Running) → c.end ≡ None → brought time c ≡ moved_on c time
 moves time c runs = rw runs refl
 
--- a later time keeps the rule of a command that has ended
-later-lawful : (before time : ℕ) (c : Running) → before ≤ time → IsLawful before c → IsLawful time c
-later-lawful before time c later lawful = record {
-  r_ra = lawful.r_ra;
-  ra_w = lawful.ra_w;
-  w_all = lawful.w_all;
-  w_size = lawful.w_size;
-  w_a = lawful.w_a;
-  w_come = omega (arith, come-later before time c.schedule.conversions later);
-  cut = lawful.cut;
-  end = lawful.end;
-}
+-- the words that are left are those of the client from a later place on
+left-words : (h : History) (c : Running) (place : ℕ) → c.r ≤ place → c.words ≡ map_from (munged_within (munge_in c.schedule) 0 c.w) c.r (drop c.r h.given) →
+    drop (place - c.r) c.words ≡ map_from (munged_within (munge_in c.schedule) 0 c.w) place (drop place h.given)
+left-words h c place later words =
+    let there : c.r + (place - c.r) ≡ place = omega arith in
+    let back : (place - c.r) + c.r ≡ place = omega arith in
+    ap (drop (place - c.r)) words ∙ map_from-drop (munged_within (munge_in c.schedule) 0 c.w) c.r (place - c.r) (drop c.r h.given)
+    ∙ ap₂ (λ p n. map_from (munged_within (munge_in c.schedule) 0 c.w) p n) there (drop-drop (place - c.r) c.r h.given ∙ ap (λ n. drop n h.given) there)
 
-pub brought-keeps : (before time : ℕ) (reported : ℕ) (running : Option Running) → before ≤ time → Keeps before reported running → Keeps time reported (option_map (brought time) running)
-brought-keeps before time reported None later kept = tt
-brought-keeps before time reported (Some c) later kept = by_end c.end refl
+moved-keeps : (spot : Spot) (before time : ℕ) (h : History) (c : Running) → before ≤ time → Keeps spot before h (Some c) → Keeps spot time h (Some (moved_on c time))
+moved-keeps spot before time h c later kept = elim (cases_Bool (is_out c.schedule)) [
+  | inl out ↦
+      let o = output (is_out c.schedule) before c out kept.0.places in
+      let r : Remembers true h c = subst (λ b. Remembers b h c) out kept.2 in
+      let place : c.r ≤ put_by c time = omega (arith, o.r_w, o.r_come, come-later before time c.schedule.arrivals later) in
+      let new : Remembers true h (put_out c time) = (r.0, left-words h c (put_by c time) place r.1) in
+      rw (moves-out c time out) (put_out-lawful before time c later out kept.0, kept.1, subst (λ b. Remembers b h (put_out c time)) (sym out) new)
+  | inr inn ↦
+      let r : Remembers false h c = subst (λ b. Remembers b h c) inn kept.2 in
+      let new : Remembers false h (collected c time) = r in
+      rw (moves-in c time inn) (collected-lawful before time c later inn kept.0, kept.1, subst (λ b. Remembers b h (collected c time)) (sym inn) new)
+]
+
+pub brought-keeps : (spot : Spot) (before time : ℕ) (h : History) (running : Option Running) → before ≤ time → Keeps spot before h running → Keeps spot time h (option_map (brought time) running)
+brought-keeps spot before time h None later kept = tt
+brought-keeps spot before time h (Some c) later kept = by_end c.end refl
   where
-    by_end : (e : Option End) → c.end ≡ e → Keeps time reported (Some (brought time c))
-    by_end None runs = rw (moves time c runs) (moved_on-lawful before time c later kept.0, kept.1)
-    by_end (Some e) ended = rw (stays time c e ended) (later-lawful before time c later kept.0, kept.1)
+    by_end : (e : Option End) → c.end ≡ e → Keeps spot time h (Some (brought time c))
+    by_end None runs = rw (moves time c runs) (moved-keeps spot before time h c later kept)
+    by_end (Some e) ended = rw (stays time c e ended) (later-lawful before time c later kept.0, kept.1, kept.2)
 
--- what a line did is well where its answer continues what was reported, and the command stays lawful
-abbrev IsWell : ℕ → ℕ → Option Running → Reply → Type 0
-IsWell time gone running reply = Continues reply.answer gone running × Keeps time (gone_after gone reply.answer) reply.running
+-- what is put out are the client's words
+pub puts-out : (spot : Spot) (i before time : ℕ) (h : History) (running : Option Running) → before ≤ time → Keeps spot before h running → PutsOut i time h running
+puts-out spot i before time h None later kept = tt
+puts-out spot i before time h (Some c) later kept = λ runs out.
+    let o = output (is_out c.schedule) before c out kept.0.places in
+    let r : Remembers true h c = subst (λ b. Remembers b h c) out kept.2 in
+    let cs = take (put_by c time - c.r) (drop c.r c.schedule.arrivals) in
+    let few : c.r + length cs ≤ c.w = omega (arith, o.r_w, length-take (put_by c time - c.r) (drop c.r c.schedule.arrivals)) in
+    let due_is : due i time c ≡ outputs i cs c.words = rw runs (cond-true (is_out c.schedule) (outputs i cs c.words) [] out) in
+    due_is ∙ ap (outputs i cs) r.1 ∙ outputs-munged i (munge_in c.schedule) c.w c.r cs (drop c.r h.given) few
 
-taken-well : (n time gone : ℕ) (c : Running) → Keeps time gone (Some c) → IsWell time gone (Some c) (taken n c)
-taken-well n time gone c kept = (
-  (sym kept.1, ap (λ i. take i (drop c.r (samples c.schedule))) (sym long)),
-  (
-    record {
-      r_ra = omega arith;
-      ra_w = omega (arith, kept.0.r_ra, kept.0.ra_w);
-      w_all = kept.0.w_all;
-      w_size = omega (arith, kept.0.w_size);
-      w_a = kept.0.w_a;
-      w_come = kept.0.w_come;
-      cut = kept.0.cut;
-      end = kept.0.end;
-    },
-    omega (arith, kept.1, long),
-  ),
+-- what a line did is well where its answer continues what was read, and the command stays lawful
+abbrev pub IsWell : Spot → ℕ → History → Option Running → Answer → Option Running → Type 0
+IsWell spot time h running answer after = Continues answer h running × Keeps spot time (remembered h answer) after
+
+-- an end that is reported
+pub ended-well : (spot : Spot) (time : ℕ) (h : History) (c : Running) (e : End) → Keeps spot time h (Some c) → (is_out c.schedule ≡ false → c.r ≡ c.w) → c.end ≡ Some e → IsWell spot time h (Some c) (Ended e) None
+ended-well spot time h c e kept drained ended = ((drained, subst (λ o. IsDueIfAny o (served c) (length c.schedule.conversions)) ended kept.0.end), tt)
+
+-- an input reports its end where nothing is left
+pub ended-drained : (c : Running) (e : End) → is_out c.schedule ≡ false → reported_end c ≡ Some e → (c.r ≡ c.w) × (c.end ≡ Some e)
+ended-drained c e inn said = elim (cases_eq c.r c.w) [
+  | inl empty ↦ (empty, sym (ap (λ b. if b || nat_eq c.r c.w then c.end else None) inn ∙ ap (λ b. if b then c.end else None) (eq-eqb _ _ empty)) ∙ said)
+  | inr some ↦ absurd (no (sym (ap (λ b. if b || nat_eq c.r c.w then c.end else None) inn ∙ ap (λ b. if b then c.end else None) (ne_eqb _ _ some)) ∙ said))
+]
+  where
+    no : (None ≡ Some e) → ⊥
+    no h = absurd (cc)
+
+pub ended-out : (c : Running) → is_out c.schedule ≡ true → reported_end c ≡ c.end
+ended-out c out = ap (λ b. if b || nat_eq c.r c.w then c.end else None) out
+
+remembers-in : (h : History) (c : Running) → is_out c.schedule ≡ false → Remembers (is_out c.schedule) h c → h.gone ≡ c.r
+remembers-in h c e r = subst (λ b. Remembers b h c) e r
+
+as_remembers-in : (h : History) (c : Running) → is_out c.schedule ≡ false → h.gone ≡ c.r → Remembers (is_out c.schedule) h c
+as_remembers-in h c e r = subst (λ b. Remembers b h c) (sym e) r
+
+remembers-out : (h : History) (c : Running) → is_out c.schedule ≡ true → Remembers (is_out c.schedule) h c → Remembers true h c
+remembers-out h c e r = subst (λ b. Remembers b h c) e r
+
+as_remembers-out : (h : History) (c : Running) → is_out c.schedule ≡ true → Remembers true h c → Remembers (is_out c.schedule) h c
+as_remembers-out h c e r = subst (λ b. Remembers b h c) (sym e) r
+
+-- an input that keeps its written samples stays lawful at other places
+input-on : (spot : Spot) (time : ℕ) (h after : History) (c : Running) (r ra : ℕ) → is_out c.schedule ≡ false → Keeps spot time h (Some c) → r ≤ ra → ra ≤ c.w → c.r ≤ r → after.gone ≡ r →
+    Keeps spot time after (Some (record c { r = r; ra = ra }))
+input-on spot time h after c r ra inn kept order within more gone =
+    let i = input (is_out c.schedule) time c inn kept.0.places in
+    let d : Running = record c { r = r; ra = ra } in (
+      record {
+        timely = kept.0.timely;
+        later = kept.0.later;
+        same = kept.0.same;
+        places = as_input (is_out c.schedule) time d inn (record { r_ra = order; ra_w = within; w_a = i.w_a; w_size = omega (arith, i.w_size); w_come = i.w_come });
+        end = subst (λ p. IsDueIfAny c.end p (length c.schedule.conversions)) (served-in c inn ∙ sym (served-in d inn)) kept.0.end;
+      },
+      kept.1,
+      as_remembers-in after d inn gone,
+    )
+
+-- the samples that are taken are the next ones, and as many as are written
+long-taken : (n : ℕ) (c : Running) → c.w ≤ length c.schedule.conversions → length (take (taking n c) (drop c.r (samples c.schedule))) ≡ taking n c
+long-taken n c all = omega (arith, length-samples c.schedule, length-take (taking n c) (drop c.r (samples c.schedule)), length-drop c.r (samples c.schedule))
+
+pub taken-well : (spot : Spot) (n time : ℕ) (h : History) (c : Running) → is_out c.schedule ≡ false → c.ra ≡ c.r → Keeps spot time h (Some c) → IsWell spot time h (Some c) (taken n c) (Some (read_on n c))
+taken-well spot n time h c inn unmapped kept =
+    let i = input (is_out c.schedule) time c inn kept.0.places in
+    let all : c.w ≤ length c.schedule.conversions = omega (arith, i.w_come, arrived-le c.schedule time kept.0.timely) in
+    let gone = remembers-in h c inn kept.2 in (
+      (sym gone, ap (λ k. take k (drop c.r (samples c.schedule))) (sym (long-taken n c all))),
+      input-on spot time h (remembered h (taken n c)) c (c.r + taking n c) (c.r + taking n c) inn kept (omega arith) (omega (arith, i.r_ra, i.ra_w)) (omega arith) (omega (arith, gone, long-taken n c all)),
+    )
+
+pub mapped-well : (spot : Spot) (n time : ℕ) (h : History) (c : Running) → is_out c.schedule ≡ false → Keeps spot time h (Some c) → IsWell spot time h (Some c) (Mapped (mapping n c)) (Some (map_on n c))
+mapped-well spot n time h c inn kept =
+    let i = input (is_out c.schedule) time c inn kept.0.places in
+    (tt, input-on spot time h h c c.r (c.ra + mapping n c) inn kept (omega (arith, i.r_ra)) (omega (arith, i.ra_w)) (omega arith) (remembers-in h c inn kept.2))
+
+pub looked-well : (spot : Spot) (i time : ℕ) (h : History) (c : Running) → is_out c.schedule ≡ false → i < c.ra - c.r → Keeps spot time h (Some c) →
+    IsWell spot time h (Some c) (Looked c.schedule.format (c.r + i) (slice_index (samples c.schedule) (c.r + i))) (Some c)
+looked-well spot i time h c inn within kept = ((omega (arith, remembers-in h c inn kept.2), omega arith, refl), kept)
+
+pub released-well : (spot : Spot) (k time : ℕ) (h : History) (c : Running) → is_out c.schedule ≡ false → k ≤ c.ra - c.r → Keeps spot time h (Some c) → IsWell spot time h (Some c) (Released k) (Some (record c { r = c.r + k }))
+released-well spot k time h c inn within kept =
+    let i = input (is_out c.schedule) time c inn kept.0.places in
+    (tt, input-on spot time h (record h { gone = h.gone + k }) c (c.r + k) c.ra inn kept (omega (arith, i.r_ra)) i.ra_w (omega arith) (omega (arith, remembers-in h c inn kept.2)))
+
+-- an output that keeps what was put out stays lawful at other places
+output-on : (spot : Spot) (time : ℕ) (h after : History) (c : Running) (w a : ℕ) (words : List ℕ) → is_out c.schedule ≡ true → Keeps spot time h (Some c) → c.w ≤ w → w ≤ a → a ≤ c.r + c.schedule.size →
+    length after.given ≡ a → words ≡ map_from (munged_within (munge_in c.schedule) 0 w) c.r (drop c.r after.given) → Keeps spot time after (Some (record c { w = w; a = a; words = words }))
+output-on spot time h after c w a words out kept more order room long same =
+    let o = output (is_out c.schedule) time c out kept.0.places in
+    let d : Running = record c { w = w; a = a; words = words } in (
+      record {
+        timely = kept.0.timely;
+        later = kept.0.later;
+        same = kept.0.same;
+        places = as_output (is_out c.schedule) time d out (record { r_ra = o.r_ra; r_w = omega (arith, o.r_w); w_a = order; a_size = room; r_come = o.r_come });
+        end = subst (λ p. IsDueIfAny c.end p (length c.schedule.conversions)) (served-out c out ∙ sym (served-out d out)) kept.0.end;
+      },
+      kept.1,
+      as_remembers-out after d out (long, same),
+    )
+
+-- more words after the client's
+filled-words : (h : History) (c : Running) (words : List ℕ) → c.r ≤ c.a → c.w ≤ c.a → Remembers true h c → c.words ++ words ≡ map_from (munged_within (munge_in c.schedule) 0 c.w) c.r (drop c.r (h.given ++ words))
+filled-words h c words r_a w_a kept =
+    let f = munged_within (munge_in c.schedule) 0 c.w in
+    let reach : c.r + length (drop c.r h.given) ≡ c.a = omega (arith, kept.0, length-drop c.r h.given) in
+    ap₂ (λ xs ys. xs ++ ys) kept.1 (sym (map_from-after (munge_in c.schedule) 0 c.w c.a words w_a) ∙ ap (λ p. map_from f p words) (sym reach))
+    ∙ sym (map_from-append f c.r (drop c.r h.given) words) ∙ ap (map_from f c.r) (sym (drop-append-le c.r h.given words (omega (arith, kept.0))))
+
+few-taken : (words : List ℕ) (c : Running) → c.a ≤ c.r + c.schedule.size → c.a + length (taken_in words c) ≤ c.r + c.schedule.size
+few-taken words c room = omega (arith, length-take (c.r + c.schedule.size - c.a) words)
+
+pub filled-well : (spot : Spot) (words : List ℕ) (time : ℕ) (h : History) (c : Running) → is_out c.schedule ≡ true → Keeps spot time h (Some c) →
+    IsWell spot time h (Some c) (Filled (taken_in words c)) (Some (fill_on (taken_in words c) c))
+filled-well spot words time h c out kept =
+    let o = output (is_out c.schedule) time c out kept.0.places in
+    let r = remembers-out h c out kept.2 in
+    let more = taken_in words c in (
+      tt,
+      output-on spot time h (record h { given = h.given ++ more }) c c.w (c.a + length more) (c.words ++ more) out kept (omega arith) (omega (arith, o.w_a)) (few-taken words c o.a_size)
+          (omega (arith, r.0, length-append h.given more)) (filled-words h c more (omega (arith, o.r_w, o.w_a)) o.w_a r),
+    )
+
+-- words that are marked
+pub mark-keeps : (spot : Spot) (k time : ℕ) (h : History) (c : Running) → is_out c.schedule ≡ true → k ≤ c.a - c.w → Keeps spot time h (Some c) → Keeps spot time h (Some (mark_on k c))
+mark-keeps spot k time h c out few kept =
+    let o = output (is_out c.schedule) time c out kept.0.places in
+    let r = remembers-out h c out kept.2 in
+    output-on spot time h h c (c.w + k) c.a (map_from (munged_within (munge_in c.schedule) c.w (c.w + k)) c.r c.words) out kept (omega arith) (omega (arith, o.w_a)) o.a_size r.0
+    (ap (map_from (munged_within (munge_in c.schedule) c.w (c.w + k)) c.r) r.1 ∙ map_from-further (munge_in c.schedule) c.w k c.r (drop c.r h.given))
+
+pub written-well : (spot : Spot) (words : List ℕ) (time : ℕ) (h : History) (c : Running) → is_out c.schedule ≡ true → Keeps spot time h (Some c) →
+    IsWell spot time h (Some c) (Written (taken_in words c)) (Some (write_on (taken_in words c) c))
+written-well spot words time h c out kept =
+    let o = output (is_out c.schedule) time c out kept.0.places in
+    let filled = filled-well spot words time h c out kept in
+    (tt, mark-keeps spot (length (taken_in words c)) time (record h { given = h.given ++ taken_in words c }) (fill_on (taken_in words c) c) out (omega (arith, o.w_a)) filled.1)
+
+-- a command that has just started
+pub started-keeps : (spot : Spot) (time : ℕ) (h : History) (s : Schedule) → h.gone ≡ 0 → h.given ≡ [] → IsTimely s → ((at : ℕ) → time ≤ at → at ≤ s.horizon → IsTimely (triggered at s)) → s ≡ schedule_of s.plan → IsOf spot s.plan → Keeps spot time h (Some (started s))
+started-keeps spot time h s gone given timely later same its = (
+  record {
+    timely = timely;
+    later = later;
+    same = same;
+    places = places (is_out s);
+    end = tt;
+  },
+  its,
+  remembers (is_out s),
 )
   where
-    k : ℕ
-    k = min n (c.w - c.r)
+    places : (out : Bool) → HasPlaces out time (started s)
+    places false = record { r_ra = omega arith; ra_w = omega arith; w_a = refl; w_size = omega arith; w_come = omega arith }
+    places true = record { r_ra = refl; r_w = omega arith; w_a = omega arith; a_size = omega arith; r_come = omega arith }
 
-    long : length (take k (drop c.r (samples c.schedule))) ≡ k
-    long = omega (arith, kept.0.w_all, length-samples c.schedule, length-take k (drop c.r (samples c.schedule)), length-drop c.r (samples c.schedule))
+    remembers : (out : Bool) → Remembers out h (started s)
+    remembers false = gone
+    remembers true = (ap length given, sym (ap (λ xs. map_from (munged_within (munge_in s) 0 0) 0 xs) given))
 
-read-well : (n time gone : ℕ) (running : Option Running) → Keeps time gone running → IsWell time gone running (read_reply n running)
-read-well n time gone None kept = (tt, tt)
-read-well n time gone (Some c) kept = elim (cases_eq c.r c.w) [
-  | inl empty ↦ rw (eq-eqb _ _ empty) (by_end empty c.end kept.0.end)
-  | inr some ↦ rw (ne_eqb _ _ some) (taken-well n time gone c kept)
-]
+and-right : (a b : Bool) → (a && b) ≡ true → b ≡ true
+and-right true b h = h
+and-right false b h = absurd (cc)
+
+pub waits-early : (time : ℕ) (c : Running) → waits time (Some c) ≡ true → has_come (start_of c.schedule.plan) time ≡ false
+waits-early time c waiting = by (has_come (start_of c.schedule.plan) time) (and-right _ _ waiting)
   where
-    by_end : c.r ≡ c.w → (e : Option End) → IsDueIfAny e c.w (length c.schedule.conversions) → IsWell time gone (Some c) (read_command n c e)
-    by_end empty None due = taken-well n time gone c kept
-    by_end empty (Some e) due = ((empty, due), tt)
+    by : (b : Bool) → not b ≡ true → b ≡ false
+    by true h = absurd (cc)
+    by false h = refl
 
-started-lawful : (file time : ℕ) (s : Schedule) → come s.horizon s.conversions ≡ length s.conversions → IsLawful time (started file s)
-started-lawful file time s cut = record {
-  r_ra = omega arith;
-  ra_w = omega arith;
-  w_all = omega arith;
-  w_size = omega arith;
-  w_a = refl;
-  w_come = omega arith;
-  cut = cut;
-  end = tt;
-}
-
-cmd-well : (file time gone : ℕ) (s : Schedule) (running : Option Running) → come s.horizon s.conversions ≡ length s.conversions → Keeps time gone running → IsWell time gone running (cmd_reply file s running)
-cmd-well file time gone s None cut kept = (tt, (started-lawful file time s cut, refl))
-cmd-well file time gone s (Some c) cut kept = (tt, kept)
-
--- each command keeps its rule
-abbrev pub AllKeep : ℕ → (ℕ → ℕ) → List (Option Running) → Type 0
-AllKeep time gone subs = (i : ℕ) → Keeps time (gone i) (at_sub subs i)
-
-pub at_sub-brought : (time : ℕ) (subs : List (Option Running)) (i : ℕ) → at_sub (brought_all time subs) i ≡ option_map (brought time) (at_sub subs i)
-at_sub-brought time [] i = refl
-at_sub-brought time (x ∷ subs) zero = refl
-at_sub-brought time (x ∷ subs) (suc i) = at_sub-brought time subs i
-
-pub all-brought : (before time : ℕ) (gone : ℕ → ℕ) (subs : List (Option Running)) → before ≤ time → AllKeep before gone subs → AllKeep time gone (brought_all time subs)
-all-brought before time gone subs later kept i = subst (Keeps time (gone i)) (sym (at_sub-brought time subs i)) (brought-keeps before time (gone i) (at_sub subs i) later (kept i))
-
--- nothing is gone by an answer of which no command speaks
-gone-fine : (gone : ℕ → ℕ) (i : ℕ) → gone_of gone 0 Fine i ≡ gone i
-gone-fine gone i = same (nat_eq i 0) (gone i)
+-- a command that waits for its trigger has its places at 0, and takes another schedule of the same buffer
+trigger-keeps-on : (spot : Spot) (time : ℕ) (h : History) (c : Running) → time ≤ c.schedule.horizon → arrived c.schedule time ≡ 0 → c.end ≡ None → Keeps spot time h (Some c) → Keeps spot time h (Some (record c { schedule = triggered time c.schedule }))
+trigger-keeps-on spot time h c by early runs kept = (
+  record {
+    timely = kept.0.later time (omega arith) by;
+    later = λ at after below. kept.0.later at after (omega (arith, horizon));
+    same = refl;
+    places = places (is_out c.schedule) kept.0.places;
+    end = subst (λ (e : Option End). IsDueIfAny e (served d) (length s.conversions)) (sym runs) tt;
+  },
+  kept.1,
+  remembers (is_out c.schedule) kept.2,
+)
   where
-    same : (b : Bool) (n : ℕ) → (if b then n else n) ≡ n
-    same true n = refl
-    same false n = refl
+    s : Schedule
+    s = triggered time c.schedule
 
-all-acted : (time sub : ℕ) (gone : ℕ → ℕ) (subs : List (Option Running)) (reply : Reply) → sub < length subs → AllKeep time gone subs →
-    Keeps time (gone_after (gone sub) reply.answer) reply.running → AllKeep time (gone_of gone sub reply.answer) (set subs sub reply.running)
-all-acted time sub gone subs reply within kept here i = elim (cases_eq i sub) [
-  | inl same ↦ rw (eq-eqb i sub same) (subst (λ j. Keeps time (gone_after (gone j) reply.answer) (get_or (set subs sub reply.running) j None)) (sym same)
-      (rw (get_or-set_same subs sub reply.running None within) here))
-  | inr apart ↦ rw (ne_eqb i sub apart) (rw (get_or-set_other subs sub i reply.running None apart) (kept i))
-]
+    d : Running
+    d = record c { schedule = s }
 
--- a step is well where its answer continues what was gone of its subdevice, and all commands stay lawful
-pub record StepsWell (time sub : ℕ) (gone : ℕ → ℕ) (subs : List (Option Running)) (step : Step) : Type 0 where
-  pub answer : Continues step.answer (gone sub) (at_sub subs sub)
-  pub kept : AllKeep time (gone_of gone sub step.answer) step.subs
-  pub many : length step.subs ≡ length subs
+    horizon : s.horizon ≡ c.schedule.horizon
+    horizon = ap (λ (x : Schedule). x.horizon) (sym kept.0.same)
 
-acted-well : (time sub : ℕ) (gone : ℕ → ℕ) (subs : List (Option Running)) (reply : Reply) → sub < length subs → AllKeep time gone subs → IsWell time (gone sub) (at_sub subs sub) reply →
-    StepsWell time sub gone subs (record { answer = reply.answer; subs = set subs sub reply.running })
-acted-well time sub gone subs reply within kept well = record {
-  answer = well.0;
-  kept = all-acted time sub gone subs reply within kept well.1;
-  many = length-set subs sub reply.running;
-}
+    size : s.size ≡ c.schedule.size
+    size = ap (λ (x : Schedule). x.size) (sym kept.0.same)
 
-pub act-well : (s : Setting) (line : SessionLine) (op : Op) (gone : ℕ → ℕ) (subs : List (Option Running)) → signals.IsSoundSignals s.signals → line.time ≤ s.signals.horizon → Fits s.board op →
-    length subs ≡ length s.board.subs → AllKeep line.time gone subs → StepsWell line.time (named_sub op) gone subs (act s line op subs)
-act-well s line ops.OpenFile gone subs sound by fits many kept = record {
-  answer = tt;
-  kept = λ i. subst (λ n. Keeps line.time n (at_sub subs i)) (sym (gone-fine gone i)) (kept i);
-  many = refl;
-}
-act-well s line (ops.Cmd cmd) gone subs sound by fits many kept =
-    acted-well line.time cmd.sub gone subs (cmd_reply line.file (schedule_of (plan_at s line.time cmd)) (at_sub subs cmd.sub))
-    (omega (arith, fits.within, many)) kept
-    (cmd-well line.file line.time (gone cmd.sub) (schedule_of (plan_at s line.time cmd)) (at_sub subs cmd.sub) (planned s line.time cmd sound by fits).cut (kept cmd.sub))
-act-well s line (ops.Read sub n) gone subs sound by fits many kept =
-    acted-well line.time sub gone subs (read_reply n (at_sub subs sub)) (omega (arith, fits, many)) kept (read-well n line.time (gone sub) (at_sub subs sub) (kept sub))
+    places : (out : Bool) → HasPlaces out time c → HasPlaces out time d
+    places false i = record { r_ra = i.r_ra; ra_w = i.ra_w; w_a = i.w_a; w_size = omega (arith, i.w_size, size); w_come = omega (arith, i.w_come, early) }
+    places true o = record { r_ra = o.r_ra; r_w = o.r_w; w_a = o.w_a; a_size = omega (arith, o.a_size, size); r_come = omega (arith, o.r_come, early) }
 
-pub length-brought_all : (time : ℕ) (subs : List (Option Running)) → length (brought_all time subs) ≡ length subs
-length-brought_all time subs = length-map subs (option_map (brought time))
+    remembers : (out : Bool) → Remembers out h c → Remembers out h d
+    remembers false r = r
+    remembers true r = r
 
--- one line, with all commands brought to its time
-pub step-well : (s : Setting) (before : ℕ) (line : SessionLine) (gone : ℕ → ℕ) (subs : List (Option Running)) → signals.IsSoundSignals s.signals → before ≤ line.time → line.time ≤ s.signals.horizon → Fits s.board line.op →
-    length subs ≡ length s.board.subs → AllKeep before gone subs → StepsWell line.time (named_sub line.op) gone (brought_all line.time subs) (step s line subs)
-step-well s before line gone subs sound after by fits many kept =
-    act-well s line line.op gone (brought_all line.time subs) sound by fits (length-brought_all line.time subs ∙ many) (all-brought before line.time gone subs after kept)
+pub trigger-keeps : (spot : Spot) (time : ℕ) (h : History) (c : Running) → time ≤ c.schedule.horizon → waits time (Some c) ≡ true → Keeps spot time h (Some c) → Keeps spot time h (Some (trigger_on time c))
+trigger-keeps spot time h c by waiting kept = by_end c.end refl
+  where
+    given : c.end ≡ None → trigger_on time c ≡ record c { schedule = triggered time c.schedule }
+    given runs = rw runs refl
 
-goes_well : (s : Setting) (time : ℕ) (gone : ℕ → ℕ) (subs : List (Option Running)) (lines : List SessionLine) → signals.IsSoundSignals s.signals → length subs ≡ length s.board.subs → AllKeep time gone subs → InOrder s time lines → GoesWell s gone subs lines
-goes_well s time gone subs [] sound many kept order = tt
-goes_well s time gone subs (line ∷ rest) sound many kept order =
-    let well = step-well s time line gone subs sound order.0 order.1 order.2 many kept in (
-      all-brought time line.time gone subs order.0 kept,
-      well.answer,
-      goes_well s line.time _ _ rest sound (well.many ∙ length-brought_all line.time subs ∙ many) well.kept order.3,
-    )
+    ignored : (e : End) → c.end ≡ Some e → trigger_on time c ≡ c
+    ignored e ended = rw ended refl
 
-none_yet : (count i : ℕ) → Keeps 0 0 (at_sub (replicate count None) i)
-none_yet zero i = tt
-none_yet (suc count) zero = tt
-none_yet (suc count) (suc i) = none_yet count i
-
-length-replicate : {X : Type 0} (count : ℕ) (x : X) → length (replicate count x) ≡ count
-length-replicate zero x = refl
-length-replicate (suc count) x = ap suc (length-replicate count x)
-
-pub all_idle : (s : Setting) → AllKeep 0 (λ i. 0) (idle_subs s)
-all_idle s i = none_yet (length s.board.subs) i
-
-pub length-idle_subs : (s : Setting) → length (idle_subs s) ≡ length s.board.subs
-length-idle_subs s = length-replicate (length s.board.subs) None
-
-pub session_law : SessionLaw
-session_law job sound = goes_well (setting_of job) 0 (λ i. 0) (idle_subs (setting_of job)) job.lines sound.signals (length-idle_subs (setting_of job)) (all_idle (setting_of job)) sound.lines
-
-ready : (time later gone : ℕ) (running : Option Running) → Keeps time gone running → time ≤ later → later < 2 ^ 62 → IsReady later running
-ready time later gone None kept after small = small
-ready time later gone (Some c) kept after small = (small, omega (arith, kept.0.w_come, come-later time later c.schedule.conversions after))
-
--- a lawful session stays ready
-stay_ready : (s : Setting) (time : ℕ) (gone : ℕ → ℕ) (subs : List (Option Running)) (lines : List SessionLine) → signals.IsSoundSignals s.signals → length subs ≡ length s.board.subs → AllKeep time gone subs → InOrder s time lines → StayReady s subs lines
-stay_ready s time gone subs [] sound many kept order = tt
-stay_ready s time gone subs (line ∷ rest) sound many kept order =
-    let well = step-well s time line gone subs sound order.0 order.1 order.2 many kept in
-    let small : line.time < 2 ^ 62 = omega (arith, order.1, sound.horizon) in (
-      λ k d within. subst (IsReady line.time) (get_or_default subs k None d within) (ready time line.time (gone k) (at_sub subs k) (kept k) order.0 small),
-      stay_ready s line.time _ _ rest sound (well.many ∙ length-brought_all line.time subs ∙ many) well.kept order.3,
-    )
-
-pub job_stays_ready : (job : JobText) → IsJob job → StayReady (setting_of job) (idle_subs (setting_of job)) job.lines
-job_stays_ready job sound = stay_ready (setting_of job) 0 (λ i. 0) (idle_subs (setting_of job)) job.lines sound.signals (length-idle_subs (setting_of job)) (all_idle (setting_of job)) sound.lines
+    by_end : (e : Option End) → c.end ≡ e → Keeps spot time h (Some (trigger_on time c))
+    by_end None runs =
+        subst (λ (d : Running). Keeps spot time h (Some d)) (sym (given runs))
+        (trigger-keeps-on spot time h c by (kept.0.timely.early time (waits-early time c waiting)) runs kept)
+    by_end (Some e) ended = subst (λ (d : Running). Keeps spot time h (Some d)) (sym (ignored e ended)) kept

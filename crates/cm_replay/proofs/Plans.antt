@@ -2,35 +2,22 @@
 use Rattle.std.proofs.Common.{◌≡◌, ℕ, zero, suc, ◌+◌, ◌%◌, ◌<◌, ◌≤◌, Bool, true, false, List, [], ◌∷◌, length, get_or, refl, sym, ap, ◌∙◌, subst, arith, mod-lt}
 use Rattle.std.specs.Prelude.{if◌then◌else◌, slice_index}
 use Rattle.std.proofs.lemmas.Bool.{cond-false}
-use Rattle.cm_cmd.specs.Command.{CmdText}
 use Rattle.cm_cmd.specs.Entry.{chan}
 use Rattle.cm_board.specs.Board.{maxdata_of, munge_of}
 use Rattle.cm_sample.specs.Munging.{munged}
-use Rattle.cm_signal.specs.Signals as signals
 use Rattle.cm_expand.specs.Fit.{IsExpansion}
 use Rattle.cm_sample.specs.Rule.{map_from}
 use Rattle.cm_expand.specs.Items.{conv_at, input_at, items_of, raw_of}
-use Rattle.cm_expand.specs.Laws.{AreUpTo, NeverFall}
 use Rattle.cm_expand.specs.Plan.{PlanText, times_of}
 use Rattle.cm_expand.specs.Rule.{is_output, is_raw, munged_at}
 use Rattle.cm_expand.proofs.Counted.{items_counted}
 use Rattle.cm_expand.proofs.Fits.{fit}
 use Rattle.cm_expand.proofs.Sound.{IsSoundPlan, expansion_of, length-times_of}
-use Rattle.cm_replay.specs.Conversions.{NeverFallsFrom, come, munged_from}
+use Rattle.cm_replay.specs.Conversions.{munged_from}
 use Rattle.cm_replay.specs.Format.{IsSample}
-use Rattle.cm_replay.specs.Job.{CanRun}
 use Rattle.cm_replay.specs.Planned.{IsSchedule}
 use Rattle.cm_replay.specs.Schedules.{format_of, schedule_of}
-use Rattle.cm_replay.specs.Session.{Setting, plan_at}
-use Rattle.cm_replay.proofs.Come.{come-first}
-
-never_falls : (p : PlanText) (place low : ℕ) (ts : List ℕ) → NeverFall low ts → NeverFallsFrom low (map_from (conv_at p) place ts)
-never_falls p place low [] order = tt
-never_falls p place low (t ∷ ts) order = (order.0, never_falls p (suc place) t ts order.1)
-
-all_come : (p : PlanText) (place high : ℕ) (ts : List ℕ) → AreUpTo high ts → come high (map_from (conv_at p) place ts) ≡ length (map_from (conv_at p) place ts)
-all_come p place high [] up = refl
-all_come p place high (t ∷ ts) up = come-first high (conv_at p place t) (map_from (conv_at p) (suc place) ts) up.0 ∙ ap suc (all_come p (suc place) high ts up.1)
+use Rattle.cm_replay.proofs.Plannable.{all_come, never_falls}
 
 -- a munged word is a code where it is munged as an input's
 code_by : (raw out : Bool) (word other code most : ℕ) → raw ≡ false → out ≡ false → code ≤ most → (if raw then word else (if out then other else code)) ≤ most
@@ -60,9 +47,9 @@ samples_from p place (t ∷ ts) is some input (suc i) below =
     subst (λ n. IsSample (format_of p) n (get_or (munged_from (munged_at p.sub p.cmd) (suc place) (map_from (conv_at p) (suc place) ts)) i 0)) here
     (samples_from p (suc place) ts is some input i (omega arith))
 
--- the schedule of each sound plan of an input keeps its rules
-pub planned-schedule : (p : PlanText) → IsSoundPlan p → is_output p.sub.kind ≡ false → IsSchedule (schedule_of p)
-planned-schedule p sound input =
+-- the schedule of each sound plan keeps its rules
+pub planned-schedule : (p : PlanText) → IsSoundPlan p → IsSchedule (schedule_of p)
+planned-schedule p sound =
     let is = expansion_of p sound in
     let fits = fit p sound.sub sound.plan in
     let many = items_counted p in
@@ -74,19 +61,8 @@ planned-schedule p sound input =
       nonempty = sound.sub.buffer.low;
       small = sound.sub.buffer.high;
       format = record { some = fits.some; channels = fits.channels; ranges = fits.ranges };
-      codes = λ place below.
+      codes = λ input place below.
           let here : 0 + place ≡ place = omega arith in
           subst (λ n. IsSample (format_of p) n (get_or (munged_from (munged_at p.sub p.cmd) 0 (items_of p)) place 0)) here
           (samples_from p 0 (times_of p) is fits.some input place (omega (arith, many)));
     }
-
-pub sound_plan : (s : Setting) (time : ℕ) (cmd : CmdText) → signals.IsSoundSignals s.signals → time ≤ s.signals.horizon → CanRun s.board cmd → IsSoundPlan (plan_at s time cmd)
-sound_plan s time cmd sound by can = record {
-  sub = can.sound;
-  signals = sound;
-  plan = record { passed = can.passes; t0 = by; given = λ t e. absurd (cc) };
-}
-
--- the schedule of each accepted command keeps its rules
-pub planned : (s : Setting) (time : ℕ) (cmd : CmdText) → signals.IsSoundSignals s.signals → time ≤ s.signals.horizon → CanRun s.board cmd → IsSchedule (schedule_of (plan_at s time cmd))
-planned s time cmd sound by can = planned-schedule (plan_at s time cmd) (sound_plan s time cmd sound by can) can.input

@@ -1,118 +1,286 @@
 -- What is marked as read is a prefix of the samples.
-use Rattle.std.proofs.Common.{ne_eqb, ◌≡◌, ℕ, zero, suc, ◌+◌, ◌-◌, ◌<◌, ◌≤◌, min, Bool, true, false, List, [], ◌∷◌, ◌++◌, length, get_or, set, replicate, take, drop, refl, sym, ap, ◌∙◌, inl, inr, arith, length-take, get_or-set_same, get_or-set_other, subst, Option, Some, None}
-use Rattle.std.specs.Prelude.{nat_eq, if◌then◌else◌}
+use Rattle.std.proofs.Common.{ne_eqb, ◌≡◌, ℕ, ◌+◌, ◌<◌, Bool, true, false, List, [], ◌∷◌, ◌++◌, length, map, set, take, drop, refl, sym, ap, ◌∙◌, inl, inr, arith, length-take, subst, Option, Some, None}
+use Rattle.std.specs.Prelude.{nat_eq, ◌==◌, if◌then◌else◌}
 use Rattle.std.specs.Option.{option_map}
-use Rattle.std.proofs.lemmas.Bool.{cases_eq, eq-eqb}
+use Rattle.std.proofs.lemmas.Bool.{cases_eq, cases_Bool, eq-eqb}
 use Rattle.std.proofs.lemmas.List.{take_all}
+use Rattle.cm_base.proofs.Bools.{not_false}
 use Rattle.cm_base.proofs.Pieces.{take_sum}
-use Rattle.cm_signal.specs.Signals as signals
-use Rattle.cm_replay.specs.Job.{Fits, InOrder, IsJob, JobText, setting_of}
-use Rattle.cm_replay.specs.Law.{Continues, EndsWell, IsDue, IsPrefix, Keeps, PrefixLaw, ReadsPrefixes, gone_after, named_sub, reported_after, reported_of}
-use Rattle.cm_replay.specs.Reply.{Answer, Ended, Fine, Reply, Taken, cmd_reply, read_command, read_reply, taken}
-use Rattle.cm_replay.specs.Running.{Running, Schedule, brought, samples}
-use Rattle.cm_replay.specs.Schedules.{schedule_of}
-use Rattle.cm_replay.specs.Session.{Setting, Step, act, at_sub, brought_all, idle_subs, plan_at, step}
+use Rattle.cm_cmd.specs.Command.{CmdText}
+use Rattle.cm_insn.specs.Insn.{Done, time_words}
+use Rattle.cm_sub.specs.Checks.{first_refusal}
+use Rattle.cm_sub.specs.Claims.{cancel_checks}
+use Rattle.cm_sub.specs.Files.{close_checks, closed, open_checks, opened}
+use Rattle.cm_sub.specs.declared.errno.Errno.{Errno}
+use Rattle.cm_sub.specs.declared.errno.Errno.TheVariants.{Again}
+use Rattle.cm_test.specs.Questions.{tested}
+use Rattle.cm_session.specs.Limits.{InOrder}
+use Rattle.cm_session.specs.declared.op.Op.{Op}
+use Rattle.cm_session.specs.declared.op.Op.TheVariants as ops
+use Rattle.cm_session.specs.declared.op.SessionLine.{SessionLine}
+use Rattle.cm_replay.specs.Answers.{Answer, Data, Ended, Fine, Refused, Reply, unless_ended}
+use Rattle.cm_replay.specs.Calling.{cmd_reply, insn_reply, trigger_on, trigger_reply, waits}
+use Rattle.cm_replay.specs.Forms.{form, line_checks, named_sub}
+use Rattle.cm_replay.specs.Job.{setting_of}
+use Rattle.cm_replay.specs.Law.{EndsWell, History, IsDue, IsDueIfAny, IsPrefix, Keeps, PrefixLaw, ReadsPrefixes, Spot, no_history, reported_after, reported_of, served, spot_at}
+use Rattle.cm_replay.specs.Reading.{look_reply, map_reply, read_reply, release_reply, reported_end}
+use Rattle.cm_replay.specs.Running.{Running, brought, is_out, moved_on, put_out, samples}
+use Rattle.cm_replay.specs.Schedules.{triggered}
+use Rattle.cm_replay.specs.Session.{Outcome, act, act_on, brought_all, brought_device, closed_state, here, with_reply}
+use Rattle.cm_replay.specs.State.{Device, Here, Setting, State, at_start, claim_of, device_at}
+use Rattle.cm_replay.specs.Writing.{fill_reply, mark_reply, write_reply}
 use Rattle.cm_replay.specs.declared.ending.End.{End}
-use Rattle.cm_replay.specs.declared.ending.End.TheVariants.{Done, Dry, Overrun}
-use Rattle.cm_replay.specs.declared.session.Op.{Op}
-use Rattle.cm_replay.specs.declared.session.Op.TheVariants as ops
-use Rattle.cm_replay.specs.declared.session.SessionLine.{SessionLine}
-use Rattle.cm_replay.proofs.Bringing.{length-samples}
-use Rattle.cm_replay.proofs.Laws.{AllKeep, all-brought, all_idle, at_sub-brought, length-brought_all, length-idle_subs, moves, stays, step-well}
+use Rattle.cm_replay.specs.declared.ending.End.TheVariants as ends
+use Rattle.cm_replay.proofs.Checks.{passes, passes-both}
+use Rattle.cm_replay.proofs.Counts.{either-way}
+use Rattle.cm_replay.proofs.Laws.{ended-drained, ended-out, input, moves, moves-in, moves-out, served-in, stays, waits-early}
+use Rattle.cm_replay.proofs.Samples.{length-samples}
+use Rattle.cm_replay.proofs.SessionLaws.{AllKeep, IsSoundState, all-brought, all-idle, device_at-brought, first-idle, left-at, reached, set-other, set-same, sound-brought, sound-start, sound-stepped, step-well}
 
 -- the passing of time marks nothing as read
 prefix-brought : (time : ℕ) (reported : List ℕ) (running : Option Running) → IsPrefix reported running → IsPrefix reported (option_map (brought time) running)
 prefix-brought time reported None prefix = tt
 prefix-brought time reported (Some c) prefix = by_end c.end refl
   where
+    by_direction : IsPrefix reported (Some (moved_on c time))
+    by_direction = elim (cases_Bool (is_out c.schedule)) [
+      | inl out ↦
+          let is : moved_on c time ≡ put_out c time = moves-out c time out in
+          subst (λ (d : Running). IsPrefix reported (Some d)) (sym is) (λ inn. absurd (cc))
+      | inr inn ↦ subst (λ (d : Running). IsPrefix reported (Some d)) (sym (moves-in c time inn)) prefix
+    ]
+
     by_end : (e : Option End) → c.end ≡ e → IsPrefix reported (Some (brought time c))
-    by_end None runs = rw (moves time c runs) prefix
+    by_end None runs = rw (moves time c runs) by_direction
     by_end (Some e) ended = rw (stays time c e ended) prefix
 
 -- a line reads well where what is reported after it is a prefix of the samples, and an end comes at its place
 abbrev ReadsWell : List ℕ → Option Running → Reply → Type 0
-ReadsWell reported running reply = EndsWell reply.answer reported running × IsPrefix (reported_after reported reply.answer) reply.running
+ReadsWell reported running reply = EndsWell reply.answer reported running × IsPrefix (reported_after reported running reply.answer) reply.device.running
 
-taken-prefix : (n time gone : ℕ) (reported : List ℕ) (c : Running) → Keeps time gone (Some c) → IsPrefix reported (Some c) → ReadsWell reported (Some c) (taken n c)
-taken-prefix n time gone reported c kept prefix =
-    let k = min n (c.w - c.r) in
-    (tt, ap (λ t. t ++ take k (drop c.r (samples c.schedule))) prefix ∙ sym (take_sum c.r k (samples c.schedule)))
+-- more samples after those up to a place
+more-prefix : (reported : List ℕ) (c : Running) (k : ℕ) → IsPrefix reported (Some c) → is_out c.schedule ≡ false → reported ++ take k (drop c.r (samples c.schedule)) ≡ take (c.r + k) (samples c.schedule)
+more-prefix reported c k prefix inn = ap (λ (t : List ℕ). t ++ take k (drop c.r (samples c.schedule))) (prefix inn) ∙ sym (take_sum c.r k (samples c.schedule))
 
-end-well : (e : End) (reported : List ℕ) (c : Running) → IsPrefix reported (Some c) → c.r ≡ c.w → IsDue e c.w (length c.schedule.conversions) → EndsWell (Ended e) reported (Some c)
-end-well Done reported c prefix empty due = prefix ∙ take_all c.r (samples c.schedule) (omega (arith, length-samples c.schedule))
-end-well Dry reported c prefix empty due = prefix ∙ take_all c.r (samples c.schedule) (omega (arith, length-samples c.schedule))
-end-well (Overrun k) reported c prefix empty due = (
-  omega (arith, ap length prefix, length-take c.r (samples c.schedule), length-samples c.schedule, due.0, due.1),
+-- an input's end comes where all is read
+end-well : (e : End) (reported : List ℕ) (c : Running) → IsPrefix reported (Some c) → (is_out c.schedule ≡ false → c.r ≡ c.w) → IsDue e (served c) (length c.schedule.conversions) → EndsWell (Ended e) reported (Some c)
+end-well ends.Done reported c prefix empty due = λ inn. prefix inn ∙ take_all c.r (samples c.schedule) (omega (arith, empty inn, served-in c inn, due, length-samples c.schedule))
+end-well ends.Dry reported c prefix empty due = λ inn. prefix inn ∙ take_all c.r (samples c.schedule) (omega (arith, empty inn, served-in c inn, due, length-samples c.schedule))
+end-well (ends.Overrun k) reported c prefix empty due = λ inn. (
+  omega (arith, empty inn, served-in c inn, ap length (prefix inn), length-take c.r (samples c.schedule), length-samples c.schedule, due.0, due.1),
+  omega (arith, length-samples c.schedule, due.1),
+)
+end-well (ends.Underrun k) reported c prefix empty due = λ inn. (
+  omega (arith, empty inn, served-in c inn, ap length (prefix inn), length-take c.r (samples c.schedule), length-samples c.schedule, due.0, due.1),
+  omega (arith, length-samples c.schedule, due.1),
+)
+end-well (ends.Fifo k) reported c prefix empty due = λ inn. (
+  omega (arith, empty inn, served-in c inn, ap length (prefix inn), length-take c.r (samples c.schedule), length-samples c.schedule, due.0, due.1),
   omega (arith, length-samples c.schedule, due.1),
 )
 
-read-prefix : (n time gone : ℕ) (reported : List ℕ) (running : Option Running) → Keeps time gone running → IsPrefix reported running → ReadsWell reported running (read_reply n running)
-read-prefix n time gone reported None kept prefix = (tt, tt)
-read-prefix n time gone reported (Some c) kept prefix = elim (cases_eq c.r c.w) [
-  | inl empty ↦ rw (eq-eqb _ _ empty) (by_end empty c.end refl)
-  | inr some ↦ rw (ne_eqb _ _ some) (taken-prefix n time gone reported c kept prefix)
+-- the end that is reported, if any: of an input where nothing is left
+reported-drained : (c : Running) (e : End) → reported_end c ≡ Some e → (is_out c.schedule ≡ false → c.r ≡ c.w) × (c.end ≡ Some e)
+reported-drained c e said = elim (cases_Bool (is_out c.schedule)) [
+  | inl out ↦ (λ inn. absurd (cc), sym (ended-out c out) ∙ said)
+  | inr inn ↦ let d = ended-drained c e inn said in (λ i. d.0, d.1)
 ]
-  where
-    by_end : c.r ≡ c.w → (e : Option End) → c.end ≡ e → ReadsWell reported (Some c) (read_command n c e)
-    by_end empty None runs = taken-prefix n time gone reported c kept prefix
-    by_end empty (Some e) ended = (end-well e reported c prefix empty (rw ended at kept.0.end), tt)
 
-cmd-prefix : (file : ℕ) (s : Schedule) (reported : List ℕ) (running : Option Running) → IsPrefix reported running → ReadsWell reported running (cmd_reply file s running)
-cmd-prefix file s reported None prefix = (tt, refl)
-cmd-prefix file s reported (Some c) prefix = (tt, prefix)
+or-ended : (spot : Spot) (h : Here) (hist : History) (reported : List ℕ) (c : Running) (reply : Reply) → Keeps spot h.time hist (Some c) → IsPrefix reported (Some c) → ReadsWell reported (Some c) reply → (e : Option End) → reported_end c ≡ e →
+    ReadsWell reported (Some c) (unless_ended h e reply)
+or-ended spot h hist reported c reply keeps prefix well None said = well
+or-ended spot h hist reported c reply keeps prefix well (Some e) said =
+    let d = reported-drained c e said in
+    (end-well e reported c prefix d.0 (subst (λ o. IsDueIfAny o (served c) (length c.schedule.conversions)) d.1 keeps.0.end), tt)
+
+read-prefix : (spot : Spot) (n : ℕ) (h : Here) (hist : History) (reported : List ℕ) (running : Option Running) → Keeps spot h.time hist running → running ≡ h.device.running → IsPrefix reported running → ReadsWell reported running (read_reply n h running)
+read-prefix spot n h hist reported None keeps same prefix = (tt, subst (IsPrefix reported) same tt)
+read-prefix spot n h hist reported (Some c) keeps same prefix = or-ended spot h hist reported c _ keeps prefix (tt, λ inn. more-prefix reported c _ prefix inn) (reported_end c) refl
+
+map-prefix : (spot : Spot) (n : ℕ) (h : Here) (hist : History) (reported : List ℕ) (running : Option Running) → Keeps spot h.time hist running → running ≡ h.device.running → IsPrefix reported running → ReadsWell reported running (map_reply n h running)
+map-prefix spot n h hist reported None keeps same prefix = (tt, subst (IsPrefix reported) same tt)
+map-prefix spot n h hist reported (Some c) keeps same prefix = or-ended spot h hist reported c _ keeps prefix (tt, prefix) (reported_end c) refl
+
+look-prefix : (i : ℕ) (h : Here) (reported : List ℕ) (running : Option Running) → running ≡ h.device.running → IsPrefix reported running → ReadsWell reported running (look_reply i h running)
+look-prefix i h reported None same prefix = (tt, subst (IsPrefix reported) same tt)
+look-prefix i h reported (Some c) same prefix = (tt, subst (IsPrefix reported) same prefix)
+
+release-prefix : (k : ℕ) (h : Here) (reported : List ℕ) (running : Option Running) → running ≡ h.device.running → IsPrefix reported running → ReadsWell reported running (release_reply k h running)
+release-prefix k h reported None same prefix = (tt, subst (IsPrefix reported) same tt)
+release-prefix k h reported (Some c) same prefix = (tt, λ inn. more-prefix reported c k prefix inn)
+
+write-prefix : (spot : Spot) (words : List ℕ) (h : Here) (hist : History) (reported : List ℕ) (running : Option Running) → Keeps spot h.time hist running → running ≡ h.device.running → IsPrefix reported running → ReadsWell reported running (write_reply words h running)
+write-prefix spot words h hist reported None keeps same prefix = (tt, subst (IsPrefix reported) same tt)
+write-prefix spot words h hist reported (Some c) keeps same prefix = or-ended spot h hist reported c _ keeps prefix (tt, prefix) (reported_end c) refl
+
+fill-prefix : (spot : Spot) (words : List ℕ) (h : Here) (hist : History) (reported : List ℕ) (running : Option Running) → Keeps spot h.time hist running → running ≡ h.device.running → IsPrefix reported running → ReadsWell reported running (fill_reply words h running)
+fill-prefix spot words h hist reported None keeps same prefix = (tt, subst (IsPrefix reported) same tt)
+fill-prefix spot words h hist reported (Some c) keeps same prefix = or-ended spot h hist reported c _ keeps prefix (tt, prefix) (reported_end c) refl
+
+mark-prefix : (k : ℕ) (h : Here) (reported : List ℕ) (running : Option Running) → running ≡ h.device.running → IsPrefix reported running → ReadsWell reported running (mark_reply k h running)
+mark-prefix k h reported None same prefix = (tt, subst (IsPrefix reported) same tt)
+mark-prefix k h reported (Some c) same prefix = (tt, prefix)
+
+shown-prefix : (shown : Bool) (h : Here) (reported : List ℕ) (done : Option Done) → IsPrefix reported h.device.running → ReadsWell reported h.device.running (insn_reply shown h done)
+shown-prefix shown h reported None prefix = (tt, prefix)
+shown-prefix shown h reported (Some done) prefix = (tt, prefix)
+
+call-prefix : (cmd : CmdText) (h : Here) (reported : List ℕ) → IsPrefix reported h.device.running → ReadsWell reported h.device.running (cmd_reply h cmd)
+call-prefix cmd h reported prefix = elim (cases_Bool ((tested h.sub cmd).0 == 0)) [
+  | inl passed ↦ rw passed (tt, λ inn. refl)
+  | inr failed ↦ rw failed (tt, prefix)
+]
+
+-- of a command that waits for its trigger nothing was read, and so it is with each other schedule
+trigger-prefix : (spot : Spot) (h : Here) (hist : History) (reported : List ℕ) (running : Option Running) → waits h.time running ≡ true → Keeps spot h.time hist running → running ≡ h.device.running → IsPrefix reported running →
+    ReadsWell reported running (trigger_reply h running)
+trigger-prefix spot h hist reported None waiting keeps same prefix = (tt, subst (IsPrefix reported) same tt)
+trigger-prefix spot h hist reported (Some c) waiting keeps same prefix = (tt, by_end c.end refl)
+  where
+    none_read : is_out c.schedule ≡ false → c.r ≡ 0
+    none_read inn =
+        let i = input (is_out c.schedule) h.time c inn keeps.0.places in
+        omega (arith, i.r_ra, i.ra_w, i.w_come, keeps.0.timely.early h.time (waits-early h.time c waiting))
+
+    again : IsPrefix reported (Some (record c { schedule = triggered h.time c.schedule }))
+    again = λ inn. prefix inn ∙ ap (λ k. take k (samples c.schedule)) (none_read inn) ∙ ap (λ k. take k (samples (triggered h.time c.schedule))) (sym (none_read inn))
+
+    by_end : (e : Option End) → c.end ≡ e → IsPrefix reported (Some (trigger_on h.time c))
+    by_end None runs =
+        let is : trigger_on h.time c ≡ record c { schedule = triggered h.time c.schedule } = rw runs refl in
+        subst (λ (d : Running). IsPrefix reported (Some d)) (sym is) again
+    by_end (Some e) ended =
+        let is : trigger_on h.time c ≡ c = rw ended refl in
+        subst (λ (d : Running). IsPrefix reported (Some d)) (sym is) prefix
+
+-- a line that no check refuses reads well
+form-prefix : (spot : Spot) (op : Op) (h : Here) (hist : History) (reported : List ℕ) → Keeps spot h.time hist h.device.running → IsPrefix reported h.device.running → first_refusal (form op h).checks ≡ None → ReadsWell reported h.device.running (form op h).reply
+form-prefix spot ops.OpenFile h hist reported keeps prefix passed = (tt, prefix)
+form-prefix spot ops.CloseFile h hist reported keeps prefix passed = (tt, prefix)
+form-prefix spot (ops.Lock sub) h hist reported keeps prefix passed = (tt, prefix)
+form-prefix spot (ops.Unlock sub) h hist reported keeps prefix passed = (tt, prefix)
+form-prefix spot (ops.Cmd cmd) h hist reported keeps prefix passed = call-prefix cmd h reported prefix
+form-prefix spot (ops.Cancel sub) h hist reported keeps prefix passed = (tt, tt)
+form-prefix spot (ops.Read sub n) h hist reported keeps prefix passed = read-prefix spot n h hist reported h.device.running keeps refl prefix
+form-prefix spot (ops.Map sub n) h hist reported keeps prefix passed = map-prefix spot n h hist reported h.device.running keeps refl prefix
+form-prefix spot (ops.Look sub i) h hist reported keeps prefix passed = look-prefix i h reported h.device.running refl prefix
+form-prefix spot (ops.Release sub k) h hist reported keeps prefix passed = release-prefix k h reported h.device.running refl prefix
+form-prefix spot (ops.Contents sub) h hist reported keeps prefix passed = (tt, prefix)
+form-prefix spot (ops.Write sub words) h hist reported keeps prefix passed = write-prefix spot words h hist reported h.device.running keeps refl prefix
+form-prefix spot (ops.Fill sub words) h hist reported keeps prefix passed = fill-prefix spot words h hist reported h.device.running keeps refl prefix
+form-prefix spot (ops.Mark sub k) h hist reported keeps prefix passed = mark-prefix k h reported h.device.running refl prefix
+form-prefix spot (ops.InsnRead sub entry n) h hist reported keeps prefix passed = shown-prefix true h reported _ prefix
+form-prefix spot (ops.InsnWrite sub entry words) h hist reported keeps prefix passed = shown-prefix false h reported _ prefix
+form-prefix spot (ops.InsnBits sub mask bits) h hist reported keeps prefix passed = shown-prefix true h reported _ prefix
+form-prefix spot (ops.InsnConfig sub entry word) h hist reported keeps prefix passed = shown-prefix false h reported _ prefix
+form-prefix spot (ops.InsnGtod sub) h hist reported keeps prefix passed = (tt, prefix)
+form-prefix spot (ops.InsnIntTrig sub number) h hist reported keeps prefix passed =
+    let p = passes-both (cancel_checks h.file (claim_of h)) _ passed in
+    trigger-prefix spot h hist reported h.device.running (not_false _ (passes Again _ _ p.1).0) keeps refl prefix
 
 -- each command's marked samples are a prefix
-abbrev AllPrefixes : (ℕ → List ℕ) → List (Option Running) → Type 0
-AllPrefixes reported subs = (i : ℕ) → IsPrefix (reported i) (at_sub subs i)
+abbrev AllPrefixes : (ℕ → List ℕ) → List Device → Type 0
+AllPrefixes reported devices = (i : ℕ) → IsPrefix (reported i) (device_at devices i).running
 
-all-prefixes-brought : (time : ℕ) (reported : ℕ → List ℕ) (subs : List (Option Running)) → AllPrefixes reported subs → AllPrefixes reported (brought_all time subs)
-all-prefixes-brought time reported subs prefixes i = subst (IsPrefix (reported i)) (sym (at_sub-brought time subs i)) (prefix-brought time (reported i) (at_sub subs i) (prefixes i))
+prefixes-brought : (time : ℕ) (reported : ℕ → List ℕ) (devices : List Device) → AllPrefixes reported devices → AllPrefixes reported (map (brought_device time) devices)
+prefixes-brought time reported devices prefixes i =
+    subst (λ (d : Device). IsPrefix (reported i) d.running) (sym (device_at-brought time devices i)) (prefix-brought time (reported i) (device_at devices i).running (prefixes i))
 
-reported-fine : (reported : ℕ → List ℕ) (i : ℕ) → reported_of reported 0 Fine i ≡ reported i
-reported-fine reported i = same (nat_eq i 0) (reported i)
+-- an answer of which no command speaks marks nothing as read
+same-reported : (reported : ℕ → List ℕ) (sub i : ℕ) (running : Option Running) (answer : Answer) → ((xs : List ℕ) → reported_after xs running answer ≡ xs) → reported_of reported sub running answer i ≡ reported i
+same-reported reported sub i running answer nothing = by (nat_eq i sub)
   where
-    same : (b : Bool) (xs : List ℕ) → (if b then xs else xs) ≡ xs
-    same true xs = refl
-    same false xs = refl
+    by : (b : Bool) → (if b then reported_after (reported i) running answer else reported i) ≡ reported i
+    by true = nothing (reported i)
+    by false = refl
 
-all-prefixes-acted : (sub : ℕ) (reported : ℕ → List ℕ) (subs : List (Option Running)) (reply : Reply) → sub < length subs → AllPrefixes reported subs →
-    IsPrefix (reported_after (reported sub) reply.answer) reply.running → AllPrefixes (reported_of reported sub reply.answer) (set subs sub reply.running)
-all-prefixes-acted sub reported subs reply within prefixes here i = elim (cases_eq i sub) [
-  | inl same ↦ rw (eq-eqb i sub same) (subst (λ j. IsPrefix (reported_after (reported j) reply.answer) (get_or (set subs sub reply.running) j None)) (sym same)
-      (rw (get_or-set_same subs sub reply.running None within) here))
-  | inr apart ↦ rw (ne_eqb i sub apart) (rw (get_or-set_other subs sub i reply.running None apart) (prefixes i))
-]
+-- what a line does reads well
+abbrev ActsWell : ℕ → (ℕ → List ℕ) → State → Outcome → Type 0
+ActsWell sub reported state outcome =
+    EndsWell outcome.answer (reported sub) (device_at state.devices sub).running
+    × AllPrefixes (reported_of reported sub (device_at state.devices sub).running outcome.answer) outcome.state.devices
 
-abbrev ActsWell : ℕ → (ℕ → List ℕ) → List (Option Running) → Step → Type 0
-ActsWell sub reported subs step = EndsWell step.answer (reported sub) (at_sub subs sub) × AllPrefixes (reported_of reported sub step.answer) step.subs
+unread-prefix : (sub : ℕ) (reported : ℕ → List ℕ) (state : State) (outcome : Outcome) → ((xs : List ℕ) → reported_after xs (device_at state.devices sub).running outcome.answer ≡ xs) →
+    EndsWell outcome.answer (reported sub) (device_at state.devices sub).running → AllPrefixes reported outcome.state.devices → ActsWell sub reported state outcome
+unread-prefix sub reported state outcome nothing ends prefixes =
+    (ends, λ i. subst (λ xs. IsPrefix xs (device_at outcome.state.devices i).running) (sym (same-reported reported sub i (device_at state.devices sub).running outcome.answer nothing)) (prefixes i))
 
-act-prefix : (s : Setting) (line : SessionLine) (op : Op) (gone : ℕ → ℕ) (reported : ℕ → List ℕ) (subs : List (Option Running)) → Fits s.board op → length subs ≡ length s.board.subs → AllKeep line.time gone subs → AllPrefixes reported subs →
-    ActsWell (named_sub op) reported subs (act s line op subs)
-act-prefix s line ops.OpenFile gone reported subs fits many kept prefixes = (tt, λ i. subst (λ t. IsPrefix t (at_sub subs i)) (sym (reported-fine reported i)) (prefixes i))
-act-prefix s line (ops.Cmd cmd) gone reported subs fits many kept prefixes =
-    let reply = cmd_reply line.file (schedule_of (plan_at s line.time cmd)) (at_sub subs cmd.sub) in
-    let well = cmd-prefix line.file (schedule_of (plan_at s line.time cmd)) (reported cmd.sub) (at_sub subs cmd.sub) (prefixes cmd.sub) in
-    (well.0, all-prefixes-acted cmd.sub reported subs reply (omega (arith, fits.within, many)) prefixes well.1)
-act-prefix s line (ops.Read sub n) gone reported subs fits many kept prefixes =
-    let reply = read_reply n (at_sub subs sub) in
-    let well = read-prefix n line.time (gone sub) (reported sub) (at_sub subs sub) (kept sub) (prefixes sub) in
-    (well.0, all-prefixes-acted sub reported subs reply (omega (arith, fits, many)) prefixes well.1)
+-- no end is reported by these answers, and no sample
+quiet-fine : (running : Option Running) (xs : List ℕ) → reported_after xs running Fine ≡ xs
+quiet-fine None xs = refl
+quiet-fine (Some c) xs = refl
 
-reads_prefixes : (s : Setting) (time : ℕ) (gone : ℕ → ℕ) (reported : ℕ → List ℕ) (subs : List (Option Running)) (lines : List SessionLine) → signals.IsSoundSignals s.signals → length subs ≡ length s.board.subs →
-    AllKeep time gone subs → AllPrefixes reported subs → InOrder s time lines → ReadsPrefixes s reported subs lines
-reads_prefixes s time gone reported subs [] sound many kept prefixes order = tt
-reads_prefixes s time gone reported subs (line ∷ rest) sound many kept prefixes order =
-    let now = brought_all line.time subs in
-    let count : length now ≡ length s.board.subs = length-brought_all line.time subs ∙ many in
-    let here = all-prefixes-brought line.time reported subs prefixes in
-    let well = step-well s time line gone subs sound order.0 order.1 order.2 many kept in
-    let reads = act-prefix s line line.op gone reported now order.2 count (all-brought time line.time gone subs order.0 kept) here in
-    (here, reads.0, reads_prefixes s line.time _ _ _ rest sound (well.many ∙ count) well.kept reads.1 order.3)
+quiet-refused : (running : Option Running) (error : Errno) (xs : List ℕ) → reported_after xs running (Refused error) ≡ xs
+quiet-refused None error xs = refl
+quiet-refused (Some c) error xs = refl
 
-none_reported : (count i : ℕ) → IsPrefix [] (at_sub (replicate count None) i)
-none_reported zero i = tt
-none_reported (suc count) zero = tt
-none_reported (suc count) (suc i) = none_reported count i
+quiet-words : (running : Option Running) (n : ℕ) (words xs : List ℕ) → reported_after xs running (Data n words) ≡ xs
+quiet-words None n words xs = refl
+quiet-words (Some c) n words xs = refl
 
+refused-prefix : (sub : ℕ) (reported : ℕ → List ℕ) (state : State) → AllPrefixes reported state.devices → (error : Errno) → ActsWell sub reported state (record { answer = Refused error; state = state })
+refused-prefix sub reported state prefixes error = unread-prefix sub reported state (record { answer = Refused error; state = state }) (quiet-refused (device_at state.devices sub).running error) tt prefixes
+
+replied-prefix : (sub : ℕ) (reported : ℕ → List ℕ) (state : State) (reply : Reply) → sub < length state.devices → AllPrefixes reported state.devices → ReadsWell (reported sub) (device_at state.devices sub).running reply →
+    ActsWell sub reported state (with_reply sub state reply)
+replied-prefix sub reported state reply within prefixes well =
+    let running = (device_at state.devices sub).running in (
+      well.0,
+      λ i. elim (cases_eq i sub) [
+        | inl same ↦ rw (eq-eqb i sub same) (subst (λ j. IsPrefix (reported_after (reported j) running reply.answer) (device_at (set state.devices sub reply.device) j).running) (sym same)
+            (set-same (IsPrefix (reported_after (reported sub) running reply.answer)) state.devices sub reply.device within well.1))
+        | inr apart ↦ rw (ne_eqb i sub apart) (set-other (IsPrefix (reported i)) state.devices sub i reply.device apart (prefixes i))
+      ],
+    )
+
+on-prefix : (s : Setting) (line : SessionLine) (op : Op) (histories : ℕ → History) (reported : ℕ → List ℕ) (state : State) → IsSoundState s state → AllKeep s line.time histories state.devices → AllPrefixes reported state.devices →
+    ActsWell (named_sub line.op) reported state (act_on op (here s line state) state)
+on-prefix s line op histories reported state sound keep prefixes =
+    either-way (ActsWell (named_sub line.op) reported state) (first_refusal (line_checks op h ++ (form op h).checks)) state (with_reply h.index state (form op h).reply) well (refused-prefix (named_sub line.op) reported state prefixes)
+  where
+    h : Here
+    h = here s line state
+
+    well : first_refusal (line_checks op h ++ (form op h).checks) ≡ None → ActsWell (named_sub line.op) reported state (with_reply (named_sub line.op) state (form op h).reply)
+    well passed =
+        let r = reached s line op state sound passed in
+        let sub = named_sub line.op in
+        replied-prefix sub reported state (form op h).reply r.0 prefixes (form-prefix (spot_at s sub) op h (histories sub) (reported sub) (keep sub) (prefixes sub) r.1)
+
+act-prefix : (s : Setting) (line : SessionLine) (op : Op) (histories : ℕ → History) (reported : ℕ → List ℕ) (state : State) → IsSoundState s state → AllKeep s line.time histories state.devices → AllPrefixes reported state.devices →
+    ActsWell (named_sub line.op) reported state (act s line op state)
+act-prefix s line ops.OpenFile histories reported state sound keep prefixes =
+    let sub = named_sub line.op in
+    either-way (ActsWell sub reported state) (first_refusal (open_checks line.file state.files)) state (record { answer = Fine; state = record state { files = opened line.file state.files } })
+    (λ passed. unread-prefix sub reported state (record { answer = Fine; state = record state { files = opened line.file state.files } }) (quiet-fine (device_at state.devices sub).running) tt prefixes)
+    (refused-prefix sub reported state prefixes)
+act-prefix s line ops.CloseFile histories reported state sound keep prefixes =
+    let sub = named_sub line.op in
+    either-way (ActsWell sub reported state) (first_refusal (close_checks line.file state.files)) state (record { answer = Fine; state = closed_state line.file state })
+    (λ passed. unread-prefix sub reported state (record { answer = Fine; state = closed_state line.file state }) (quiet-fine (device_at state.devices sub).running) tt
+    (λ i. left-at (IsPrefix (reported i)) (closed line.file state.files).claims state.devices i tt (prefixes i)))
+    (refused-prefix sub reported state prefixes)
+act-prefix s line (ops.InsnGtod n) histories reported state sound keep prefixes =
+    let sub = named_sub line.op in
+    either-way (ActsWell sub reported state) (first_refusal (close_checks line.file state.files)) state (record { answer = Data 2 (time_words line.time); state = state })
+    (λ passed. unread-prefix sub reported state (record { answer = Data 2 (time_words line.time); state = state }) (quiet-words (device_at state.devices sub).running 2 (time_words line.time)) tt prefixes)
+    (refused-prefix sub reported state prefixes)
+act-prefix s line op histories reported state sound keep prefixes = on-prefix s line op histories reported state sound keep prefixes
+
+reads_prefixes : (s : Setting) (time : ℕ) (histories : ℕ → History) (reported : ℕ → List ℕ) (state : State) (lines : List SessionLine) → IsSoundState s state → AllKeep s time histories state.devices → AllPrefixes reported state.devices →
+    InOrder s.signals.horizon time lines → ReadsPrefixes s reported state lines
+reads_prefixes s time histories reported state [] sound keep prefixes order = tt
+reads_prefixes s time histories reported state (line ∷ rest) sound keep prefixes order =
+    let now = brought_all line.time state in
+    let here_prefixes = prefixes-brought line.time reported state.devices prefixes in
+    let here_keep = all-brought s time line.time histories state.devices order.0 keep in
+    let well = step-well s time line histories state sound order.0 order.1.0 keep in
+    let reads = act-prefix s line line.op histories reported now (sound-brought s line.time state sound) here_keep here_prefixes in
+    (here_prefixes, reads.0, reads_prefixes s line.time _ _ _ rest (sound-stepped s line state sound) well.kept reads.1 order.2)
+
+-- what is marked as read is a prefix of the samples in each session of a sound job
 pub prefix_law : PrefixLaw
-prefix_law job sound = reads_prefixes (setting_of job) 0 (λ i. 0) (λ i. []) (idle_subs (setting_of job)) job.lines sound.signals (length-idle_subs (setting_of job)) (all_idle (setting_of job)) (none_reported (length job.board.subs)) sound.lines
+prefix_law job sound =
+    let s = setting_of job in
+    reads_prefixes s 0 (λ i. no_history) (λ i. []) (at_start s) job.lines (sound-start s sound.subs sound.is.signals) (all-idle s)
+    (λ i. subst (IsPrefix []) (sym (first-idle s.board.subs i)) tt) sound.is.lines

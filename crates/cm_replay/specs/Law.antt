@@ -1,107 +1,187 @@
 -- What holds at every line of a session.
-use Rattle.std.specs.Prelude.{◌≡◌, ℕ, ◌+◌, ◌<◌, ◌≤◌, List, [], ◌∷◌, ◌++◌, length, take, drop, Option, Some, None, nat_eq, if◌then◌else◌}
-use Rattle.cm_replay.specs.Conversions.{come}
+use Rattle.std.specs.Prelude.{◌≡◌, ℕ, ◌+◌, ◌-◌, ◌<◌, ◌≤◌, Bool, true, false, List, [], ◌∷◌, ◌++◌, length, take, drop, slice_index, Option, Some, None, nat_eq, if◌then◌else◌}
+use Rattle.std.specs.List.{All}
+use Rattle.cm_board.specs.Board.{IsSoundSub, SubText}
+use Rattle.cm_expand.specs.Plan.{PlanText}
+use Rattle.cm_sample.specs.Rule.{map_from}
+use Rattle.cm_signal.specs.Signals.{SignalsText}
+use Rattle.cm_session.specs.declared.op.SessionLine.{SessionLine}
+use Rattle.cm_replay.specs.Answers.{Answer, Begun, Ended, Filled, Looked, Released, Taken, Written}
+use Rattle.cm_replay.specs.Forms.{named_sub}
 use Rattle.cm_replay.specs.Job.{JobText, IsJob, setting_of}
-use Rattle.cm_replay.specs.Running.{Running, samples}
-use Rattle.cm_replay.specs.Reply.{Answer, Begun, Taken, Ended}
-use Rattle.cm_replay.specs.Session.{Setting, at_sub, brought_all, idle_subs, step}
+use Rattle.cm_replay.specs.Running.{Output, Running, arrived, due, is_out, munge_in, outputs, put_by, samples}
+use Rattle.cm_replay.specs.Schedules.{schedule_of, triggered}
+use Rattle.cm_replay.specs.Session.{brought_all, step}
+use Rattle.cm_replay.specs.State.{Setting, State, at_start, device_at, sub_at}
+use Rattle.cm_replay.specs.Timely.{IsTimely}
+use Rattle.cm_replay.specs.Writing.{munged_within}
 use Rattle.cm_replay.specs.declared.ending.End.{End}
-use Rattle.cm_replay.specs.declared.ending.End.TheVariants.{Overrun}
-use Rattle.cm_replay.specs.declared.session.Op.{Op}
-use Rattle.cm_replay.specs.declared.session.Op.TheVariants as ops
-use Rattle.cm_replay.specs.declared.session.SessionLine.{SessionLine}
+use Rattle.cm_replay.specs.declared.ending.End.TheVariants.{Done, Dry, Overrun, Underrun, Fifo}
 
--- an end is due where `w` of so many samples are written: all, or exactly `k` of more
+-- an end is due at a place of so many conversions: at the last, or exactly at `k` of more
 abbrev pub IsDue : End → ℕ → ℕ → Type 0
-IsDue (Overrun k) w all = (w ≡ k) × (k < all)
-IsDue quiet w all = w ≡ all
+IsDue (Overrun k) place all = (place ≡ k) × (k < all)
+IsDue (Underrun k) place all = (place ≡ k) × (k < all)
+IsDue (Fifo k) place all = (place ≡ k) × (k < all)
+IsDue quiet place all = place ≡ all
 
--- an end that is reported is due
+-- an end is due where there is one
 abbrev pub IsDueIfAny : Option End → ℕ → ℕ → Type 0
-IsDueIfAny None w all = Unit {0}
-IsDueIfAny (Some e) w all = IsDue e w all
+IsDueIfAny None place all = Unit {0}
+IsDueIfAny (Some e) place all = IsDue e place all
+
+-- the place up to which the board has served a command: written, or put out
+abbrev pub served : Running → ℕ
+served c = if is_out c.schedule then c.r else c.w
+
+-- the places of an input that was brought to a time
+pub record IsInput (time : ℕ) (c : Running) : Type 0 where
+  pub r_ra : c.r ≤ c.ra
+  pub ra_w : c.ra ≤ c.w
+  pub w_a : c.w ≡ c.a
+  pub w_size : c.w ≤ c.r + c.schedule.size
+  pub w_come : c.w ≤ arrived c.schedule time
+
+-- the places of an output that was brought to a time
+pub record IsOutput (time : ℕ) (c : Running) : Type 0 where
+  pub r_ra : c.r ≡ c.ra
+  pub r_w : c.r ≤ c.w
+  pub w_a : c.w ≤ c.a
+  pub a_size : c.a ≤ c.r + c.schedule.size
+  pub r_come : c.r ≤ arrived c.schedule time
+
+-- the places of a command by its direction
+abbrev pub HasPlaces : Bool → ℕ → Running → Type 0
+HasPlaces false time c = IsInput time c
+HasPlaces true time c = IsOutput time c
 
 -- the rule of a command that was brought to a time
 pub record IsLawful (time : ℕ) (c : Running) : Type 0 where
-  pub r_ra : c.r ≤ c.ra
-  pub ra_w : c.ra ≤ c.w
-  pub w_all : c.w ≤ length c.schedule.conversions
-  pub w_size : c.w ≤ c.r + c.schedule.size
-  pub w_a : c.w ≡ c.a
-  pub w_come : c.w ≤ come time c.schedule.conversions
-  pub cut : come c.schedule.horizon c.schedule.conversions ≡ length c.schedule.conversions
-  pub end : IsDueIfAny c.end c.w (length c.schedule.conversions)
+  pub timely : IsTimely c.schedule
+  pub later : (at : ℕ) → time ≤ at → at ≤ c.schedule.horizon → IsTimely (triggered at c.schedule)
+  pub same : c.schedule ≡ schedule_of c.schedule.plan
+  pub places : HasPlaces (is_out c.schedule) time c
+  pub end : IsDueIfAny c.end (served c) (length c.schedule.conversions)
 
--- the command is lawful, and as many of its samples are gone as r says
-abbrev pub Keeps : ℕ → ℕ → Option Running → Type 0
-Keeps time gone None = Unit {0}
-Keeps time gone (Some c) = IsLawful time c × (gone ≡ c.r)
+-- what was done with a subdevice since its last command started: how many samples were marked as read, and the words that its client gave
+pub record History : Type 0 where
+  pub gone : ℕ
+  pub given : List ℕ
 
--- an answer has the next samples, or reports an end where nothing is left
-abbrev pub Continues : Answer → ℕ → Option Running → Type 0
-Continues (Taken f place words) gone (Some c) = (place ≡ gone) × (words ≡ take (length words) (drop place (samples c.schedule)))
-Continues (Ended e) gone (Some c) = (c.r ≡ c.w) × IsDue e c.w (length c.schedule.conversions)
-Continues (Taken f place words) gone None = ⊥
-Continues (Ended e) gone None = ⊥
-Continues other gone running = Unit {0}
+-- nothing was done
+abbrev pub no_history : History
+no_history = record { gone = 0; given = [] }
 
--- how many samples are gone since the last command started
-abbrev pub gone_after : ℕ → Answer → ℕ
-gone_after gone Begun = 0
-gone_after gone (Taken f place words) = gone + length words
-gone_after gone other = gone
+-- an input's marked samples are counted by r; an output's buffer has the client's words from r on, munged below w
+abbrev pub Remembers : Bool → History → Running → Type 0
+Remembers false h c = h.gone ≡ c.r
+Remembers true h c = (length h.given ≡ c.a) × (c.words ≡ map_from (munged_within (munge_in c.schedule) 0 c.w) c.r (drop c.r h.given))
 
--- the subdevice of which a line speaks
-abbrev pub named_sub : Op → ℕ
-named_sub ops.OpenFile = 0
-named_sub (ops.Cmd cmd) = cmd.sub
-named_sub (ops.Read sub n) = sub
+-- a subdevice and its signals
+pub record Spot : Type 0 where
+  pub sub : SubText
+  pub signals : SignalsText
 
--- how many samples of each subdevice are gone after an answer
-abbrev pub gone_of : (ℕ → ℕ) → ℕ → Answer → ℕ → ℕ
-gone_of gone sub answer i = if nat_eq i sub then gone_after (gone i) answer else gone i
+-- those of a number
+abbrev pub spot_at : Setting → ℕ → Spot
+spot_at s i = record { sub = sub_at s.board i; signals = s.signals }
 
--- at every line each command, brought to its time, is lawful, and the answer continues what was gone of its subdevice
-abbrev pub GoesWell : Setting → (ℕ → ℕ) → List (Option Running) → List SessionLine → Type 0
-GoesWell s gone subs [] = Unit {0}
-GoesWell s gone subs (line ∷ rest) =
-    ((i : ℕ) → Keeps line.time (gone i) (at_sub (brought_all line.time subs) i))
-    × Continues (step s line subs).answer (gone (named_sub line.op)) (at_sub (brought_all line.time subs) (named_sub line.op))
-    × GoesWell s (gone_of gone (named_sub line.op) (step s line subs).answer) (step s line subs).subs rest
+-- a plan is one of theirs
+abbrev pub IsOf : Spot → PlanText → Type 0
+IsOf spot p = (p.sub ≡ spot.sub) × (p.signals ≡ spot.signals)
+
+-- a command is lawful, one of its subdevice, and as its history says
+abbrev pub Keeps : Spot → ℕ → History → Option Running → Type 0
+Keeps spot time h None = Unit {0}
+Keeps spot time h (Some c) = IsLawful time c × IsOf spot c.schedule.plan × Remembers (is_out c.schedule) h c
+
+-- an answer has the next samples, or one that is mapped, or reports an end where nothing is left
+abbrev pub Continues : Answer → History → Option Running → Type 0
+Continues (Taken f place words) h (Some c) = (place ≡ h.gone) × (words ≡ take (length words) (drop place (samples c.schedule)))
+Continues (Looked f place word) h (Some c) = (h.gone ≤ place) × (place < c.ra) × (word ≡ slice_index (samples c.schedule) place)
+Continues (Ended e) h (Some c) = (is_out c.schedule ≡ false → c.r ≡ c.w) × IsDue e (served c) (length c.schedule.conversions)
+Continues (Taken f place words) h None = ⊥
+Continues (Looked f place word) h None = ⊥
+Continues (Ended e) h None = ⊥
+Continues other h running = Unit {0}
+
+-- the words that a client's words become, each put out at the time of its conversion
+abbrev pub puts : ℕ → ℕ → History → Running → List Output
+puts sub time h c = outputs sub (take (put_by c time - c.r) (drop c.r c.schedule.arrivals)) (map_from (munge_in c.schedule) c.r (drop c.r h.given))
+
+-- what is put out by a line's time are the client's words, munged by their places, at the times of their conversions
+abbrev pub PutsOut : ℕ → ℕ → History → Option Running → Type 0
+PutsOut sub time h None = Unit {0}
+PutsOut sub time h (Some c) = c.end ≡ None → is_out c.schedule ≡ true → due sub time c ≡ puts sub time h c
+
+-- what an answer adds to a history
+abbrev pub remembered : History → Answer → History
+remembered h Begun = no_history
+remembered h (Taken f place words) = record h { gone = h.gone + length words }
+remembered h (Released k) = record h { gone = h.gone + k }
+remembered h (Written words) = record h { given = h.given ++ words }
+remembered h (Filled words) = record h { given = h.given ++ words }
+remembered h other = h
+
+-- what an answer adds to the history of its subdevice
+abbrev pub remembered_at : (ℕ → History) → ℕ → Answer → ℕ → History
+remembered_at histories sub answer i = if nat_eq i sub then remembered (histories i) answer else histories i
+
+-- at every line each command, brought to its time, is lawful, what was put out are the client's words, and the answer continues what was read
+abbrev pub GoesWell : Setting → (ℕ → History) → State → List SessionLine → Type 0
+GoesWell s histories state [] = Unit {0}
+GoesWell s histories state (line ∷ rest) =
+    ((i : ℕ) → Keeps (spot_at s i) line.time (histories i) (device_at (brought_all line.time state).devices i).running)
+    × ((i : ℕ) → PutsOut i line.time (histories i) (device_at state.devices i).running)
+    × Continues (step s line state).answer (histories (named_sub line.op)) (device_at (brought_all line.time state).devices (named_sub line.op)).running
+    × GoesWell s (remembered_at histories (named_sub line.op) (step s line state).answer) (step s line state).state rest
+
+-- what a job and its board keep
+pub record IsSoundJob (job : JobText) : Type 0 where
+  pub is : IsJob job
+  pub subs : All IsSoundSub job.board.subs
 
 -- the session law
 abbrev pub SessionLaw : Type 0
-SessionLaw = (job : JobText) → IsJob job → GoesWell (setting_of job) (λ i. 0) (idle_subs (setting_of job)) job.lines
+SessionLaw = (job : JobText) → IsSoundJob job → GoesWell (setting_of job) (λ i. no_history) (at_start (setting_of job)) job.lines
 
 -- the samples that were marked as read since the last command started
-abbrev pub reported_after : List ℕ → Answer → List ℕ
-reported_after reported Begun = []
-reported_after reported (Taken f place words) = reported ++ words
-reported_after reported other = reported
+abbrev pub reported_after : List ℕ → Option Running → Answer → List ℕ
+reported_after reported running Begun = []
+reported_after reported running (Taken f place words) = reported ++ words
+reported_after reported (Some c) (Released k) = reported ++ take k (drop c.r (samples c.schedule))
+reported_after reported running other = reported
 
--- the samples of each subdevice that were marked as read since its last command started, after an answer
-abbrev pub reported_of : (ℕ → List ℕ) → ℕ → Answer → ℕ → List ℕ
-reported_of reported sub answer i = if nat_eq i sub then reported_after (reported i) answer else reported i
+-- the same of each subdevice, after an answer of one that had this command
+abbrev pub reported_of : (ℕ → List ℕ) → ℕ → Option Running → Answer → ℕ → List ℕ
+reported_of reported sub running answer i = if nat_eq i sub then reported_after (reported i) running answer else reported i
 
--- what was marked as read of a command is the prefix of its samples up to place r
+-- what was marked as read of an input's command is the prefix of its samples up to place r
 abbrev pub IsPrefix : List ℕ → Option Running → Type 0
 IsPrefix reported None = Unit {0}
-IsPrefix reported (Some c) = reported ≡ take c.r (samples c.schedule)
+IsPrefix reported (Some c) = is_out c.schedule ≡ false → reported ≡ take c.r (samples c.schedule)
+
+-- the end of an input: where its samples are lost after the first `k`, exactly these were read, and otherwise all
+abbrev pub IsEndAt : End → List ℕ → List ℕ → Type 0
+IsEndAt Done reported all = reported ≡ all
+IsEndAt Dry reported all = reported ≡ all
+IsEndAt (Overrun k) reported all = (length reported ≡ k) × (k < length all)
+IsEndAt (Underrun k) reported all = (length reported ≡ k) × (k < length all)
+IsEndAt (Fifo k) reported all = (length reported ≡ k) × (k < length all)
 
 -- an end is reported where all was read that was written: the whole, or exactly `k` samples of more
 abbrev pub EndsWell : Answer → List ℕ → Option Running → Type 0
-EndsWell (Ended (Overrun k)) reported (Some c) = (length reported ≡ k) × (k < length (samples c.schedule))
-EndsWell (Ended quiet) reported (Some c) = reported ≡ samples c.schedule
+EndsWell (Ended e) reported (Some c) = is_out c.schedule ≡ false → IsEndAt e reported (samples c.schedule)
 EndsWell other reported running = Unit {0}
 
 -- at every line what was marked as read is a prefix of the munged expansion, and the whole where the answer is `done` or `dry`
-abbrev pub ReadsPrefixes : Setting → (ℕ → List ℕ) → List (Option Running) → List SessionLine → Type 0
-ReadsPrefixes s reported subs [] = Unit {0}
-ReadsPrefixes s reported subs (line ∷ rest) =
-    ((i : ℕ) → IsPrefix (reported i) (at_sub (brought_all line.time subs) i))
-    × EndsWell (step s line subs).answer (reported (named_sub line.op)) (at_sub (brought_all line.time subs) (named_sub line.op))
-    × ReadsPrefixes s (reported_of reported (named_sub line.op) (step s line subs).answer) (step s line subs).subs rest
+abbrev pub ReadsPrefixes : Setting → (ℕ → List ℕ) → State → List SessionLine → Type 0
+ReadsPrefixes s reported state [] = Unit {0}
+ReadsPrefixes s reported state (line ∷ rest) =
+    ((i : ℕ) → IsPrefix (reported i) (device_at (brought_all line.time state).devices i).running)
+    × EndsWell (step s line state).answer (reported (named_sub line.op)) (device_at (brought_all line.time state).devices (named_sub line.op)).running
+    × ReadsPrefixes s (reported_of reported (named_sub line.op) (device_at (brought_all line.time state).devices (named_sub line.op)).running (step s line state).answer) (step s line state).state rest
 
 -- what is marked as read is a prefix of the munged expansion in trigger order, and the whole where `done` or `dry` is reported
 abbrev pub PrefixLaw : Type 0
-PrefixLaw = (job : JobText) → IsJob job → ReadsPrefixes (setting_of job) (λ i. []) (idle_subs (setting_of job)) job.lines
+PrefixLaw = (job : JobText) → IsSoundJob job → ReadsPrefixes (setting_of job) (λ i. []) (at_start (setting_of job)) job.lines

@@ -1,10 +1,10 @@
--- What the schedule of each accepted command keeps.
-use Rattle.std.specs.Prelude.{◌≡◌, ℕ, ◌<◌, ◌≤◌, ◌^◌, length, slice_index}
+-- What the code asks of the schedule of a command.
+use Rattle.std.specs.Prelude.{◌≡◌, ℕ, ◌<◌, ◌≤◌, ◌^◌, false, length, slice_index}
 use Rattle.cm_replay.specs.Conversions.{come, NeverFalls}
 use Rattle.cm_replay.specs.Format.{IsFormat, IsSample}
-use Rattle.cm_replay.specs.Running.{Schedule, samples}
+use Rattle.cm_replay.specs.Running.{Schedule, is_out, samples}
 
--- times never fall and end at the horizon, the buffer can be opened, and each sample can be reported
+-- times never fall and end at the horizon, the buffer can be opened, and each sample of an input can be reported
 pub record IsSchedule (s : Schedule) : Type 0 where
   pub order : NeverFalls s.conversions
   pub cut : come s.horizon s.conversions ≡ length s.conversions
@@ -13,4 +13,4 @@ pub record IsSchedule (s : Schedule) : Type 0 where
   pub nonempty : 1 ≤ s.size
   pub small : s.size ≤ 65536
   pub format : IsFormat s.format
-  pub codes : (place : ℕ) → place < length s.conversions → IsSample s.format place (slice_index (samples s) place)
+  pub codes : is_out s ≡ false → (place : ℕ) → place < length s.conversions → IsSample s.format place (slice_index (samples s) place)

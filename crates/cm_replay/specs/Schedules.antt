@@ -1,22 +1,29 @@
 -- What is planned for a command of a board.
+use Rattle.std.specs.Prelude.{ℕ, None, Some}
 use Rattle.cm_expand.specs.Items.{items_of}
-use Rattle.cm_expand.specs.Plan.{is_complete, stop_edge_of}
-use Rattle.cm_expand.specs.Plan.{PlanText}
+use Rattle.cm_expand.specs.Plan.{PlanText, is_complete, stop_edge_of}
 use Rattle.cm_expand.specs.Rule.{is_raw}
 use Rattle.cm_replay.specs.Format.{Format}
 use Rattle.cm_replay.specs.Running.{Schedule}
 
+-- how the samples of a plan's command are reported
 abbrev pub format_of : PlanText → Format
 format_of p = record { sub = p.sub; list = p.cmd.list; raw = is_raw p.cmd.flags }
 
+-- what a plan comes to, where each conversion reaches the buffer when it is made
 abbrev pub schedule_of : PlanText → Schedule
 schedule_of p = record {
-  sub = p.sub;
-  cmd = p.cmd;
+  plan = p;
   conversions = items_of p;
   complete = is_complete p;
+  arrivals = items_of p;
+  lost_at = None;
   edge = stop_edge_of p;
   horizon = p.signals.horizon;
   size = p.sub.buffer;
   format = format_of p;
 }
+
+-- what is planned once an internal trigger is given at a time
+abbrev pub triggered : ℕ → Schedule → Schedule
+triggered time s = schedule_of (record s.plan { trig = Some time })

@@ -1,98 +1,100 @@
--- A session: its lines, one after the other.
-use Rattle.std.specs.Prelude.{ℕ, List, [], ◌∷◌, ◌++◌, length, map, set, get_or, replicate, pos, false, Option, None}
-use Rattle.std.specs.Option.{option_map}
-use Rattle.cm_board.specs.Board.{BoardText, SubText}
-use Rattle.cm_board.specs.declared.board.Kind.TheVariants.{Unused}
-use Rattle.cm_board.specs.declared.board.Munge.TheVariants.{Plain}
-use Rattle.cm_cmd.specs.Command.{CmdText}
-use Rattle.cm_expand.specs.Plan.{PlanText}
-use Rattle.cm_signal.specs.Signals.{SignalsText}
-use Rattle.cm_replay.specs.Running.{Running, brought}
-use Rattle.cm_replay.specs.Reply.{Answer, Fine, Reply, cmd_reply, read_reply, answer_text}
-use Rattle.cm_replay.specs.Schedules.{schedule_of}
-use Rattle.cm_replay.specs.declared.session.Op.{Op}
-use Rattle.cm_replay.specs.declared.session.Op.TheVariants as ops
-use Rattle.cm_replay.specs.declared.session.SessionLine.{SessionLine}
+-- A session: what each line answers and does, one after the other.
+use Rattle.std.specs.Prelude.{ℕ, suc, List, [], ◌∷◌, ◌++◌, map, set, Option, Some, None, if◌then◌else◌}
+use Rattle.std.specs.Option.{is_some, option_map}
+use Rattle.cm_insn.specs.Insn.{time_words}
+use Rattle.cm_sub.specs.Checks.{first_refusal}
+use Rattle.cm_sub.specs.Files.{FilesText, close_checks, closed, open_checks, opened}
+use Rattle.cm_sub.specs.declared.claim.Claim.{Claim}
+use Rattle.cm_sub.specs.declared.errno.Errno.{Errno}
+use Rattle.cm_session.specs.declared.op.Op.{Op}
+use Rattle.cm_session.specs.declared.op.Op.TheVariants as ops
+use Rattle.cm_session.specs.declared.op.SessionLine.{SessionLine}
+use Rattle.cm_replay.specs.Answers.{Answer, Data, Fine, Refused, Reply}
+use Rattle.cm_replay.specs.Forms.{form, line_checks, named_sub}
+use Rattle.cm_replay.specs.Running.{Output, Running, brought, due}
+use Rattle.cm_replay.specs.State.{Device, Here, Setting, State, device_at, sub_at}
 
--- what all lines of a session have in common
-pub record Setting : Type 0 where
-  pub board : BoardText
-  pub signals : SignalsText
-
--- a place of a board that has no subdevice
-abbrev pub no_sub : SubText
-no_sub = record {
-  kind = Unused;
-  channels = 0;
-  maxdata = 1;
-  munge = Plain;
-  ranges = [];
-  masks = record { start = 0; scan_begin = 0; convert = 0; scan_end = 0; stop = 0 };
-  tick = 1;
-  scan_min = 1;
-  scan_max = 1;
-  conv_min = 1;
-  conv_max = 1;
-  list_max = 1;
-  scans_max = 1;
-  lines = 0;
-  buffer = 1;
-  same_range = false;
-  forbidden = [];
-  chans = [];
-  invert = false;
-  fifo = None;
+-- what a line that names a subdevice sees
+abbrev pub here : Setting → SessionLine → State → Here
+here s line state = record {
+  time = line.time;
+  file = line.file;
+  index = named_sub line.op;
+  sub = sub_at s.board (named_sub line.op);
+  signals = s.signals;
+  files = state.files;
+  device = device_at state.devices (named_sub line.op);
 }
 
--- the subdevice with this number
-abbrev pub sub_at : BoardText → ℕ → SubText
-sub_at board i = get_or board.subs i no_sub
-
--- the plan of a command that is called at a time
-abbrev pub plan_at : Setting → ℕ → CmdText → PlanText
-plan_at s time cmd = record { sub = sub_at s.board cmd.sub; signals = s.signals; cmd = cmd; index = cmd.sub; t0 = time; trig = None }
-
--- an answer, and the commands of all subdevices after it
-pub record Step : Type 0 where
+-- an answer, and the state after it
+pub record Outcome : Type 0 where
   pub answer : Answer
-  pub subs : List (Option Running)
+  pub state : State
 
--- each subdevice's command brought to a time
-abbrev pub brought_all : ℕ → List (Option Running) → List (Option Running)
-brought_all time subs = map (option_map (brought time)) subs
+-- a line does what it does where no check refuses it, and otherwise changes nothing
+abbrev pub unless_refused : Option Errno → State → Outcome → Outcome
+unless_refused None state outcome = outcome
+unless_refused (Some error) state outcome = record { answer = Refused error; state = state }
 
--- the command of a subdevice
-abbrev pub at_sub : List (Option Running) → ℕ → Option Running
-at_sub subs sub = get_or subs sub None
+-- the state in which one subdevice replied
+abbrev pub with_reply : ℕ → State → Reply → Outcome
+with_reply i state reply = record { answer = reply.answer; state = record { files = reply.files; devices = set state.devices i reply.device } }
 
--- the step of a session in which one subdevice replies
-abbrev pub acted : ℕ → List (Option Running) → Reply → Step
-acted sub subs reply = record { answer = reply.answer; subs = set subs sub reply.running }
+-- a line that names a subdevice
+abbrev pub act_on : Op → Here → State → Outcome
+act_on op h state = unless_refused (first_refusal (line_checks op h ++ (form op h).checks)) state (with_reply h.index state (form op h).reply)
+
+-- a command goes on where its file still has the subdevice
+abbrev pub left_by : Claim → Device → Device
+left_by claim device = if is_some claim.runner then device else record device { running = None }
+
+-- the subdevices with the commands that these claims leave them
+abbrev pub left_devices : List Claim → List Device → List Device
+left_devices (claim ∷ claims) (device ∷ devices) = left_by claim device ∷ left_devices claims devices
+left_devices claims devices = devices
+
+-- a closed file has given up its locks and its commands
+abbrev pub closed_state : ℕ → State → State
+closed_state f state = record { files = closed f state.files; devices = left_devices (closed f state.files).claims state.devices }
 
 -- what a line does once all commands are brought to its time
-abbrev pub act : Setting → SessionLine → Op → List (Option Running) → Step
-act s line ops.OpenFile subs = record { answer = Fine; subs = subs }
-act s line (ops.Cmd cmd) subs = acted cmd.sub subs (cmd_reply line.file (schedule_of (plan_at s line.time cmd)) (at_sub subs cmd.sub))
-act s line (ops.Read sub n) subs = acted sub subs (read_reply n (at_sub subs sub))
+abbrev pub act : Setting → SessionLine → Op → State → Outcome
+act s line ops.OpenFile state =
+    unless_refused (first_refusal (open_checks line.file state.files)) state (record { answer = Fine; state = record state { files = opened line.file state.files } })
+act s line ops.CloseFile state =
+    unless_refused (first_refusal (close_checks line.file state.files)) state (record { answer = Fine; state = closed_state line.file state })
+act s line (ops.InsnGtod sub) state =
+    unless_refused (first_refusal (close_checks line.file state.files)) state (record { answer = Data 2 (time_words line.time); state = state })
+act s line op state = act_on op (here s line state) state
+
+-- a subdevice's command brought to a time
+abbrev pub brought_device : ℕ → Device → Device
+brought_device time d = record d { running = option_map (brought time) d.running }
+
+-- each subdevice's command brought to a time
+abbrev pub brought_all : ℕ → State → State
+brought_all time state = record state { devices = map (brought_device time) state.devices }
+
+-- what a subdevice puts out up to a time
+abbrev pub due_of : ℕ → ℕ → Option Running → List Output
+due_of sub time None = []
+due_of sub time (Some c) = due sub time c
+
+-- what all subdevices from this number on put out up to a time
+abbrev pub due_from : ℕ → ℕ → List Device → List Output
+due_from sub time [] = []
+due_from sub time (d ∷ devices) = due_of sub time d.running ++ due_from (suc sub) time devices
+
+-- what is put out by a line's time, the answer to the line, and the state after it
+pub record Step : Type 0 where
+  pub outputs : List Output
+  pub answer : Answer
+  pub state : State
+
+-- an outcome after what was put out
+abbrev pub stepped : List Output → Outcome → Step
+stepped outputs outcome = record { outputs = outputs; answer = outcome.answer; state = outcome.state }
 
 -- the session step
-abbrev pub step : Setting → SessionLine → List (Option Running) → Step
-step s line subs = act s line line.op (brought_all line.time subs)
-
--- the answers to the lines of a session, one for each
-abbrev pub answers : Setting → List (Option Running) → List SessionLine → List Answer
-answers s subs [] = []
-answers s subs (line ∷ rest) = (step s line subs).answer ∷ answers s (step s line subs).subs rest
-
--- the texts of answers, one after another
-abbrev pub texts : List Answer → List ℕ
-texts [] = []
-texts (a ∷ rest) = answer_text a ++ texts rest
-
--- no command runs
-abbrev pub idle_subs : Setting → List (Option Running)
-idle_subs s = replicate (length s.board.subs) None
-
--- the text that is answered to a session
-abbrev pub replay_text : Setting → List SessionLine → List ℕ
-replay_text s lines = texts (answers s (idle_subs s) lines)
+abbrev pub step : Setting → SessionLine → State → Step
+step s line state = stepped (due_from 0 line.time state.devices) (act s line line.op (brought_all line.time state))

@@ -1,5 +1,5 @@
 -- How contracts see a setting.
-use Rattle.cm_replay.specs.Session.{Setting}
+use Rattle.cm_replay.specs.State.{Setting}
 use Rattle.cm_replay.specs.declared.setting.Setting.TheInside.{Inside}
 
 -- a board with its signals, as contracts see it

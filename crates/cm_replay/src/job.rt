@@ -1,12 +1,12 @@
 // A job of a replay.
 
-use crate::session::SessionLine;
 use cm_board::board::BoardDesc;
+use cm_session::op::SessionLine;
 use cm_signal::signals::Signals;
 use std::marker::Model;
 
 /// A board, its signals, and the lines of a session over them: no line is before an earlier one or
-/// after the horizon, and each names a subdevice of the board, which accepts the line's command.
+/// after the horizon, and each is within the limits of its form.
 #[derive(Drop)]
 pub struct Job {
     pub board: BoardDesc,

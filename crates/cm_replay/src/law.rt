@@ -1,8 +1,10 @@
 // What holds of the definitions alone.
 ghost use Rattle.cm_replay.specs.Law.{PrefixLaw, SessionLaw};
+ghost use Rattle.cm_replay.specs.Refusals.{ForeignLaw, RefusalLaw, TiedLaw};
 
-/// At every line of a session each command is lawful, and the line's answer continues what was gone
-/// of its subdevice.
+/// At every line of a session each command is lawful, what was put out are the client's words, each
+/// munged by its place and at the time of its conversion, and the line's answer continues what was
+/// read of its subdevice.
 pub fn sessions_go_well()
     ensures { SessionLaw }
 {}
@@ -11,4 +13,19 @@ pub fn sessions_go_well()
 /// the whole where `done` or `dry` is reported, and `overrun k` follows exactly k samples of more.
 pub fn what_is_read_is_a_prefix()
     ensures { PrefixLaw }
+{}
+
+/// A line that is refused leaves the state as it was brought to its time.
+pub fn refused_lines_leave_the_state()
+    ensures { RefusalLaw }
+{}
+
+/// A line never changes a command that another file runs, nor a lock that another file holds.
+pub fn other_files_keep_theirs()
+    ensures { ForeignLaw }
+{}
+
+/// A subdevice stays busy exactly where a command is there.
+pub fn busy_is_having_a_command()
+    ensures { TiedLaw }
 {}

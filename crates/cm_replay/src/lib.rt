@@ -1,15 +1,24 @@
 // Replay of a session in board time, on one thread.
 #![tactic(auto)]
 
+pub mod acting;
+pub mod at;
+pub mod calling;
+pub mod closing;
 pub mod coming;
 pub mod command;
 pub mod ending;
 pub mod filling;
+pub mod instructing;
 pub mod job;
 pub mod law;
+pub mod locking;
+pub mod passing;
+pub mod reading;
 pub mod replay;
-pub mod session;
+pub mod seat;
 pub mod setting;
 #[cfg(test)]
 mod tests;
 pub mod text;
+pub mod trying;

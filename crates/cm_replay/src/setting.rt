@@ -12,7 +12,7 @@ pub struct Setting<'a> {
 }
 
 impl<'a> Model for Setting<'a> {
-    ghost use Rattle.cm_replay.specs.Session.{Setting as SettingText};
+    ghost use Rattle.cm_replay.specs.State.{Setting as SettingText};
 
     ghost Value = { SettingText };
 

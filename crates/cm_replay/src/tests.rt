@@ -2,6 +2,7 @@
 use crate::ending::End;
 use crate::text::{put_end, put_fine, put_idle, put_refused};
 use cm_base::transfer::NoMemory;
+use cm_sub::errno::Errno;
 use std::alloc::Global;
 use std::test::Fail;
 
@@ -19,7 +20,7 @@ fn said(alloc: Global) -> Result<Vec<u8>, NoMemory> {
     let mut text = Vec::new(alloc);
     put_fine(&mut text)?;
     put_idle(&mut text)?;
-    put_refused(&mut text, 16)?;
+    put_refused(&mut text, Errno::Busy)?;
     let ends = [End::Done, End::Dry, End::Overrun(0), End::Overrun(u64::MAX)];
     for end in ends {
         put_end(&mut text, end)?;

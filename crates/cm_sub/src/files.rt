@@ -209,8 +209,8 @@ impl Files {
         give_up(f, &mut self.claims);
     }
 
-    // Who has a subdevice.
-    fn claim(&self, sub: u32) -> Claim
+    /// Who has a subdevice: the file with its lock, and the file whose command runs.
+    pub fn claim(&self, sub: u32) -> Claim
         requires { sub < length self.now.claims }
         ensures { result ≡ claim_at self.now sub }
     {
@@ -234,8 +234,8 @@ impl Files {
         self.set_claim(sub, Claim { holder, runner });
     }
 
-    // Changes with which file a subdevice is busy.
-    fn set_runner(&mut self, sub: u32, runner: Option<u32>)
+    /// Makes a subdevice busy with a file, or idle, without a check.
+    pub fn set_runner(&mut self, sub: u32, runner: Option<u32>)
         requires { sub < length self.old.claims }
         ensures { self.new ≡ with_runner runner sub self.old }
     {

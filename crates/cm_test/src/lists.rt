@@ -8,7 +8,7 @@ use cm_board::board::Sub;
 use cm_cmd::entry::{chan, range};
 
 /// Whether the list has a length, entries and ranges that the subdevice takes.
-pub(crate) fn is_valid_list(sub: &Sub, list: &[u32]) -> bool
+pub fn is_valid_list(sub: &Sub, list: &[u32]) -> bool
     ensures { result ≡ spec.is_valid_list sub.now list.now }
 {
     has_valid_length(sub, list) && has_valid_entries(sub, list) && has_valid_ranges(sub, list)

@@ -14,6 +14,8 @@ mod real_boards;
 #[cfg(test)]
 mod second_tests;
 #[cfg(test)]
+mod session_tests;
+#[cfg(test)]
 mod tests;
 #[cfg(test)]
 mod text;

@@ -5,7 +5,7 @@ use Rattle.cm_base.specs.LineView.{line_view}
 use Rattle.cm_base.specs.Lines.{LineText}
 use Rattle.cm_base.specs.Reading.{at_line, read_each}
 use Rattle.cm_base.proofs.Places.{line_taken}
-use Rattle.cm_replay.specs.Session.{Setting}
+use Rattle.cm_replay.specs.State.{Setting}
 use Rattle.cm_cli.specs.ExpandSession.{CanExpand, expand_line, length_of, length_of_all}
 use Rattle.cm_cli.specs.Totals.{Reports}
 use Rattle.cm_cli.specs.declared.expanding.ExpandLine.{ExpandLine}

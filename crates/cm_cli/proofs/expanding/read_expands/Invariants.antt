@@ -1,7 +1,7 @@
 use Rattle.std.proofs.Common.{◌≡◌, length}
 use Rattle.std.specs.List.{All}
 use Rattle.cm_base.specs.Reading.{read_each}
-use Rattle.cm_replay.specs.Session.{Setting}
+use Rattle.cm_replay.specs.State.{Setting}
 use Rattle.cm_cli.specs.ExpandSession.{CanExpand, expands_of, length_of_all}
 use Rattle.cm_cli.specs.Totals.{Reports}
 use Rattle.cm_cli.proofs.ExpandLines.{read_next}

@@ -4,7 +4,7 @@ use Rattle.cm_base.specs.ReadStop.{Gives}
 use Rattle.cm_base.specs.Reading.{at_line}
 use Rattle.cm_base.specs.declared.faults.Fault.{Fault}
 use Rattle.cm_base.specs.declared.faults.Refused.{Refused}
-use Rattle.cm_replay.specs.Session.{Setting}
+use Rattle.cm_replay.specs.State.{Setting}
 use Rattle.cm_signal.specs.Signals.{SignalsText}
 use Rattle.cm_cli.specs.ExpandSession.{accepted_line, expand_words, line_of}
 use Rattle.cm_cli.specs.declared.expanding.ExpandLine.{ExpandLine}

@@ -4,7 +4,8 @@ use Rattle.std.specs.Result.{IfOk}
 use Rattle.cm_base.specs.declared.faults.Refused.{Refused}
 use Rattle.cm_board.specs.Board.{BoardText, SubText, IsSoundSub, IsSoundBoard}
 use Rattle.cm_replay.specs.Job.{InOrder}
-use Rattle.cm_replay.specs.Session.{no_sub, sub_at}
+use Rattle.cm_board.specs.Board.{no_sub}
+use Rattle.cm_replay.specs.State.{sub_at}
 use Rattle.cm_replay.specs.declared.session.SessionLine.{SessionLine}
 use Rattle.cm_signal.specs.Signals.{SignalsText}
 use Rattle.cm_signal.specs.Signals as signals

@@ -3,7 +3,8 @@ use Rattle.std.specs.Fmt.{decimal}
 use Rattle.cm_ring_core.specs.Local.{Ring}
 use Rattle.cm_replay.specs.CommandView.{its_schedule}
 use Rattle.cm_replay.specs.Format.{IsSample, sample_lines}
-use Rattle.cm_replay.specs.Reply.{answer_text, taken}
+use Rattle.cm_replay.specs.Texts.{answer_text}
+use Rattle.cm_replay.specs.Reading.{taken}
 use Rattle.cm_replay.specs.Running.{Running}
 use Rattle.cm_replay.proofs.Commands.{codes-ring, length-ring, read-answer}
 use Rattle.cm_replay.proofs.command.Command.read.Goals as goal
@@ -11,7 +12,7 @@ use Rattle.cm_replay.proofs.command.Command.read.Goals as goal
 pub put_taken-reported-requires-clause-held : goal.put_taken-reported-requires-clause-held
 put_taken-reported-requires-clause-held c =
     let step = c.self.invariant.in_step in
-    omega (arith, c.read_alloc-granted.ensures.granted, step.level.m_w, step.unmapped, ap (λ (ring : Ring). length ring.held) c.read_alloc-granted.ensures.after, length-ring c.self.inside c.self.invariant)
+    omega (arith, c.read_alloc-granted.ensures.granted, step.level.m_w, subst (λ (r : Running). r.ra ≡ r.r) (sym c.self.view_is) c.requires, ap (λ (ring : Ring). length ring.held) c.read_alloc-granted.ensures.after, length-ring c.self.inside c.self.invariant)
 
 pub put_taken-reported-requires-clause-places : goal.put_taken-reported-requires-clause-places
 put_taken-reported-requires-clause-places c =
@@ -20,8 +21,8 @@ put_taken-reported-requires-clause-places c =
       arith,
       c.read_alloc-granted.ensures.granted,
       step.level.m_w,
-      step.unmapped,
-      step.r_w,
+      subst (λ (r : Running). r.ra ≡ r.r) (sym c.self.view_is) c.requires,
+      step.r_ra, step.ra_w,
       step.within,
       c.self.invariant.planned.few,
       ap (λ (ring : Ring). ring.r) c.read_alloc-granted.ensures.after,
@@ -30,7 +31,7 @@ put_taken-reported-requires-clause-places c =
 pub put_taken-reported-requires-clause-codes : goal.put_taken-reported-requires-clause-codes
 put_taken-reported-requires-clause-codes c = λ i below.
     let step = c.self.invariant.in_step in
-    let within : i < c.self.inside.ring.w - c.self.inside.ring.r = omega (arith, c.read_alloc-granted.ensures.granted, step.level.m_w, step.unmapped) in
+    let within : i < c.self.inside.ring.w - c.self.inside.ring.r = omega (arith, c.read_alloc-granted.ensures.granted, step.level.m_w, subst (λ (r : Running). r.ra ≡ r.r) (sym c.self.view_is) c.requires) in
     subst (λ (ring : Ring). IsSample (its_schedule c.self.inside).format (ring.r + i) (get_or ring.held i 0)) (sym c.read_alloc-granted.ensures.after)
     (codes-ring c.self.inside c.self.invariant i within)
 
@@ -40,6 +41,6 @@ returns-clause-answer c =
     let granted = c.read_alloc-granted.result in
     subst (λ answer. OnOk c.put_taken-reported.result (c.put_taken-reported.new.text.items ≡ c.args.text.now.items ++ answer))
     (ap (λ (ring : Ring). codes "ok " ++ decimal granted ++ codes "\n" ++ sample_lines (its_schedule c.self.inside).format ring.r (take granted ring.held)) after
-    ∙ read-answer c.self.inside c.self.invariant c.args.n granted c.read_alloc-granted.ensures.granted
-    ∙ ap (λ (r : Running). answer_text (taken c.args.n r).answer) c.self.view_is)
+    ∙ read-answer c.self.inside c.self.invariant (subst (λ (r : Running). r.ra ≡ r.r) (sym c.self.view_is) c.requires) c.args.n granted c.read_alloc-granted.ensures.granted
+    ∙ ap (λ (r : Running). answer_text (taken c.args.n r)) c.self.view_is)
     c.put_taken-reported.ensures

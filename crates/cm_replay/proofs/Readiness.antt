@@ -1,0 +1,238 @@
+-- A session stays ready for each of its lines.
+use Rattle.std.proofs.Common.{◌≡◌, ℕ, ◌<◌, ◌≤◌, Bool, true, false, List, [], ◌∷◌, ◌++◌, length, get_or, map, set, refl, sym, ap, inl, inr, arith, subst, Option, Some, None}
+use Rattle.std.specs.Prelude.{◌==◌, if◌then◌else◌}
+use Rattle.std.specs.Option.{option_map}
+use Rattle.std.proofs.lemmas.Bool.{cases_eq, cases_Bool, eqb-true}
+use Rattle.std.proofs.lemmas.List.{get_or_default}
+use Rattle.cm_board.specs.Board.{no_sub}
+use Rattle.cm_cmd.specs.Command.{CmdText}
+use Rattle.cm_expand.specs.Plan.{PlanText}
+use Rattle.cm_insn.specs.Insn.{Done, time_words}
+use Rattle.cm_signal.specs.Signals.{SignalsText}
+use Rattle.cm_sub.specs.Checks.{first_refusal}
+use Rattle.cm_sub.specs.Files.{close_checks, closed, open_checks, opened}
+use Rattle.cm_test.specs.Questions.{tested}
+use Rattle.cm_session.specs.Limits.{InOrder}
+use Rattle.cm_session.specs.declared.op.Op.{Op}
+use Rattle.cm_session.specs.declared.op.Op.TheVariants as ops
+use Rattle.cm_session.specs.declared.op.SessionLine.{SessionLine}
+use Rattle.cm_replay.specs.Answers.{Data, Fine, Reply, unless_ended}
+use Rattle.cm_replay.specs.Calling.{cmd_reply, insn_reply, trigger_on, trigger_reply, waits}
+use Rattle.cm_replay.specs.Forms.{form, line_checks, named_sub}
+use Rattle.cm_replay.specs.Job.{JobText, setting_of}
+use Rattle.cm_replay.specs.Law.{HasPlaces, History, IsSoundJob, Keeps, Spot, no_history, served, spot_at}
+use Rattle.cm_replay.specs.Reading.{look_reply, map_reply, read_reply, release_reply, reported_end}
+use Rattle.cm_replay.specs.Ready.{AllCanMove, CanMove, IsReady, StaysReady}
+use Rattle.cm_replay.specs.Running.{Running, Schedule, arrived, brought, collected, is_out, moved_on, put_out}
+use Rattle.cm_replay.specs.Schedules.{triggered}
+use Rattle.cm_replay.specs.Session.{Outcome, act, act_on, brought_all, brought_device, closed_state, here, step, with_reply}
+use Rattle.cm_replay.specs.State.{Device, Here, Setting, State, at_start, device_at, idle_device, plan_here}
+use Rattle.cm_replay.specs.Writing.{fill_reply, mark_reply, write_reply}
+use Rattle.cm_replay.specs.declared.ending.End.{End}
+use Rattle.cm_replay.proofs.Come.{come-later}
+use Rattle.cm_replay.proofs.Counts.{either-way}
+use Rattle.cm_replay.proofs.Laws.{input, moves, output, served-in, served-out, stays, waits-early}
+use Rattle.cm_replay.proofs.SessionLaws.{AllKeep, IsSoundState, all-brought, all-idle, device_at-brought, first-idle, left-at, reached, set-other, set-same, sound-brought, sound-start, sound-stepped, step-well}
+
+-- what holds of a command's plan
+abbrev pub HasPlan : (PlanText → Type 0) → Option Running → Type 0
+HasPlan P None = Unit {0}
+HasPlan P (Some c) = P c.schedule.plan
+
+plan-moved : (P : PlanText → Type 0) (time : ℕ) (c : Running) → P c.schedule.plan → HasPlan P (Some (moved_on c time))
+plan-moved P time c p = by (is_out c.schedule)
+  where
+    by : (b : Bool) → HasPlan P (Some (let d : Running = if b then put_out c time else collected c time in d))
+    by true = p
+    by false = p
+
+-- the passing of time changes no plan
+pub plan-brought : (P : PlanText → Type 0) (time : ℕ) (running : Option Running) → HasPlan P running → HasPlan P (option_map (brought time) running)
+plan-brought P time None p = tt
+plan-brought P time (Some c) p = by_end c.end refl
+  where
+    by_end : (e : Option End) → c.end ≡ e → HasPlan P (Some (brought time c))
+    by_end None runs = rw (moves time c runs) (plan-moved P time c p)
+    by_end (Some e) ended = rw (stays time c e ended) p
+
+plan-ended : (P : PlanText → Type 0) (h : Here) (e : Option End) (reply : Reply) → HasPlan P reply.device.running → HasPlan P (unless_ended h e reply).device.running
+plan-ended P h None reply p = p
+plan-ended P h (Some e) reply p = tt
+
+plan-read : (P : PlanText → Type 0) (n : ℕ) (h : Here) (running : Option Running) → running ≡ h.device.running → HasPlan P running → HasPlan P (read_reply n h running).device.running
+plan-read P n h None same p = subst (HasPlan P) same p
+plan-read P n h (Some c) same p = plan-ended P h (reported_end c) _ p
+
+plan-map : (P : PlanText → Type 0) (n : ℕ) (h : Here) (running : Option Running) → running ≡ h.device.running → HasPlan P running → HasPlan P (map_reply n h running).device.running
+plan-map P n h None same p = subst (HasPlan P) same p
+plan-map P n h (Some c) same p = plan-ended P h (reported_end c) _ p
+
+plan-look : (P : PlanText → Type 0) (i : ℕ) (h : Here) (running : Option Running) → running ≡ h.device.running → HasPlan P running → HasPlan P (look_reply i h running).device.running
+plan-look P i h None same p = subst (HasPlan P) same p
+plan-look P i h (Some c) same p = subst (HasPlan P) same p
+
+plan-release : (P : PlanText → Type 0) (k : ℕ) (h : Here) (running : Option Running) → running ≡ h.device.running → HasPlan P running → HasPlan P (release_reply k h running).device.running
+plan-release P k h None same p = subst (HasPlan P) same p
+plan-release P k h (Some c) same p = p
+
+plan-write : (P : PlanText → Type 0) (words : List ℕ) (h : Here) (running : Option Running) → running ≡ h.device.running → HasPlan P running → HasPlan P (write_reply words h running).device.running
+plan-write P words h None same p = subst (HasPlan P) same p
+plan-write P words h (Some c) same p = plan-ended P h (reported_end c) _ p
+
+plan-fill : (P : PlanText → Type 0) (words : List ℕ) (h : Here) (running : Option Running) → running ≡ h.device.running → HasPlan P running → HasPlan P (fill_reply words h running).device.running
+plan-fill P words h None same p = subst (HasPlan P) same p
+plan-fill P words h (Some c) same p = plan-ended P h (reported_end c) _ p
+
+plan-mark : (P : PlanText → Type 0) (k : ℕ) (h : Here) (running : Option Running) → running ≡ h.device.running → HasPlan P running → HasPlan P (mark_reply k h running).device.running
+plan-mark P k h None same p = subst (HasPlan P) same p
+plan-mark P k h (Some c) same p = p
+
+plan-shown : (P : PlanText → Type 0) (shown : Bool) (h : Here) (done : Option Done) → HasPlan P h.device.running → HasPlan P (insn_reply shown h done).device.running
+plan-shown P shown h None p = p
+plan-shown P shown h (Some done) p = p
+
+-- what holds of a plan holds of it once it is triggered here
+abbrev IsKept : (PlanText → Type 0) → Here → Type 0
+IsKept P h = (p : PlanText) → P p → P (record p { trig = Some h.time })
+
+-- it holds of the plan of each command that is accepted here
+abbrev IsNew : (PlanText → Type 0) → Here → Type 0
+IsNew P h = (cmd : CmdText) → (tested h.sub cmd).0 ≡ 0 → P (plan_here h cmd)
+
+plan-trigger : (P : PlanText → Type 0) (h : Here) (running : Option Running) → IsKept P h → running ≡ h.device.running → HasPlan P running → HasPlan P (trigger_reply h running).device.running
+plan-trigger P h None kept same p = subst (HasPlan P) same p
+plan-trigger P h (Some c) kept same p = by_end c.end refl
+  where
+    by_end : (e : Option End) → c.end ≡ e → HasPlan P (Some (trigger_on h.time c))
+    by_end None runs =
+        let is : trigger_on h.time c ≡ record c { schedule = triggered h.time c.schedule } = rw runs refl in
+        subst (λ (d : Running). HasPlan P (Some d)) (sym is) (kept c.schedule.plan p)
+    by_end (Some e) ended =
+        let is : trigger_on h.time c ≡ c = rw ended refl in
+        subst (λ (d : Running). HasPlan P (Some d)) (sym is) p
+
+plan-call : (P : PlanText → Type 0) (cmd : CmdText) (h : Here) → IsNew P h → HasPlan P h.device.running → HasPlan P (cmd_reply h cmd).device.running
+plan-call P cmd h new p = elim (cases_Bool ((tested h.sub cmd).0 == 0)) [
+  | inl passed ↦ rw passed (new cmd (eqb-true _ _ passed))
+  | inr failed ↦ rw failed p
+]
+
+-- what holds of each new plan, and isn't changed by a trigger, holds after each form of line
+form-plan : (P : PlanText → Type 0) (op : Op) (h : Here) → IsNew P h → IsKept P h → HasPlan P h.device.running → HasPlan P (form op h).reply.device.running
+form-plan P ops.OpenFile h new kept p = p
+form-plan P ops.CloseFile h new kept p = p
+form-plan P (ops.Lock sub) h new kept p = p
+form-plan P (ops.Unlock sub) h new kept p = p
+form-plan P (ops.Cmd cmd) h new kept p = plan-call P cmd h new p
+form-plan P (ops.Cancel sub) h new kept p = tt
+form-plan P (ops.Read sub n) h new kept p = plan-read P n h h.device.running refl p
+form-plan P (ops.Map sub n) h new kept p = plan-map P n h h.device.running refl p
+form-plan P (ops.Look sub i) h new kept p = plan-look P i h h.device.running refl p
+form-plan P (ops.Release sub k) h new kept p = plan-release P k h h.device.running refl p
+form-plan P (ops.Contents sub) h new kept p = p
+form-plan P (ops.Write sub words) h new kept p = plan-write P words h h.device.running refl p
+form-plan P (ops.Fill sub words) h new kept p = plan-fill P words h h.device.running refl p
+form-plan P (ops.Mark sub k) h new kept p = plan-mark P k h h.device.running refl p
+form-plan P (ops.InsnRead sub entry n) h new kept p = plan-shown P true h _ p
+form-plan P (ops.InsnWrite sub entry words) h new kept p = plan-shown P false h _ p
+form-plan P (ops.InsnBits sub mask bits) h new kept p = plan-shown P true h _ p
+form-plan P (ops.InsnConfig sub entry word) h new kept p = plan-shown P false h _ p
+form-plan P (ops.InsnGtod sub) h new kept p = p
+form-plan P (ops.InsnIntTrig sub number) h new kept p = plan-trigger P h h.device.running kept refl p
+
+-- what holds of the plans of all subdevices, by their numbers
+abbrev pub AllPlans : (ℕ → PlanText → Type 0) → List Device → Type 0
+AllPlans P devices = (i : ℕ) → HasPlan (P i) (device_at devices i).running
+
+plans-brought : (P : ℕ → PlanText → Type 0) (time : ℕ) (devices : List Device) → AllPlans P devices → AllPlans P (map (brought_device time) devices)
+plans-brought P time devices all i = subst (λ (d : Device). HasPlan (P i) d.running) (sym (device_at-brought time devices i)) (plan-brought (P i) time (device_at devices i).running (all i))
+
+plans-set : (P : ℕ → PlanText → Type 0) (devices : List Device) (sub : ℕ) (d : Device) → sub < length devices → AllPlans P devices → HasPlan (P sub) d.running → AllPlans P (set devices sub d)
+plans-set P devices sub d within all p i = elim (cases_eq i sub) [
+  | inl same ↦ subst (λ j. HasPlan (P j) (device_at (set devices sub d) j).running) (sym same) (set-same (HasPlan (P sub)) devices sub d within p)
+  | inr apart ↦ set-other (HasPlan (P i)) devices sub i d apart (all i)
+]
+
+abbrev LeavesPlans : (ℕ → PlanText → Type 0) → Outcome → Type 0
+LeavesPlans P outcome = AllPlans P outcome.state.devices
+
+plans-on : (P : ℕ → PlanText → Type 0) (s : Setting) (line : SessionLine) (op : Op) (state : State) → IsSoundState s state → IsNew (P (named_sub line.op)) (here s line state) → IsKept (P (named_sub line.op)) (here s line state) →
+    AllPlans P state.devices → LeavesPlans P (act_on op (here s line state) state)
+plans-on P s line op state sound new kept all =
+    let h = here s line state in
+    either-way (LeavesPlans P) (first_refusal (line_checks op h ++ (form op h).checks)) state (with_reply h.index state (form op h).reply)
+    (λ passed. plans-set P state.devices (named_sub line.op) (form op h).reply.device (reached s line op state sound passed).0 all (form-plan (P (named_sub line.op)) op h new kept (all (named_sub line.op))))
+    (λ error. all)
+
+-- what holds of each new plan, and isn't changed by a trigger, holds after each line
+plans-acted : (P : ℕ → PlanText → Type 0) (s : Setting) (line : SessionLine) (op : Op) (state : State) → IsSoundState s state → IsNew (P (named_sub line.op)) (here s line state) → IsKept (P (named_sub line.op)) (here s line state) →
+    AllPlans P state.devices → LeavesPlans P (act s line op state)
+plans-acted P s line ops.OpenFile state sound new kept all =
+    either-way (LeavesPlans P) (first_refusal (open_checks line.file state.files)) state (record { answer = Fine; state = record state { files = opened line.file state.files } }) (λ passed. all) (λ error. all)
+plans-acted P s line ops.CloseFile state sound new kept all =
+    either-way (LeavesPlans P) (first_refusal (close_checks line.file state.files)) state (record { answer = Fine; state = closed_state line.file state })
+    (λ passed i. left-at (HasPlan (P i)) (closed line.file state.files).claims state.devices i tt (all i)) (λ error. all)
+plans-acted P s line (ops.InsnGtod sub) state sound new kept all =
+    either-way (LeavesPlans P) (first_refusal (close_checks line.file state.files)) state (record { answer = Data 2 (time_words line.time); state = state }) (λ passed. all) (λ error. all)
+plans-acted P s line op state sound new kept all = plans-on P s line op state sound new kept all
+
+-- a plan of the subdevice with a number, called by a time
+abbrev IsCalled : ℕ → ℕ → PlanText → Type 0
+IsCalled time number p = (p.index ≡ number) × (p.t0 ≤ time)
+
+called-later : (before time number : ℕ) (running : Option Running) → before ≤ time → HasPlan (IsCalled before number) running → HasPlan (IsCalled time number) running
+called-later before time number None later p = tt
+called-later before time number (Some c) later p = (p.0, omega (arith, p.1))
+
+called-stepped : (s : Setting) (line : SessionLine) (state : State) → IsSoundState s state → AllPlans (IsCalled line.time) state.devices → AllPlans (IsCalled line.time) (step s line state).state.devices
+called-stepped s line state sound all =
+    plans-acted (IsCalled line.time) s line line.op (brought_all line.time state) (sound-brought s line.time state sound) (λ cmd passed. (refl, omega arith)) (λ p is. is)
+    (plans-brought (IsCalled line.time) line.time state.devices all)
+
+-- all that was served has come
+served-come : (out : Bool) (time : ℕ) (c : Running) → is_out c.schedule ≡ out → HasPlaces (is_out c.schedule) time c → served c ≤ arrived c.schedule time
+served-come true time c e places = let o = output (is_out c.schedule) time c e places in omega (arith, served-out c e, o.r_come)
+served-come false time c e places = let i = input (is_out c.schedule) time c e places in omega (arith, served-in c e, i.w_come)
+
+-- a lawful command is ready at each later time
+can-move : (spot : Spot) (number before time : ℕ) (h : History) (running : Option Running) → before ≤ time → time ≤ spot.signals.horizon → Keeps spot before h running → HasPlan (IsCalled time number) running → CanMove spot number time running
+can-move spot number before time h None later by keeps called = tt
+can-move spot number before time h (Some c) later by keeps called = record {
+  come = omega (arith, served-come (is_out c.schedule) before c refl keeps.0.places, come-later before time c.schedule.arrivals later);
+  within = omega (arith, by, ap (λ (x : Schedule). x.horizon) keeps.0.same, ap (λ (x : SignalsText). x.horizon) keeps.1.1);
+  timely = keeps.0.timely;
+  same = keeps.0.same;
+  its = keeps.1;
+  index = called.0;
+  called = called.1;
+}
+
+-- the same of a subdevice that is there, whatever stands for one that isn't
+pub ready-at : (s : Setting) (time : ℕ) (state : State) (i : ℕ) (d : Device) → AllCanMove s time state → i < length state.devices → CanMove (spot_at s i) i time (get_or state.devices i d).running
+ready-at s time state i d all within = subst (λ (x : Device). CanMove (spot_at s i) i time x.running) (get_or_default state.devices i (idle_device no_sub) d within) (all i)
+
+-- nothing was served of a command that waits for its trigger
+pub waits-unserved : (spot : Spot) (number time : ℕ) (c : Running) → IsReady spot number time c → waits time (Some c) ≡ true → served c ≡ 0
+waits-unserved spot number time c ready waiting = omega (arith, ready.come, ready.timely.early time (waits-early time c waiting))
+
+-- a lawful session stays ready
+stays_ready : (s : Setting) (time : ℕ) (histories : ℕ → History) (state : State) (lines : List SessionLine) → IsSoundState s state → AllKeep s time histories state.devices → AllPlans (IsCalled time) state.devices →
+    InOrder s.signals.horizon time lines → StaysReady s state lines
+stays_ready s time histories state [] sound keep called order = tt
+stays_ready s time histories state (line ∷ rest) sound keep called order =
+    let well = step-well s time line histories state sound order.0 order.1.0 keep in
+    let brought_keep = all-brought s time line.time histories state.devices order.0 keep in
+    let later : AllPlans (IsCalled line.time) state.devices = λ i. called-later time line.time i (device_at state.devices i).running order.0 (called i) in
+    let brought_called = plans-brought (IsCalled line.time) line.time state.devices later in (
+      order.1.0,
+      λ i. can-move (spot_at s i) i time line.time (histories i) (device_at state.devices i).running order.0 order.1.0 (keep i) (later i),
+      λ i. can-move (spot_at s i) i line.time line.time (histories i) (device_at (brought_all line.time state).devices i).running (omega arith) order.1.0 (brought_keep i) (brought_called i),
+      stays_ready s line.time _ _ rest (sound-stepped s line state sound) well.kept (called-stepped s line state sound later) order.2,
+    )
+
+-- each session of a sound job stays ready
+pub job_stays_ready : (job : JobText) → IsSoundJob job → StaysReady (setting_of job) (at_start (setting_of job)) job.lines
+job_stays_ready job sound =
+    let s = setting_of job in
+    stays_ready s 0 (λ i. no_history) (at_start s) job.lines (sound-start s sound.subs sound.is.signals) (all-idle s)
+    (λ i. subst (HasPlan (IsCalled 0 i)) (sym (first-idle s.board.subs i)) tt) sound.is.lines

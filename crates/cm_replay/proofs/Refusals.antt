@@ -1,0 +1,125 @@
+-- A line that is refused leaves the state.
+use Rattle.std.proofs.Common.{◌≡◌, ℕ, Bool, true, false, List, ◌++◌, set, refl, ap, ◌∙◌, Option, Some, None}
+use Rattle.std.specs.Prelude.{if◌then◌else◌, ◌==◌}
+use Rattle.std.proofs.lemmas.List.{set-get_or}
+use Rattle.cm_cmd.specs.Command.{CmdText}
+use Rattle.cm_insn.specs.Insn.{Done, time_words}
+use Rattle.cm_sub.specs.Checks.{first_refusal}
+use Rattle.cm_sub.specs.Files.{FilesText, close_checks, open_checks, opened}
+use Rattle.cm_sub.specs.declared.errno.Errno.{Errno}
+use Rattle.cm_test.specs.Questions.{tested}
+use Rattle.cm_session.specs.declared.op.Op.{Op}
+use Rattle.cm_session.specs.declared.op.Op.TheVariants as ops
+use Rattle.cm_session.specs.declared.op.SessionLine.{SessionLine}
+use Rattle.cm_replay.specs.Answers.{Answer, Data, Fine, Refused, Rejected, Reply, kept, unless_ended}
+use Rattle.cm_replay.specs.Calling.{insn_reply, trigger_reply}
+use Rattle.cm_replay.specs.Forms.{form, line_checks}
+use Rattle.cm_replay.specs.Reading.{look_reply, map_reply, read_reply, release_reply, reported_end}
+use Rattle.cm_replay.specs.Refusals.{Leaves, RefusalLaw}
+use Rattle.cm_replay.specs.Running.{Running}
+use Rattle.cm_replay.specs.Session.{Outcome, act, act_on, brought_all, closed_state, here, unless_refused, with_reply}
+use Rattle.cm_replay.specs.State.{Device, Here, Setting, State}
+use Rattle.cm_replay.specs.Writing.{fill_reply, mark_reply, write_reply}
+use Rattle.cm_replay.specs.declared.ending.End.{End}
+
+-- an answer that refuses comes with nothing changed
+abbrev KeptIf : Answer → Here → FilesText → Device → Type 0
+KeptIf (Refused error) h files device = (files ≡ h.files) × (device ≡ h.device)
+KeptIf (Rejected step cmd) h files device = (files ≡ h.files) × (device ≡ h.device)
+KeptIf other h files device = Unit {0}
+
+abbrev IsKept : Here → Reply → Type 0
+IsKept h reply = KeptIf reply.answer h reply.files reply.device
+
+ended : (h : Here) (e : Option End) (reply : Reply) → IsKept h reply → IsKept h (unless_ended h e reply)
+ended h None reply k = k
+ended h (Some e) reply k = tt
+
+rejected : (h : Here) (test : Bool) (reply : Reply) (step : ℕ) (cmd : CmdText) → IsKept h reply → IsKept h (if test then reply else kept h (Rejected step cmd))
+rejected h true reply step cmd k = k
+rejected h false reply step cmd k = (refl, refl)
+
+instructs : (t : Bool) (h : Here) (done : Option Done) → IsKept h (insn_reply t h done)
+instructs t h None = (refl, refl)
+instructs t h (Some done) = tt
+
+reads : (n : ℕ) (h : Here) (c : Option Running) → IsKept h (read_reply n h c)
+reads n h None = tt
+reads n h (Some c) = ended h (reported_end c) _ tt
+
+maps : (n : ℕ) (h : Here) (c : Option Running) → IsKept h (map_reply n h c)
+maps n h None = tt
+maps n h (Some c) = ended h (reported_end c) _ tt
+
+looks : (i : ℕ) (h : Here) (c : Option Running) → IsKept h (look_reply i h c)
+looks i h None = tt
+looks i h (Some c) = tt
+
+releases : (k : ℕ) (h : Here) (c : Option Running) → IsKept h (release_reply k h c)
+releases k h None = tt
+releases k h (Some c) = tt
+
+writes : (words : List ℕ) (h : Here) (c : Option Running) → IsKept h (write_reply words h c)
+writes words h None = tt
+writes words h (Some c) = ended h (reported_end c) _ tt
+
+fills : (words : List ℕ) (h : Here) (c : Option Running) → IsKept h (fill_reply words h c)
+fills words h None = tt
+fills words h (Some c) = ended h (reported_end c) _ tt
+
+marks : (k : ℕ) (h : Here) (c : Option Running) → IsKept h (mark_reply k h c)
+marks k h None = tt
+marks k h (Some c) = tt
+
+triggers : (h : Here) (c : Option Running) → IsKept h (trigger_reply h c)
+triggers h None = tt
+triggers h (Some c) = tt
+
+-- the reply of each form
+form-kept : (op : Op) (h : Here) → IsKept h (form op h).reply
+form-kept ops.OpenFile h = tt
+form-kept ops.CloseFile h = tt
+form-kept (ops.Lock sub) h = tt
+form-kept (ops.Unlock sub) h = tt
+form-kept (ops.Cmd cmd) h = rejected h ((tested h.sub cmd).0 == 0) _ (tested h.sub cmd).0 (tested h.sub cmd).1 tt
+form-kept (ops.Cancel sub) h = tt
+form-kept (ops.Read sub n) h = reads n h h.device.running
+form-kept (ops.Map sub n) h = maps n h h.device.running
+form-kept (ops.Look sub i) h = looks i h h.device.running
+form-kept (ops.Release sub k) h = releases k h h.device.running
+form-kept (ops.Contents sub) h = tt
+form-kept (ops.Write sub words) h = writes words h h.device.running
+form-kept (ops.Fill sub words) h = fills words h h.device.running
+form-kept (ops.Mark sub k) h = marks k h h.device.running
+form-kept (ops.InsnRead sub entry n) h = instructs true h _
+form-kept (ops.InsnWrite sub entry words) h = instructs false h _
+form-kept (ops.InsnBits sub mask bits) h = instructs true h _
+form-kept (ops.InsnConfig sub entry word) h = instructs false h _
+form-kept (ops.InsnGtod sub) h = tt
+form-kept (ops.InsnIntTrig sub number) h = triggers h h.device.running
+
+-- what is kept is put back where it was
+put_back : (a : Answer) (h : Here) (state : State) (files : FilesText) (device : Device) → h.files ≡ state.files → set state.devices h.index h.device ≡ state.devices → KeptIf a h files device →
+    Leaves state a (record { files = files; devices = set state.devices h.index device })
+put_back (Refused e) h state files device same there k = λ i. record { files = (k.0 ∙ same) i; devices = (ap (set state.devices h.index) k.1 ∙ there) i }
+put_back (Rejected s c) h state files device same there k = λ i. record { files = (k.0 ∙ same) i; devices = (ap (set state.devices h.index) k.1 ∙ there) i }
+put_back other h state files device same there k = tt
+
+unless : (e : Option Errno) (state : State) (t : Outcome) → Leaves state t.answer t.state → Leaves state (unless_refused e state t).answer (unless_refused e state t).state
+unless None state t l = l
+unless (Some e) state t l = refl
+
+on-leaves : (op : Op) (h : Here) (state : State) → h.files ≡ state.files → set state.devices h.index h.device ≡ state.devices → Leaves state (act_on op h state).answer (act_on op h state).state
+on-leaves op h state same there =
+    unless (first_refusal (line_checks op h ++ (form op h).checks)) state (with_reply h.index state (form op h).reply)
+    (put_back (form op h).reply.answer h state (form op h).reply.files (form op h).reply.device same there (form-kept op h))
+
+act-leaves : (s : Setting) (line : SessionLine) (op : Op) (state : State) → Leaves state (act s line op state).answer (act s line op state).state
+act-leaves s line ops.OpenFile state = unless (first_refusal (open_checks line.file state.files)) state (record { answer = Fine; state = record state { files = opened line.file state.files } }) tt
+act-leaves s line ops.CloseFile state = unless (first_refusal (close_checks line.file state.files)) state (record { answer = Fine; state = closed_state line.file state }) tt
+act-leaves s line (ops.InsnGtod sub) state = unless (first_refusal (close_checks line.file state.files)) state (record { answer = Data 2 (time_words line.time); state = state }) tt
+act-leaves s line op state = on-leaves op (here s line state) state refl (set-get_or state.devices (here s line state).index _)
+
+-- the refusal law
+pub refusal_law : RefusalLaw
+refusal_law s line state = act-leaves s line line.op (brought_all line.time state)

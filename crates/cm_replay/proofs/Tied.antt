@@ -1,0 +1,169 @@
+-- A subdevice is busy exactly where a command is there.
+use Rattle.std.proofs.Common.{◌≡◌, ℕ, zero, suc, ◌<◌, Bool, true, false, List, [], ◌∷◌, ◌++◌, length, map, get_or, set, refl, sym, ap, ◌∙◌, inl, inr, arith, Option, Some, None, get_or-set_same, get_or-set_other}
+use Rattle.std.specs.Prelude.{◌==◌, if◌then◌else◌}
+use Rattle.std.specs.Option.{is_some, option_map}
+use Rattle.std.proofs.lemmas.Bool.{cases_eq}
+use Rattle.std.proofs.lemmas.List.{length-map}
+use Rattle.cm_board.specs.Board.{no_sub}
+use Rattle.cm_insn.specs.Insn.{Done}
+use Rattle.cm_sub.specs.Checks.{first_refusal}
+use Rattle.cm_sub.specs.Claims.{claim_without, nobody}
+use Rattle.cm_sub.specs.Files.{FilesText, claim_at, close_checks, open_checks, reach_checks}
+use Rattle.cm_sub.specs.declared.claim.Claim.{Claim}
+use Rattle.cm_sub.specs.declared.errno.Errno.{Errno}
+use Rattle.cm_test.specs.Questions.{tested}
+use Rattle.cm_session.specs.declared.op.Op.{Op}
+use Rattle.cm_session.specs.declared.op.Op.TheVariants as ops
+use Rattle.cm_session.specs.declared.op.SessionLine.{SessionLine}
+use Rattle.cm_replay.specs.Answers.{Answer, Ended, Fine, Reply, idle, unless_ended}
+use Rattle.cm_replay.specs.Calling.{insn_reply, trigger_reply}
+use Rattle.cm_replay.specs.Forms.{form, kind_checks, line_checks}
+use Rattle.cm_replay.specs.Reading.{look_reply, map_reply, read_reply, release_reply, reported_end}
+use Rattle.cm_replay.specs.Refusals.{IsTied, TiedLaw}
+use Rattle.cm_replay.specs.Running.{Running, brought}
+use Rattle.cm_replay.specs.Session.{Outcome, act, act_on, brought_all, brought_device, closed_state, here, left_devices, unless_refused, with_reply}
+use Rattle.cm_replay.specs.State.{Device, Here, Setting, State, claim_of, device_at, idle_device}
+use Rattle.cm_replay.specs.Writing.{fill_reply, mark_reply, write_reply}
+use Rattle.cm_replay.specs.declared.ending.End.{End}
+use Rattle.cm_replay.proofs.Foreign.{AreApart, acts_there, claim-closed, form-safe}
+use Rattle.cm_replay.proofs.Checks.{passes-both, reached-within}
+use Rattle.cm_replay.proofs.SessionLaws.{device_at-brought}
+
+-- a reply leaves its subdevice tied
+abbrev AreTied : Here → Reply → Type 0
+AreTied h reply = is_some (claim_at reply.files h.index).runner ≡ is_some reply.device.running
+
+idle-tied : (h : Here) (a : Answer) → h.index < length h.files.claims → AreTied h (idle h a)
+idle-tied h a within = ap (λ (c : Claim). is_some c.runner) (get_or-set_same h.files.claims h.index _ nobody within)
+
+ended-tied : (h : Here) (e : Option End) (reply : Reply) → h.index < length h.files.claims → AreTied h reply → AreTied h (unless_ended h e reply)
+ended-tied h None reply within t = t
+ended-tied h (Some e) reply within t = idle-tied h (Ended e) within
+
+if-tied : (h : Here) (b : Bool) (x y : Reply) → AreTied h x → AreTied h y → AreTied h (if b then x else y)
+if-tied h true x y tx ty = tx
+if-tied h false x y tx ty = ty
+
+instructs : (t : Bool) (h : Here) (done : Option Done) → is_some (claim_of h).runner ≡ is_some h.device.running → AreTied h (insn_reply t h done)
+instructs t h None tied = tied
+instructs t h (Some done) tied = tied
+
+-- a command that goes on was there
+reads : (n : ℕ) (h : Here) (r : Option Running) → r ≡ h.device.running → h.index < length h.files.claims → is_some (claim_of h).runner ≡ is_some h.device.running → AreTied h (read_reply n h r)
+reads n h None same within tied = tied
+reads n h (Some c) same within tied = ended-tied h (reported_end c) _ within (tied ∙ sym (ap is_some same))
+
+maps : (n : ℕ) (h : Here) (r : Option Running) → r ≡ h.device.running → h.index < length h.files.claims → is_some (claim_of h).runner ≡ is_some h.device.running → AreTied h (map_reply n h r)
+maps n h None same within tied = tied
+maps n h (Some c) same within tied = ended-tied h (reported_end c) _ within (tied ∙ sym (ap is_some same))
+
+looks : (n : ℕ) (h : Here) (r : Option Running) → is_some (claim_of h).runner ≡ is_some h.device.running → AreTied h (look_reply n h r)
+looks n h None tied = tied
+looks n h (Some c) tied = tied
+
+releases : (n : ℕ) (h : Here) (r : Option Running) → r ≡ h.device.running → is_some (claim_of h).runner ≡ is_some h.device.running → AreTied h (release_reply n h r)
+releases n h None same tied = tied
+releases n h (Some c) same tied = tied ∙ sym (ap is_some same)
+
+writes : (words : List ℕ) (h : Here) (r : Option Running) → r ≡ h.device.running → h.index < length h.files.claims → is_some (claim_of h).runner ≡ is_some h.device.running → AreTied h (write_reply words h r)
+writes words h None same within tied = tied
+writes words h (Some c) same within tied = ended-tied h (reported_end c) _ within (tied ∙ sym (ap is_some same))
+
+fills : (words : List ℕ) (h : Here) (r : Option Running) → r ≡ h.device.running → h.index < length h.files.claims → is_some (claim_of h).runner ≡ is_some h.device.running → AreTied h (fill_reply words h r)
+fills words h None same within tied = tied
+fills words h (Some c) same within tied = ended-tied h (reported_end c) _ within (tied ∙ sym (ap is_some same))
+
+marks : (n : ℕ) (h : Here) (r : Option Running) → r ≡ h.device.running → is_some (claim_of h).runner ≡ is_some h.device.running → AreTied h (mark_reply n h r)
+marks n h None same tied = tied
+marks n h (Some c) same tied = tied ∙ sym (ap is_some same)
+
+triggers : (h : Here) (r : Option Running) → r ≡ h.device.running → is_some (claim_of h).runner ≡ is_some h.device.running → AreTied h (trigger_reply h r)
+triggers h None same tied = tied
+triggers h (Some c) same tied = tied ∙ sym (ap is_some same)
+
+form-tied : (op : Op) (h : Here) → h.index < length h.files.claims → is_some (claim_of h).runner ≡ is_some h.device.running → AreTied h (form op h).reply
+form-tied (ops.Lock sub) h within tied = ap (λ (c : Claim). is_some c.runner) (get_or-set_same h.files.claims h.index _ nobody within) ∙ tied
+form-tied (ops.Unlock sub) h within tied = ap (λ (c : Claim). is_some c.runner) (get_or-set_same h.files.claims h.index _ nobody within) ∙ tied
+form-tied (ops.Cmd cmd) h within tied = if-tied h ((tested h.sub cmd).0 == 0) _ _ (ap (λ (c : Claim). is_some c.runner) (get_or-set_same h.files.claims h.index _ nobody within)) tied
+form-tied (ops.Cancel sub) h within tied = idle-tied h Fine within
+form-tied (ops.Read sub n) h within tied = reads n h h.device.running refl within tied
+form-tied (ops.Map sub n) h within tied = maps n h h.device.running refl within tied
+form-tied (ops.Look sub i) h within tied = looks i h h.device.running tied
+form-tied (ops.Release sub k) h within tied = releases k h h.device.running refl tied
+form-tied (ops.Contents sub) h within tied = tied
+form-tied (ops.Write sub words) h within tied = writes words h h.device.running refl within tied
+form-tied (ops.Fill sub words) h within tied = fills words h h.device.running refl within tied
+form-tied (ops.Mark sub k) h within tied = marks k h h.device.running refl tied
+form-tied (ops.InsnRead sub entry n) h within tied = instructs true h _ tied
+form-tied (ops.InsnWrite sub entry words) h within tied = instructs false h _ tied
+form-tied (ops.InsnBits sub mask bits) h within tied = instructs true h _ tied
+form-tied (ops.InsnConfig sub entry word) h within tied = instructs false h _ tied
+form-tied (ops.InsnIntTrig sub number) h within tied = triggers h h.device.running refl tied
+form-tied op h within tied = tied
+
+unless : (state : State) (t : Outcome) (e : Option Errno) → IsTied state → (e ≡ None → IsTied t.state) → IsTied (unless_refused e state t).state
+unless state t None tied new = new refl
+unless state t (Some e) tied new = tied
+
+-- a reply on one subdevice leaves all others as tied as they were
+replied : (h : Here) (state : State) (reply : Reply) → h.files ≡ state.files → h.index < length state.devices → IsTied state → AreApart h reply → AreTied h reply → IsTied (with_reply h.index state reply).state
+replied h state reply same within tied apart mine i = elim (cases_eq i h.index) [
+  | inl at ↦
+      let device : is_some (device_at (set state.devices h.index reply.device) i).running ≡ is_some reply.device.running =
+          ap (λ k. is_some (device_at (set state.devices h.index reply.device) k).running) at
+          ∙ ap (λ (d : Device). is_some d.running) (get_or-set_same state.devices h.index reply.device (idle_device no_sub) within) in
+      ap (λ k. is_some (claim_at reply.files k).runner) at ∙ mine ∙ sym device
+  | inr off ↦
+      let claim : claim_at reply.files i ≡ claim_at state.files i = apart i off ∙ ap (λ (f : FilesText). claim_at f i) same in
+      let device : device_at (set state.devices h.index reply.device) i ≡ device_at state.devices i =
+          get_or-set_other state.devices h.index i reply.device (idle_device no_sub) off in
+      ap (λ (c : Claim). is_some c.runner) claim ∙ tied i ∙ sym (ap (λ (d : Device). is_some d.running) device)
+]
+
+on_sub : (s : Setting) (line : SessionLine) (op : Op) (state : State) → acts_there op ≡ true → length state.files.claims ≡ length state.devices → IsTied state → IsTied (act_on op (here s line state) state).state
+on_sub s line op state on many tied = unless state (with_reply h.index state (form op h).reply) (first_refusal (line_checks op h ++ (form op h).checks)) tied new
+  where
+    h : Here
+    h = here s line state
+
+    new : first_refusal (line_checks op h ++ (form op h).checks) ≡ None → IsTied (with_reply h.index state (form op h).reply).state
+    new passed =
+        let p = passes-both (line_checks op h) (form op h).checks passed in
+        let reached = passes-both (reach_checks h.file h.index h.files) (kind_checks op h) p.0 in
+        let within = reached-within h.file h.index h.files reached.0 in
+        replied h state (form op h).reply refl (omega (arith, within, many)) tied (form-safe op h on p.1).apart (form-tied op h within (tied h.index))
+
+-- a command goes on exactly where its file still has the subdevice
+left-tied : (b : Bool) (f : Option ℕ) (d : Device) → is_some f ≡ is_some d.running →
+    is_some (if b then f else None) ≡ is_some (let e : Device = if is_some (let r : Option ℕ = if b then f else None in r) then d else record d { running = None } in e).running
+left-tied true (Some g) d tied = tied
+left-tied true None d tied = refl
+left-tied false f d tied = refl
+
+closed-tied : (f : ℕ) (claims : List Claim) (devices : List Device) (i : ℕ) → length claims ≡ length devices → is_some (get_or claims i nobody).runner ≡ is_some (device_at devices i).running →
+    is_some (claim_without f (get_or claims i nobody)).runner ≡ is_some (device_at (left_devices (map (claim_without f) claims) devices) i).running
+closed-tied f [] [] i many tied = refl
+closed-tied f [] (d ∷ devices) i many tied = absurd (omega arith)
+closed-tied f (c ∷ claims) [] i many tied = absurd (omega arith)
+closed-tied f (c ∷ claims) (d ∷ devices) zero many tied = left-tied _ c.runner d tied
+closed-tied f (c ∷ claims) (d ∷ devices) (suc i) many tied = closed-tied f claims devices i (omega arith) tied
+
+close-tied : (f : ℕ) (state : State) → length state.files.claims ≡ length state.devices → IsTied state → IsTied (closed_state f state)
+close-tied f state many tied i = ap (λ (c : Claim). is_some c.runner) (claim-closed f state.files.claims i) ∙ closed-tied f state.files.claims state.devices i many (tied i)
+
+act-tied : (s : Setting) (line : SessionLine) (op : Op) (state : State) → length state.files.claims ≡ length state.devices → IsTied state → IsTied (act s line op state).state
+act-tied s line ops.OpenFile state many tied = unless state _ (first_refusal (open_checks line.file state.files)) tied (λ e. tied)
+act-tied s line ops.CloseFile state many tied = unless state _ (first_refusal (close_checks line.file state.files)) tied (λ e. close-tied line.file state many tied)
+act-tied s line (ops.InsnGtod sub) state many tied = unless state _ (first_refusal (close_checks line.file state.files)) tied (λ e. tied)
+act-tied s line op state many tied = on_sub s line op state refl many tied
+
+-- the passing of time neither starts nor drops a command
+some-brought : (time : ℕ) (r : Option Running) → is_some (option_map (brought time) r) ≡ is_some r
+some-brought time None = refl
+some-brought time (Some c) = refl
+
+-- the law on busy subdevices
+pub tied_law : TiedLaw
+tied_law s line state many tied =
+    act-tied s line line.op (brought_all line.time state) (many ∙ sym (length-map state.devices (brought_device line.time)))
+    (λ i. tied i ∙ sym (ap (λ (d : Device). is_some d.running) (device_at-brought line.time state.devices i) ∙ some-brought line.time (device_at state.devices i).running))

@@ -1,0 +1,64 @@
+-- What the lines do that read from a command's buffer, each where no check refuses it.
+use Rattle.std.specs.Prelude.{ℕ, ◌+◌, ◌-◌, min, ◌||◌, nat_eq, take, drop, slice_index, Option, Some, None, if◌then◌else◌}
+use Rattle.cm_replay.specs.Answers.{Answer, Holds, Idle, Looked, Mapped, Released, Reply, Taken, goes_on, kept, unless_ended}
+use Rattle.cm_replay.specs.Running.{Running, is_out, samples}
+use Rattle.cm_replay.specs.State.{Here}
+use Rattle.cm_replay.specs.declared.ending.End.{End}
+
+-- the end that is reported: of an input only where nothing is left to read
+abbrev pub reported_end : Running → Option End
+reported_end c = if is_out c.schedule || nat_eq c.r c.w then c.end else None
+
+-- how many samples a read of up to `n` takes
+abbrev pub taking : ℕ → Running → ℕ
+taking n c = min n (c.w - c.r)
+
+-- a command of which up to `n` more samples were read
+abbrev pub read_on : ℕ → Running → Running
+read_on n c = record c { r = c.r + taking n c; ra = c.r + taking n c }
+
+-- the samples that a read takes
+abbrev pub taken : ℕ → Running → Answer
+taken n c = Taken c.schedule.format c.r (take (taking n c) (drop c.r (samples c.schedule)))
+
+-- `read`: the first samples, up to `n`
+abbrev pub read_reply : ℕ → Here → Option Running → Reply
+read_reply n h None = kept h Idle
+read_reply n h (Some c) = unless_ended h (reported_end c) (goes_on h (read_on n c) (taken n c))
+
+-- how many samples a map of up to `n` grants
+abbrev pub mapping : ℕ → Running → ℕ
+mapping n c = min n (c.w - c.ra)
+
+-- a command of which up to `n` more samples are mapped
+abbrev pub map_on : ℕ → Running → Running
+map_on n c = record c { ra = c.ra + mapping n c }
+
+-- `map`: more samples, up to `n`
+abbrev pub map_reply : ℕ → Here → Option Running → Reply
+map_reply n h None = kept h Idle
+map_reply n h (Some c) = unless_ended h (reported_end c) (goes_on h (map_on n c) (Mapped (mapping n c)))
+
+-- how many samples are mapped
+abbrev pub mapped : Option Running → ℕ
+mapped None = 0
+mapped (Some c) = c.ra - c.r
+
+-- `look`: the mapped sample `i`
+abbrev pub look_reply : ℕ → Here → Option Running → Reply
+look_reply i h None = kept h Idle
+look_reply i h (Some c) = kept h (Looked c.schedule.format (c.r + i) (slice_index (samples c.schedule) (c.r + i)))
+
+-- `release`: the first `k` mapped samples
+abbrev pub release_reply : ℕ → Here → Option Running → Reply
+release_reply k h None = kept h (Released k)
+release_reply k h (Some c) = goes_on h (record c { r = c.r + k }) (Released k)
+
+-- how many samples, or words that are marked, a buffer holds
+abbrev pub contents : Option Running → ℕ
+contents None = 0
+contents (Some c) = c.w - c.r
+
+-- `contents`: what the buffer holds
+abbrev pub contents_reply : Here → Option Running → Reply
+contents_reply h running = kept h (Holds (contents running))

@@ -1,0 +1,37 @@
+-- What a line leaves as it was.
+use Rattle.std.specs.Prelude.{◌≡◌, ◌≢◌, ℕ, Bool, true, false, length, Option, Some, None}
+use Rattle.std.specs.Option.{is_some}
+use Rattle.cm_session.specs.declared.op.SessionLine.{SessionLine}
+use Rattle.cm_sub.specs.Files.{claim_at}
+use Rattle.cm_replay.specs.Answers.{Answer, Refused, Rejected}
+use Rattle.cm_replay.specs.Running.{Running}
+use Rattle.cm_replay.specs.Session.{brought_all, step}
+use Rattle.cm_replay.specs.State.{Setting, State, device_at}
+
+-- a line that is refused leaves the state as it was brought to its time
+abbrev pub Leaves : State → Answer → State → Type 0
+Leaves before (Refused error) after = after ≡ before
+Leaves before (Rejected step cmd) after = after ≡ before
+Leaves before other after = Unit {0}
+
+-- the refusal law
+abbrev pub RefusalLaw : Type 0
+RefusalLaw = (s : Setting) (line : SessionLine) (state : State) → Leaves (brought_all line.time state) (step s line state).answer (step s line state).state
+
+-- a line never changes a command or a lock of another file
+pub record IsForeign (file i : ℕ) (before after : State) : Type 0 where
+  pub command : (g : ℕ) → (claim_at before.files i).runner ≡ Some g → g ≢ file →
+      ((device_at after.devices i).running ≡ (device_at before.devices i).running) × ((claim_at after.files i).runner ≡ Some g)
+  pub lock : (g : ℕ) → (claim_at before.files i).holder ≡ Some g → g ≢ file → (claim_at after.files i).holder ≡ Some g
+
+-- the law on other files
+abbrev pub ForeignLaw : Type 0
+ForeignLaw = (s : Setting) (line : SessionLine) (state : State) (i : ℕ) → IsForeign line.file i (brought_all line.time state) (step s line state).state
+
+-- a subdevice is busy exactly where a command is there
+abbrev pub IsTied : State → Type 0
+IsTied state = (i : ℕ) → is_some (claim_at state.files i).runner ≡ is_some (device_at state.devices i).running
+
+-- each line keeps it so
+abbrev pub TiedLaw : Type 0
+TiedLaw = (s : Setting) (line : SessionLine) (state : State) → length state.files.claims ≡ length state.devices → IsTied state → IsTied (step s line state).state

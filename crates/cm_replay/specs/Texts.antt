@@ -1,0 +1,71 @@
+-- The text of a session.
+use Rattle.std.specs.Prelude.{ℕ, List, [], ◌∷◌, ◌++◌, length, codes}
+use Rattle.std.specs.Fmt.{decimal}
+use Rattle.cm_cmd.specs.CommandText.{command_text}
+use Rattle.cm_sub.specs.Checks.{number_of}
+use Rattle.cm_session.specs.declared.op.SessionLine.{SessionLine}
+use Rattle.cm_replay.specs.Answers.{Answer, Begun, Data, Ended, Filled, Fine, Holds, Idle, Looked, Mapped, Marked, Refused, Rejected, Released, Taken, Triggered, Written}
+use Rattle.cm_replay.specs.Format.{sample_line, sample_lines}
+use Rattle.cm_replay.specs.Running.{Output}
+use Rattle.cm_replay.specs.Session.{Step, step}
+use Rattle.cm_replay.specs.State.{Setting, State, at_start}
+use Rattle.cm_replay.specs.declared.ending.End.{End}
+use Rattle.cm_replay.specs.declared.ending.End.TheVariants.{Done, Dry, Overrun, Underrun, Fifo}
+
+-- the answer that reports an end
+abbrev pub end_text : End → List ℕ
+end_text Done = codes "ok 0 done\n"
+end_text Dry = codes "ok 0 dry\n"
+end_text (Overrun k) = codes "err 32 overrun " ++ decimal k ++ codes "\n"
+end_text (Underrun k) = codes "err 32 underrun " ++ decimal k ++ codes "\n"
+end_text (Fifo k) = codes "err 32 fifo " ++ decimal k ++ codes "\n"
+
+-- a count
+abbrev pub count_text : ℕ → List ℕ
+count_text k = codes "ok " ++ decimal k ++ codes "\n"
+
+-- words, each after a space
+abbrev pub words_text : List ℕ → List ℕ
+words_text [] = []
+words_text (word ∷ words) = codes " " ++ decimal word ++ words_text words
+
+-- the text of an answer
+abbrev pub answer_text : Answer → List ℕ
+answer_text Fine = codes "ok\n"
+answer_text Begun = codes "ok\n"
+answer_text Triggered = codes "ok 1\n"
+answer_text (Taken f place words) = count_text (length words) ++ sample_lines f place words
+answer_text (Mapped k) = count_text k
+answer_text (Looked f place word) = codes "ok " ++ sample_line f place word
+answer_text (Released k) = count_text k
+answer_text (Holds k) = count_text k
+answer_text (Written words) = count_text (length words)
+answer_text (Filled words) = count_text (length words)
+answer_text (Marked k) = count_text k
+answer_text (Data k words) = codes "ok " ++ decimal k ++ words_text words ++ codes "\n"
+answer_text Idle = codes "ok 0 idle\n"
+answer_text (Ended e) = end_text e
+answer_text (Rejected step cmd) = codes "err 11 " ++ decimal step ++ codes " " ++ command_text cmd ++ codes "\n"
+answer_text (Refused error) = codes "err " ++ decimal (number_of error) ++ codes "\n"
+
+-- the line of a word that is put out
+abbrev pub output_text : Output → List ℕ
+output_text o = codes "out " ++ decimal o.sub ++ codes " " ++ decimal o.time ++ codes " " ++ decimal o.index ++ codes " " ++ decimal o.word ++ codes "\n"
+
+-- the lines of words that are put out
+abbrev pub output_texts : List Output → List ℕ
+output_texts [] = []
+output_texts (o ∷ outputs) = output_text o ++ output_texts outputs
+
+-- what a step writes: what was put out stands before the answer
+abbrev pub step_text : Step → List ℕ
+step_text step = output_texts step.outputs ++ answer_text step.answer
+
+-- what the lines of a session answer, from a state on
+abbrev pub texts_from : Setting → State → List SessionLine → List ℕ
+texts_from s state [] = []
+texts_from s state (line ∷ rest) = step_text (step s line state) ++ texts_from s (step s line state).state rest
+
+-- the text that is answered to a session
+abbrev pub replay_text : Setting → List SessionLine → List ℕ
+replay_text s lines = texts_from s (at_start s) lines

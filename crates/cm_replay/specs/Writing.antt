@@ -1,0 +1,69 @@
+-- What the lines do that write into a command's buffer, each where no check refuses it.
+use Rattle.std.specs.Prelude.{ℕ, suc, ◌+◌, ◌-◌, Bool, true, ◌&&◌, nat_le, nat_lt, List, [], ◌∷◌, ◌++◌, length, take, Option, Some, None, if◌then◌else◌}
+use Rattle.cm_board.specs.Board.{SubText, maxdata_of}
+use Rattle.cm_cmd.specs.Entry.{chan}
+use Rattle.cm_sample.specs.Rule.{map_from}
+use Rattle.cm_replay.specs.Answers.{Filled, Idle, Marked, Reply, Written, goes_on, kept, unless_ended}
+use Rattle.cm_replay.specs.Format.{entry_at}
+use Rattle.cm_replay.specs.Reading.{reported_end}
+use Rattle.cm_replay.specs.Running.{Running, munge_in}
+use Rattle.cm_replay.specs.State.{Here}
+
+-- how many words are filled and not marked
+abbrev pub unmarked : Option Running → ℕ
+unmarked None = 0
+unmarked (Some c) = c.a - c.w
+
+-- the greatest word of a place: that of its channel, and the subdevice's own where no command runs
+abbrev pub most_at : SubText → Option Running → ℕ → ℕ
+most_at sub None place = sub.maxdata
+most_at sub (Some c) place = maxdata_of sub (chan (entry_at c.schedule.format place))
+
+-- the place of the next word that a client gives
+abbrev pub next_place : Option Running → ℕ
+next_place None = 0
+next_place (Some c) = c.a
+
+-- each of the words from a place on is at most the greatest one
+abbrev pub all_fit : (ℕ → ℕ) → ℕ → List ℕ → Bool
+all_fit most place [] = true
+all_fit most place (word ∷ words) = nat_le word (most place) && all_fit most (suc place) words
+
+-- the words of a line are ones of their places' channels
+abbrev pub fit : Here → List ℕ → Bool
+fit h words = all_fit (most_at h.sub h.device.running) (next_place h.device.running) words
+
+-- the words for which there is room
+abbrev pub taken_in : List ℕ → Running → List ℕ
+taken_in words c = take (c.r + c.schedule.size - c.a) words
+
+-- a command whose client stored more words
+abbrev pub fill_on : List ℕ → Running → Running
+fill_on words c = record c { a = c.a + length words; words = c.words ++ words }
+
+-- the munged word of a place from `low` up to `high`, and the word of any other place
+abbrev pub munged_within : (ℕ → ℕ → ℕ) → ℕ → ℕ → ℕ → ℕ → ℕ
+munged_within munge low high place word = if nat_le low place && nat_lt place high then munge place word else word
+
+-- a command whose client marked `k` more words, which munges them
+abbrev pub mark_on : ℕ → Running → Running
+mark_on k c = record c { w = c.w + k; words = map_from (munged_within (munge_in c.schedule) c.w (c.w + k)) c.r c.words }
+
+-- a command whose client stored more words and marked them
+abbrev pub write_on : List ℕ → Running → Running
+write_on words c = mark_on (length words) (fill_on words c)
+
+-- `fill`: the first words, as far as there is room
+abbrev pub fill_reply : List ℕ → Here → Option Running → Reply
+fill_reply words h None = kept h Idle
+fill_reply words h (Some c) = unless_ended h (reported_end c) (goes_on h (fill_on (taken_in words c) c) (Filled (taken_in words c)))
+
+-- `write`: the same, and they are marked
+abbrev pub write_reply : List ℕ → Here → Option Running → Reply
+write_reply words h None = kept h Idle
+write_reply words h (Some c) = unless_ended h (reported_end c) (goes_on h (write_on (taken_in words c) c) (Written (taken_in words c)))
+
+-- `mark`: the first `k` words that aren't marked
+abbrev pub mark_reply : ℕ → Here → Option Running → Reply
+mark_reply k h None = kept h (Marked k)
+mark_reply k h (Some c) = goes_on h (mark_on k c) (Marked k)

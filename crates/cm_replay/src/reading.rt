@@ -1,0 +1,211 @@
+// The lines that read from the buffer of a subdevice's command.
+ghost use Rattle.std.specs.Prelude.{◌≡◌, ◌<◌, ◌∷◌, ◌++◌, [], length, OnOk};
+ghost use Rattle.std.specs.Result.{result_err};
+ghost use Rattle.cm_replay.specs.Answers.{Ended, idle};
+ghost use Rattle.cm_replay.specs.Forms.{form, reader_checks};
+ghost use Rattle.cm_replay.specs.Reading as spec;
+ghost use Rattle.cm_replay.specs.Replies.{IsReached, Replies, checked, here_at};
+ghost use Rattle.cm_replay.specs.State.{Device, is_foreign};
+ghost use Rattle.cm_session.specs.declared.op.Op.TheVariants as ops;
+ghost use Rattle.cm_sub.specs.Checks.{first_refusal, refuse};
+
+use crate::at::At;
+use crate::ending::End;
+use crate::seat::Seat;
+use crate::text::{put_count, put_end, put_fine, put_idle, put_refused};
+use cm_base::transfer::NoMemory;
+use cm_expand::rule::is_output;
+use cm_sub::errno::Errno;
+use cm_sub::files::Files;
+
+// Whether the subdevice is busy with another file.
+fn is_foreign(at: &At<'_>, files: &Files) -> bool
+    requires { at.now.index < length files.now.claims }
+    ensures { (device : Device) → result ≡ is_foreign (here_at at.now files.now device) }
+{
+    match files.runner(at.index) {
+        None => false,
+        Some(file) => file != at.file,
+    }
+}
+
+// What a line is refused that reads, where its own test holds.
+fn refuses(at: &At<'_>, files: &Files, test: bool) -> Result<(), Errno>
+    requires { at.now.index < length files.now.claims }
+    ensures { (device : Device) → result_err result ≡ first_refusal (reader_checks (here_at at.now files.now device) ++ refuse Errno.Inval test ∷ []) }
+{
+    let sub = at.sub;
+    if is_output(sub.kind) {
+        return Err(Errno::Inval);
+    }
+    if is_foreign(at, files) {
+        return Err(Errno::Access);
+    }
+    if test {
+        return Err(Errno::Inval);
+    }
+    Ok(())
+}
+
+// How many samples are mapped.
+fn mapped(seat: &Seat<'_>) -> u64
+    ensures { result ≡ spec.mapped seat.now.running }
+{
+    match &seat.running {
+        None => 0,
+        Some(command) => {
+            let places = command.places();
+            places.ra - places.r
+        }
+    }
+}
+
+// Reports an end, and makes the subdevice idle.
+fn end(
+    at: &At<'_>,
+    end: End,
+    files: &mut Files,
+    seat: &mut Seat<'_>,
+    text: &mut Vec<u8>,
+) -> Result<(), NoMemory>
+    requires { at.now.index < length files.old.claims }
+    ensures { OnOk result (Replies (idle (here_at at.now files.old seat.old) (Ended end)) files.new seat.new text.old.items text.new.items) }
+{
+    seat.running = None;
+    files.finish(at.index);
+    put_end(text, end)
+}
+
+/// `read`: the first samples, up to `n`, or the end where nothing is left. Refused as a line that
+/// reads is, and with Inval (`EINVAL`) where samples are mapped.
+pub(crate) fn read(
+    at: &At<'_>,
+    n: u32,
+    files: &mut Files,
+    seat: &mut Seat<'_>,
+    text: &mut Vec<u8>,
+) -> Result<(), NoMemory>
+    requires { at.now.index < length files.old.claims }
+    ensures { OnOk result (Replies (checked (form (ops.Read at.now.index n) (here_at at.now files.old seat.old)) (here_at at.now files.old seat.old)) files.new seat.new text.old.items text.new.items) }
+{
+    if let Err(error) = refuses(at, files, mapped(seat) != 0) {
+        return put_refused(text, error);
+    }
+    match &mut seat.running {
+        None => put_idle(text),
+        Some(command) => match command.reported_end() {
+            None => command.read(n, text),
+            Some(last) => end(at, last, files, seat, text),
+        },
+    }
+}
+
+/// `map`: up to `n` more samples, or the end where nothing is left. Refused as a line that reads is.
+pub(crate) fn map(
+    at: &At<'_>,
+    n: u32,
+    files: &mut Files,
+    seat: &mut Seat<'_>,
+    text: &mut Vec<u8>,
+) -> Result<(), NoMemory>
+    requires { at.now.index < length files.old.claims }
+    ensures { OnOk result (Replies (checked (form (ops.Map at.now.index n) (here_at at.now files.old seat.old)) (here_at at.now files.old seat.old)) files.new seat.new text.old.items text.new.items) }
+{
+    if let Err(error) = refuses(at, files, false) {
+        return put_refused(text, error);
+    }
+    match &mut seat.running {
+        None => put_idle(text),
+        Some(command) => match command.reported_end() {
+            None => {
+                let count = command.map(n);
+                put_count(text, u64::from(count))
+            }
+            Some(last) => end(at, last, files, seat, text),
+        },
+    }
+}
+
+/// `look`: the mapped sample `i`. Refused as a line that reads is, and with Inval (`EINVAL`) where
+/// that sample isn't mapped.
+pub(crate) fn look(
+    at: &At<'_>,
+    i: u32,
+    files: &Files,
+    seat: &Seat<'_>,
+    text: &mut Vec<u8>,
+) -> Result<(), NoMemory>
+    requires { at.now.index < length files.now.claims }
+    ensures { OnOk result (Replies (checked (form (ops.Look at.now.index i) (here_at at.now files.now seat.now)) (here_at at.now files.now seat.now)) files.now seat.now text.old.items text.new.items) }
+{
+    if let Err(error) = refuses(at, files, mapped(seat) <= u64::from(i)) {
+        return put_refused(text, error);
+    }
+    match &seat.running {
+        None => put_idle(text),
+        Some(command) => command.look(i, text),
+    }
+}
+
+/// `release`: the first `k` mapped samples. Refused as a line that reads is, and with Inval
+/// (`EINVAL`) where fewer are mapped.
+pub(crate) fn release(
+    at: &At<'_>,
+    k: u32,
+    files: &Files,
+    seat: &mut Seat<'_>,
+    text: &mut Vec<u8>,
+) -> Result<(), NoMemory>
+    requires { at.now.index < length files.now.claims }
+    ensures { OnOk result (Replies (checked (form (ops.Release at.now.index k) (here_at at.now files.now seat.old)) (here_at at.now files.now seat.old)) files.now seat.new text.old.items text.new.items) }
+{
+    if let Err(error) = refuses(at, files, mapped(seat) < u64::from(k)) {
+        return put_refused(text, error);
+    }
+    if let Some(command) = &mut seat.running {
+        command.release(k);
+    }
+    put_count(text, u64::from(k))
+}
+
+/// `contents`: how many samples the buffer holds. Refused with Access (`EACCES`) where another file
+/// runs the command.
+pub(crate) fn contents(
+    at: &At<'_>,
+    files: &Files,
+    seat: &Seat<'_>,
+    text: &mut Vec<u8>,
+) -> Result<(), NoMemory>
+    requires { at.now.index < length files.now.claims }
+    ensures { OnOk result (Replies (checked (form (ops.Contents at.now.index) (here_at at.now files.now seat.now)) (here_at at.now files.now seat.now)) files.now seat.now text.old.items text.new.items) }
+{
+    if is_foreign(at, files) {
+        return put_refused(text, Errno::Access);
+    }
+    match &seat.running {
+        None => put_count(text, 0),
+        Some(command) => {
+            let places = command.places();
+            put_count(text, places.w - places.r)
+        }
+    }
+}
+
+/// `cancel`: ends the command, and drops what its buffer holds. Refused as `Files::cancel` is.
+pub(crate) fn cancel(
+    at: &At<'_>,
+    files: &mut Files,
+    seat: &mut Seat<'_>,
+    text: &mut Vec<u8>,
+) -> Result<(), NoMemory>
+    requires { IsReached at.now files.old }
+    ensures { OnOk result (Replies (checked (form (ops.Cancel at.now.index) (here_at at.now files.old seat.old)) (here_at at.now files.old seat.old)) files.new seat.new text.old.items text.new.items) }
+{
+    match files.cancel(at.file, at.index) {
+        Err(error) => put_refused(text, error),
+        Ok(_) => {
+            seat.running = None;
+            put_fine(text)
+        }
+    }
+}

@@ -1,0 +1,22 @@
+// A subdevice in a session.
+
+use crate::command::Command;
+use cm_sub::state::SubState;
+use std::marker::Model;
+
+/// What a subdevice keeps between instructions, and its command where one runs.
+#[derive(Drop)]
+pub struct Seat<'a> {
+    pub state: SubState,
+    pub running: Option<Command<'a>>,
+}
+
+impl<'a> Model for Seat<'a> {
+    ghost use Rattle.cm_replay.specs.State.{Device};
+
+    ghost Value = { Device };
+
+    ghost use Rattle.cm_replay.specs.SeatView.{device_of};
+
+    ghost view = { device_of };
+}

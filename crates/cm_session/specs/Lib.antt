@@ -1,0 +1,4 @@
+pub mod Forms
+pub mod Instructions
+pub mod Limits
+pub mod SessionPart

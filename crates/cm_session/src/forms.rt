@@ -1,0 +1,140 @@
+// The forms of a session's lines: what each word of a line has to be.
+ghost use Rattle.std.specs.Prelude.{◌≡◌, ◌≤◌, drop, map, length, IfOk};
+ghost use Rattle.cm_base.specs.LineView.{line_view};
+ghost use Rattle.cm_base.specs.ReadStop.{Gives};
+ghost use Rattle.cm_base.specs.Reading.{at_line, seen};
+ghost use Rattle.cm_cmd.specs.PrintedReads.{HasText};
+ghost use Rattle.cm_session.specs.Forms as spec;
+
+use crate::op::{BoxedCmd, Op, SessionLine};
+use cm_base::faults::{Fault, ReadStop};
+use cm_base::lines::Line;
+use cm_base::lists::Nums;
+use cm_base::words::{at_line, number_in, numbers, one, three, time_in, two, two_and_more};
+use cm_cmd::reading::read_cmd;
+use std::alloc::Global;
+
+/// How a line starts: its number in the text, the horizon up to which times go, and the word of its
+/// time.
+#[derive(Clone, Copy)]
+pub(crate) struct Start<'a> {
+    pub number: u32,
+    pub horizon: u64,
+    pub time: &'a [u8],
+}
+
+/// The time of a line in nanoseconds, and its file.
+#[derive(Clone, Copy)]
+pub(crate) struct Head {
+    pub time: u64,
+    pub file: u32,
+}
+
+impl Head {
+    /// The line that asks this.
+    pub(crate) fn line(self, op: Op) -> SessionLine
+        ensures { result ≡ spec.line_by self op }
+    {
+        SessionLine {
+            time: self.time,
+            file: self.file,
+            op,
+        }
+    }
+}
+
+// The time and the file.
+fn read_head(start: &Start<'_>, file: &[u8]) -> Result<Head, Fault>
+    ensures value { result ≡ spec.head_of start.now.horizon start.now.time.now file.now }
+    ensures within { IfOk result (λ head. head.time ≤ start.now.horizon) }
+{
+    let time = time_in(start.time, 0, start.horizon)?;
+    let file = number_in(file, 0, 15)?;
+    Ok(Head { time, file })
+}
+
+/// The time, the file and the subdevice.
+pub(crate) fn place(start: &Start<'_>, file: &[u8], sub: &[u8]) -> Result<(Head, u32), Fault>
+    ensures value { result ≡ spec.place_of start.now.horizon start.now.time.now file.now sub.now }
+    ensures within { IfOk result (λ place. place.0.time ≤ start.now.horizon) }
+{
+    let head = read_head(start, file)?;
+    let sub = number_in(sub, 0, 255)?;
+    Ok((head, sub))
+}
+
+/// The file of `T KEY F`.
+pub(crate) fn file_words(start: &Start<'_>, words: &[&[u8]]) -> Result<Head, Fault>
+    ensures value { result ≡ spec.file_words start.now.horizon start.now.time.now (map (λ word. word.now) words.now) }
+    ensures within { IfOk result (λ head. head.time ≤ start.now.horizon) }
+{
+    let file = one(words)?;
+    read_head(start, file)
+}
+
+/// The file and the subdevice of `T KEY F SUB`.
+pub(crate) fn sub_words(start: &Start<'_>, words: &[&[u8]]) -> Result<(Head, u32), Fault>
+    ensures value { result ≡ spec.sub_words start.now.horizon start.now.time.now (map (λ word. word.now) words.now) }
+    ensures within { IfOk result (λ place. place.0.time ≤ start.now.horizon) }
+{
+    let (file, sub) = two(words)?;
+    place(start, file, sub)
+}
+
+/// The file, the subdevice and the number of `T KEY F SUB N`, with a number up to a limit.
+pub(crate) fn number_words(
+    start: &Start<'_>,
+    words: &[&[u8]],
+    most: u32,
+) -> Result<(Head, u32, u32), Fault>
+    ensures value { result ≡ spec.number_words most start.now.horizon start.now.time.now (map (λ word. word.now) words.now) }
+    ensures within { IfOk result (λ w. (w.0.time ≤ start.now.horizon) × (w.2 ≤ most)) }
+{
+    let (file, sub, number) = three(words)?;
+    let (head, sub) = place(start, file, sub)?;
+    let number = number_in(number, 0, most)?;
+    Ok((head, sub, number))
+}
+
+/// The file, the subdevice and the values of `T KEY F SUB V..`.
+pub(crate) fn values_words(
+    alloc: Global,
+    start: &Start<'_>,
+    words: &[&[u8]],
+) -> Result<(Head, u32, Nums), ReadStop>
+    ensures value { Gives (λ w. (w.0, w.1, w.2)) result (at_line start.now.number (spec.values_words start.now.horizon start.now.time.now (map (λ word. word.now) words.now))) }
+    ensures within { IfOk result (λ w. (w.0.time ≤ start.now.horizon) × (length w.2 ≤ 1024)) }
+{
+    let (file, sub, values) = at_line(start.number, two_and_more(words))?;
+    let (head, sub) = at_line(start.number, place(start, file, sub))?;
+    let values = numbers(alloc, start.number, values, 1024)?;
+    Ok((head, sub, Nums::new(values)))
+}
+
+// The file, where the eight words of a command stand after it.
+fn file_word<'a>(words: &[&'a [u8]]) -> Result<&'a [u8], Fault>
+    ensures { seen (λ w. w.now) result ≡ spec.file_word (map (λ word. word.now) words.now) }
+{
+    if words.len() == 9 {
+        Ok(words[0])
+    } else {
+        Err(Fault::BadLine)
+    }
+}
+
+/// The file and the command of `T cmd F COMMAND`, whose words after the key are given too.
+pub(crate) fn command_words(
+    alloc: Global,
+    start: &Start<'_>,
+    line: &Line<'_>,
+    words: &[&[u8]],
+) -> Result<(Head, BoxedCmd), ReadStop>
+    requires { drop 2 (line_view line.now).words ≡ map (λ word. word.now) words.now }
+    ensures value { Gives (λ w. (w.0, w.1)) result (at_line start.now.number (spec.command_words start.now.horizon start.now.time.now (map (λ word. word.now) words.now))) }
+    ensures within { IfOk result (λ w. (w.0.time ≤ start.now.horizon) × HasText w.1) }
+{
+    let file = at_line(start.number, file_word(words))?;
+    let head = at_line(start.number, read_head(start, file))?;
+    let cmd = read_cmd(alloc, line, 3)?;
+    Ok((head, BoxedCmd::new(alloc, cmd)?))
+}

@@ -1,0 +1,1 @@
+// Lines of sessions as they are read.
