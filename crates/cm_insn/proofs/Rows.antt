@@ -1,10 +1,7 @@
 -- Instructions at worked values, on eight digital lines and on two outputs of twelve bits.
 use Rattle.std.proofs.Common.{◌≡◌, ℕ, true, false, List, [], ◌∷◌, Option, Some, None, pos, replicate, set, refl}
-use Rattle.cm_board.specs.Board.{SubText, idle_sub, maxdata_of, ranges_of}
-use Rattle.cm_board.specs.declared.board.Kind.{Kind}
+use Rattle.cm_board.specs.Board.{idle_sub, maxdata_of, ranges_of}
 use Rattle.cm_board.specs.declared.board.Kind.TheVariants as kinds
-use Rattle.cm_board.specs.declared.board.Munge.TheVariants as munges
-use Rattle.cm_board.specs.declared.board.Range.{Range}
 use Rattle.cm_cmd.specs.Entry.{pack}
 use Rattle.cm_sub.specs.State.{StateText, first_state}
 use Rattle.cm_insn.specs.Insn.{Done, insn}

@@ -7,7 +7,7 @@ use Rattle.cm_base.proofs.Pieces.{take_sum}
 use Rattle.cm_ring_core.specs.Local.{Ring}
 use Rattle.cm_expand.specs.Taking.{raw_words}
 use Rattle.cm_replay.specs.Conversions.{come, munged_from, NeverFalls}
-use Rattle.cm_replay.specs.Running.{Schedule, end_by, has_stopped, is_out, munge_in, samples, some_if}
+use Rattle.cm_replay.specs.Running.{Schedule, has_stopped, munge_in, samples, some_if}
 use Rattle.cm_replay.specs.CommandView.{IsInStep}
 use Rattle.cm_replay.specs.Filling.{moving, filled}
 use Rattle.cm_replay.specs.ToCome.{ToCome, end_shown}

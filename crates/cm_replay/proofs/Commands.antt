@@ -1,5 +1,5 @@
 -- A command's fields against what contracts see.
-use Rattle.std.proofs.Common.{◌≡◌, ℕ, ◌+◌, ◌<◌, ◌≤◌, ◌^◌, Bool, false, List, [], length, drop, Option, Some, None, Result, Ok, Err, OnOk, refl, sym, ap, ap₂, ◌∙◌, arith, subst, ◌-◌, ◌++◌, min, take, get_or, set, codes, length-drop, length-take, get_or-drop, get_or-take}
+use Rattle.std.proofs.Common.{◌≡◌, ℕ, ◌+◌, ◌<◌, ◌≤◌, ◌^◌, Bool, false, List, [], length, drop, Option, Some, None, refl, sym, ap, ap₂, ◌∙◌, arith, subst, ◌-◌, ◌++◌, min, take, get_or, codes, length-drop, length-take, get_or-drop, get_or-take}
 use Rattle.cm_sample.specs.Rule.{RuleText, munged_word}
 use Rattle.cm_ring_core.specs.Local.{IsFresh, Ring}
 use Rattle.cm_replay.specs.CommandView.{IsCommand, IsInStep, its_schedule, running_of}
@@ -9,7 +9,7 @@ use Rattle.cm_replay.specs.Format.{IsSample, sample_lines}
 use Rattle.std.specs.Prelude.{nat_eq, nat_lt, ◌||◌, if◌then◌else◌}
 use Rattle.std.proofs.lemmas.Bool.{cond-false, eq-eqb, ne_eqb}
 use Rattle.cm_replay.specs.Reading.{reported_end, taken}
-use Rattle.cm_replay.specs.Running.{Running, Schedule, brought, collected, end_by, is_out, lost_end, moved_on, munge_in, put_out, samples, written_by}
+use Rattle.cm_replay.specs.Running.{Running, Schedule, brought, collected, end_by, is_out, lost_end, munge_in, put_out, samples, written_by}
 use Rattle.cm_replay.specs.Texts.{answer_text}
 use Rattle.std.specs.Fmt.{decimal}
 use Rattle.cm_replay.specs.ToCome.{ToCome, end_shown}

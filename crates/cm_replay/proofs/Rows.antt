@@ -202,8 +202,8 @@ timed sub flags start period stop entry = record {
 -- an output keeps a word, and refuses one above its greatest code; one subdevice is unused, and another isn't there
 writes_an_output :
     answers (demo (quiet 10000)) (
-        line 0 1 ops.OpenFile ∷ line 0 1 (ops.InsnWrite 1 0 (7 ∷ [])) ∷ line 0 1 (ops.InsnWrite 1 0 (4096 ∷ [])) ∷ line 0 1 (ops.InsnRead 1 0 1)
-        ∷ line 0 1 (ops.InsnRead 3 0 1) ∷ line 0 1 (ops.InsnRead 4 0 1) ∷ [])
+    line 0 1 ops.OpenFile ∷ line 0 1 (ops.InsnWrite 1 0 (7 ∷ [])) ∷ line 0 1 (ops.InsnWrite 1 0 (4096 ∷ [])) ∷ line 0 1 (ops.InsnRead 1 0 1)
+    ∷ line 0 1 (ops.InsnRead 3 0 1) ∷ line 0 1 (ops.InsnRead 4 0 1) ∷ [])
     ≡ ok ∷ ok ∷ pos 1 ∷ err ∷ pos 22 ∷ ok ∷ pos 1 ∷ pos 7 ∷ err ∷ pos 5 ∷ err ∷ pos 19 ∷ []
 unfolding maxdata_of munge_of ranges_of
 writes_an_output = refl
@@ -211,7 +211,7 @@ writes_an_output = refl
 -- a digital line becomes an output and takes its bit, and the time of day
 puts_bits :
     answers (demo (quiet 3000000000)) (
-        line 0 1 ops.OpenFile ∷ line 0 1 (ops.InsnConfig 2 3 1) ∷ line 0 1 (ops.InsnBits 2 8 8) ∷ line 0 1 (ops.InsnBits 2 0 0) ∷ line 2500001000 1 (ops.InsnGtod 2) ∷ [])
+    line 0 1 ops.OpenFile ∷ line 0 1 (ops.InsnConfig 2 3 1) ∷ line 0 1 (ops.InsnBits 2 8 8) ∷ line 0 1 (ops.InsnBits 2 0 0) ∷ line 2500001000 1 (ops.InsnGtod 2) ∷ [])
     ≡ ok ∷ ok ∷ pos 1 ∷ ok ∷ pos 2 ∷ pos 8 ∷ pos 8 ∷ ok ∷ pos 2 ∷ pos 0 ∷ pos 8 ∷ ok ∷ pos 2 ∷ pos 2 ∷ pos 500001 ∷ []
 unfolding maxdata_of munge_of ranges_of
 puts_bits = refl
@@ -219,8 +219,8 @@ puts_bits = refl
 -- a lock keeps another file out until its file is closed; no command waits for a trigger
 gives_up_a_lock :
     answers (demo (quiet 10000)) (
-        line 0 1 ops.OpenFile ∷ line 0 2 ops.OpenFile ∷ line 0 1 (ops.Lock 1) ∷ line 0 2 (ops.InsnWrite 1 0 (5 ∷ [])) ∷ line 0 1 (ops.InsnWrite 1 0 (5 ∷ []))
-        ∷ line 0 1 ops.CloseFile ∷ line 0 2 (ops.InsnRead 1 0 1) ∷ line 0 2 (ops.InsnIntTrig 0 0) ∷ [])
+    line 0 1 ops.OpenFile ∷ line 0 2 ops.OpenFile ∷ line 0 1 (ops.Lock 1) ∷ line 0 2 (ops.InsnWrite 1 0 (5 ∷ [])) ∷ line 0 1 (ops.InsnWrite 1 0 (5 ∷ []))
+    ∷ line 0 1 ops.CloseFile ∷ line 0 2 (ops.InsnRead 1 0 1) ∷ line 0 2 (ops.InsnIntTrig 0 0) ∷ [])
     ≡ ok ∷ ok ∷ ok ∷ err ∷ pos 13 ∷ ok ∷ pos 1 ∷ ok ∷ ok ∷ pos 1 ∷ pos 5 ∷ err ∷ pos 11 ∷ []
 unfolding maxdata_of munge_of ranges_of
 gives_up_a_lock = refl
@@ -228,8 +228,8 @@ gives_up_a_lock = refl
 -- the sixth sample finds no room
 reads_until_an_overrun :
     answers (demo (rising 10000)) (
-        line 0 1 ops.OpenFile ∷ line 0 1 (ops.Cmd (timed 0 0 (trig source.now 0) 1000 (trig source.count 6) 0)) ∷ line 3000 1 (ops.Read 0 1) ∷ line 5000 1 (ops.Read 0 10)
-        ∷ line 5000 1 (ops.Read 0 10) ∷ line 5000 1 (ops.Read 0 10) ∷ [])
+    line 0 1 ops.OpenFile ∷ line 0 1 (ops.Cmd (timed 0 0 (trig source.now 0) 1000 (trig source.count 6) 0)) ∷ line 3000 1 (ops.Read 0 1) ∷ line 5000 1 (ops.Read 0 10)
+    ∷ line 5000 1 (ops.Read 0 10) ∷ line 5000 1 (ops.Read 0 10) ∷ [])
     ≡ ok ∷ ok ∷ ok ∷ pos 1 ∷ pos 0 ∷ minus 153 ∷ ok ∷ pos 4 ∷ pos 0 ∷ pos 999923 ∷ pos 0 ∷ pos 2000000 ∷ pos 0 ∷ pos 2999771 ∷ pos 0 ∷ pos 3999847 ∷ err ∷ pos 32 ∷ overrun
     ∷ pos 5 ∷ ok ∷ pos 0 ∷ idle ∷ []
 unfolding maxdata_of munge_of ranges_of
@@ -238,7 +238,7 @@ reads_until_an_overrun = refl
 -- no more is read than has come
 reads_what_has_come :
     answers (demo (rising 10000)) (
-        line 0 1 ops.OpenFile ∷ line 0 1 (ops.Cmd (timed 0 0 (trig source.now 0) 1000 (trig source.count 6) 0)) ∷ line 1000 1 (ops.Read 0 10) ∷ [])
+    line 0 1 ops.OpenFile ∷ line 0 1 (ops.Cmd (timed 0 0 (trig source.now 0) 1000 (trig source.count 6) 0)) ∷ line 1000 1 (ops.Read 0 10) ∷ [])
     ≡ ok ∷ ok ∷ ok ∷ pos 2 ∷ pos 0 ∷ minus 153 ∷ pos 0 ∷ pos 999923 ∷ []
 unfolding maxdata_of munge_of ranges_of
 reads_what_has_come = refl
@@ -246,8 +246,8 @@ reads_what_has_come = refl
 -- what is mapped stays to be looked at until it is released, and nothing is read in between
 maps :
     answers (demo (rising 10000)) (
-        line 0 1 ops.OpenFile ∷ line 0 1 (ops.Cmd (timed 0 0 (trig source.now 0) 1000 (trig source.count 6) 0)) ∷ line 2000 1 (ops.Map 0 3) ∷ line 2000 1 (ops.Release 0 1)
-        ∷ line 4000 1 (ops.Look 0 0) ∷ line 4000 1 (ops.Look 0 1) ∷ line 4000 1 (ops.Release 0 3) ∷ line 4000 1 (ops.Read 0 1) ∷ [])
+    line 0 1 ops.OpenFile ∷ line 0 1 (ops.Cmd (timed 0 0 (trig source.now 0) 1000 (trig source.count 6) 0)) ∷ line 2000 1 (ops.Map 0 3) ∷ line 2000 1 (ops.Release 0 1)
+    ∷ line 4000 1 (ops.Look 0 0) ∷ line 4000 1 (ops.Look 0 1) ∷ line 4000 1 (ops.Release 0 3) ∷ line 4000 1 (ops.Read 0 1) ∷ [])
     ≡ ok ∷ ok ∷ ok ∷ pos 3 ∷ ok ∷ pos 1 ∷ ok ∷ pos 0 ∷ pos 999923 ∷ ok ∷ pos 0 ∷ pos 2000000 ∷ err ∷ pos 22 ∷ err ∷ pos 22 ∷ []
 unfolding maxdata_of munge_of ranges_of
 maps = refl
@@ -255,8 +255,8 @@ maps = refl
 -- the fourth word isn't there in time
 puts_out_until_an_underrun :
     answers (demo (quiet 10000)) (
-        line 0 1 ops.OpenFile ∷ line 0 1 (ops.Cmd (timed 1 0 (trig source.int 0) 1000 (trig source.count 4) 0)) ∷ line 0 1 (ops.Write 1 (0 ∷ 2048 ∷ 4095 ∷ []))
-        ∷ line 1000 1 (ops.InsnIntTrig 1 0) ∷ line 4000 1 (ops.Write 1 (100 ∷ [])) ∷ [])
+    line 0 1 ops.OpenFile ∷ line 0 1 (ops.Cmd (timed 1 0 (trig source.int 0) 1000 (trig source.count 4) 0)) ∷ line 0 1 (ops.Write 1 (0 ∷ 2048 ∷ 4095 ∷ []))
+    ∷ line 1000 1 (ops.InsnIntTrig 1 0) ∷ line 4000 1 (ops.Write 1 (100 ∷ [])) ∷ [])
     ≡ ok ∷ ok ∷ ok ∷ pos 3 ∷ ok ∷ pos 1 ∷ out ∷ pos 1 ∷ pos 1000 ∷ pos 0 ∷ pos 2048 ∷ out ∷ pos 1 ∷ pos 2000 ∷ pos 0 ∷ pos 0 ∷ out ∷ pos 1 ∷ pos 3000 ∷ pos 0 ∷ pos 2047 ∷ err
     ∷ pos 32 ∷ underrun ∷ pos 3 ∷ []
 unfolding maxdata_of munge_of ranges_of
@@ -265,8 +265,8 @@ puts_out_until_an_underrun = refl
 -- who may use, lock and unlock
 owners :
     answers (demo (quiet 10000)) (
-        line 0 1 ops.OpenFile ∷ line 0 2 ops.OpenFile ∷ line 0 1 (ops.Lock 0) ∷ line 0 2 (ops.Cmd (timed 0 0 (trig source.now 0) 1000 (trig source.count 3) 0))
-        ∷ line 0 2 (ops.Unlock 0) ∷ line 0 1 (ops.Cancel 0) ∷ line 0 1 (ops.Cancel 0) ∷ line 0 1 (ops.Lock 0) ∷ line 0 1 (ops.Unlock 0) ∷ line 0 1 ops.OpenFile ∷ [])
+    line 0 1 ops.OpenFile ∷ line 0 2 ops.OpenFile ∷ line 0 1 (ops.Lock 0) ∷ line 0 2 (ops.Cmd (timed 0 0 (trig source.now 0) 1000 (trig source.count 3) 0))
+    ∷ line 0 2 (ops.Unlock 0) ∷ line 0 1 (ops.Cancel 0) ∷ line 0 1 (ops.Cancel 0) ∷ line 0 1 (ops.Lock 0) ∷ line 0 1 (ops.Unlock 0) ∷ line 0 1 ops.OpenFile ∷ [])
     ≡ ok ∷ ok ∷ ok ∷ err ∷ pos 13 ∷ err ∷ pos 13 ∷ ok ∷ ok ∷ err ∷ pos 16 ∷ ok ∷ err ∷ pos 22 ∷ []
 unfolding maxdata_of munge_of ranges_of
 owners = refl
@@ -274,8 +274,8 @@ owners = refl
 -- raw words, and then the end of a whole command
 raw_words :
     answers (demo (record (quiet 10000) { waves = record { sub = 0; chan = 0; wave = waves.Const (pos 2500000) } ∷ [] })) (
-        line 0 1 ops.OpenFile ∷ line 0 1 (ops.Cmd (timed 0 128 (trig source.now 0) 1000 (trig source.count 3) 0)) ∷ line 2000 1 (ops.Read 0 10)
-        ∷ line 2000 1 (ops.Read 0 10) ∷ [])
+    line 0 1 ops.OpenFile ∷ line 0 1 (ops.Cmd (timed 0 128 (trig source.now 0) 1000 (trig source.count 3) 0)) ∷ line 2000 1 (ops.Read 0 10)
+    ∷ line 2000 1 (ops.Read 0 10) ∷ [])
     ≡ ok ∷ ok ∷ ok ∷ pos 3 ∷ pos 0 ∷ pos 8191 ∷ pos 0 ∷ pos 8191 ∷ pos 0 ∷ pos 8191 ∷ ok ∷ pos 0 ∷ done ∷ []
 unfolding maxdata_of munge_of ranges_of
 raw_words = refl
@@ -283,9 +283,9 @@ raw_words = refl
 -- a command is cancelled, and the next one starts anew
 cancels :
     answers (demo (rising 10000)) (
-        line 0 1 ops.OpenFile ∷ line 0 1 (ops.Cmd (timed 0 0 (trig source.now 0) 1000 (trig source.count 6) 0)) ∷ line 2000 1 (ops.Map 0 2) ∷ line 2000 1 (ops.Read 0 1)
-        ∷ line 2000 1 (ops.Cancel 0) ∷ line 2000 1 (ops.Read 0 1) ∷ line 2000 1 (ops.Cmd (timed 0 0 (trig source.now 0) 1000 (trig source.count 1) 0))
-        ∷ line 2000 1 (ops.Read 0 5) ∷ [])
+    line 0 1 ops.OpenFile ∷ line 0 1 (ops.Cmd (timed 0 0 (trig source.now 0) 1000 (trig source.count 6) 0)) ∷ line 2000 1 (ops.Map 0 2) ∷ line 2000 1 (ops.Read 0 1)
+    ∷ line 2000 1 (ops.Cancel 0) ∷ line 2000 1 (ops.Read 0 1) ∷ line 2000 1 (ops.Cmd (timed 0 0 (trig source.now 0) 1000 (trig source.count 1) 0))
+    ∷ line 2000 1 (ops.Read 0 5) ∷ [])
     ≡ ok ∷ ok ∷ ok ∷ pos 2 ∷ err ∷ pos 22 ∷ ok ∷ ok ∷ pos 0 ∷ idle ∷ ok ∷ ok ∷ pos 1 ∷ pos 0 ∷ pos 2000000 ∷ []
 unfolding maxdata_of munge_of ranges_of
 cancels = refl
@@ -293,7 +293,7 @@ cancels = refl
 -- a command that fails a step of the test is answered as the test leaves it
 rejects :
     answers (demo (rising 10000)) (
-        line 0 1 ops.OpenFile ∷ line 0 1 (ops.Cmd (timed 0 0 (trig source.now 0) 1050 (trig source.count 1) 0)) ∷ [])
+    line 0 1 ops.OpenFile ∷ line 0 1 (ops.Cmd (timed 0 0 (trig source.now 0) 1050 (trig source.count 1) 0)) ∷ [])
     ≡ ok ∷ err ∷ pos 11 ∷ pos 4 ∷ pos 0 ∷ pos 0 ∷ pos 2 ∷ pos 0 ∷ pos 16 ∷ pos 1100 ∷ pos 2 ∷ pos 0 ∷ pos 32 ∷ pos 1 ∷ pos 32 ∷ pos 1 ∷ pos 0 ∷ []
 unfolding maxdata_of munge_of ranges_of
 rejects = refl
@@ -301,8 +301,8 @@ rejects = refl
 -- a trigger with the right number, once
 triggers :
     answers (demo (rising 10000)) (
-        line 0 1 ops.OpenFile ∷ line 0 1 (ops.Cmd (timed 0 0 (trig source.int 0) 1000 (trig source.count 2) 0)) ∷ line 500 1 (ops.InsnIntTrig 0 1)
-        ∷ line 500 1 (ops.InsnIntTrig 0 0) ∷ line 500 1 (ops.InsnIntTrig 0 0) ∷ line 1500 1 (ops.Read 0 9) ∷ line 1500 1 (ops.Read 0 9) ∷ [])
+    line 0 1 ops.OpenFile ∷ line 0 1 (ops.Cmd (timed 0 0 (trig source.int 0) 1000 (trig source.count 2) 0)) ∷ line 500 1 (ops.InsnIntTrig 0 1)
+    ∷ line 500 1 (ops.InsnIntTrig 0 0) ∷ line 500 1 (ops.InsnIntTrig 0 0) ∷ line 1500 1 (ops.Read 0 9) ∷ line 1500 1 (ops.Read 0 9) ∷ [])
     ≡ ok ∷ ok ∷ err ∷ pos 22 ∷ ok ∷ pos 1 ∷ err ∷ pos 11 ∷ ok ∷ pos 2 ∷ pos 0 ∷ minus 153 ∷ pos 0 ∷ pos 999923 ∷ ok ∷ pos 0 ∷ done ∷ []
 unfolding maxdata_of munge_of ranges_of
 triggers = refl
@@ -310,9 +310,9 @@ triggers = refl
 -- what isn't marked stands in the way of a write, and the list index is that of the list
 fills_and_marks :
     answers (demo (quiet 10000)) (
-        line 0 1 ops.OpenFile ∷ line 0 1 (ops.Cmd (timed 1 0 (trig source.int 0) 1000 (trig source.count 2) 1)) ∷ line 0 1 (ops.Fill 1 (1 ∷ 2 ∷ 3 ∷ []))
-        ∷ line 0 1 (ops.Mark 1 4) ∷ line 0 1 (ops.Write 1 (5 ∷ [])) ∷ line 0 1 (ops.Mark 1 2) ∷ line 0 1 (ops.Contents 1) ∷ line 0 1 (ops.InsnIntTrig 1 0)
-        ∷ line 1000 1 (ops.Contents 1) ∷ line 1000 1 (ops.Fill 1 (7 ∷ [])) ∷ [])
+    line 0 1 ops.OpenFile ∷ line 0 1 (ops.Cmd (timed 1 0 (trig source.int 0) 1000 (trig source.count 2) 1)) ∷ line 0 1 (ops.Fill 1 (1 ∷ 2 ∷ 3 ∷ []))
+    ∷ line 0 1 (ops.Mark 1 4) ∷ line 0 1 (ops.Write 1 (5 ∷ [])) ∷ line 0 1 (ops.Mark 1 2) ∷ line 0 1 (ops.Contents 1) ∷ line 0 1 (ops.InsnIntTrig 1 0)
+    ∷ line 1000 1 (ops.Contents 1) ∷ line 1000 1 (ops.Fill 1 (7 ∷ [])) ∷ [])
     ≡ ok ∷ ok ∷ ok ∷ pos 3 ∷ err ∷ pos 22 ∷ err ∷ pos 22 ∷ ok ∷ pos 2 ∷ ok ∷ pos 2 ∷ ok ∷ pos 1 ∷ out ∷ pos 1 ∷ pos 0 ∷ pos 0 ∷ pos 2049 ∷ out ∷ pos 1 ∷ pos 1000 ∷ pos 0
     ∷ pos 2050 ∷ ok ∷ pos 0 ∷ ok ∷ pos 0 ∷ done ∷ []
 unfolding maxdata_of munge_of ranges_of
@@ -321,11 +321,11 @@ fills_and_marks = refl
 -- one refusal after the other
 refusals :
     answers (demo (rising 10000)) (
-        line 0 1 (ops.Read 0 1) ∷ line 0 1 ops.OpenFile ∷ line 0 1 ops.OpenFile ∷ line 0 1 (ops.Read 9 1) ∷ line 0 1 (ops.Read 2 1) ∷ line 0 1 (ops.Lock 3)
-        ∷ line 0 1 (ops.Release 0 0) ∷ line 0 1 (ops.Cancel 0) ∷ line 0 1 (ops.Cmd (timed 0 0 (trig source.now 0) 1000 (trig source.count 2) 0))
-        ∷ line 0 1 (ops.Cmd (timed 0 0 (trig source.now 0) 1000 (trig source.count 2) 0)) ∷ line 0 1 (ops.InsnRead 0 0 1) ∷ line 1000 1 (ops.Map 0 5)
-        ∷ line 1000 1 (ops.Release 0 3) ∷ line 1000 1 (ops.Release 0 2) ∷ line 1000 1 (ops.Release 0 1) ∷ line 1000 1 (ops.Map 0 1) ∷ line 1000 1 (ops.Map 0 1)
-        ∷ line 1000 1 ops.CloseFile ∷ line 1000 1 (ops.Cancel 0) ∷ [])
+    line 0 1 (ops.Read 0 1) ∷ line 0 1 ops.OpenFile ∷ line 0 1 ops.OpenFile ∷ line 0 1 (ops.Read 9 1) ∷ line 0 1 (ops.Read 2 1) ∷ line 0 1 (ops.Lock 3)
+    ∷ line 0 1 (ops.Release 0 0) ∷ line 0 1 (ops.Cancel 0) ∷ line 0 1 (ops.Cmd (timed 0 0 (trig source.now 0) 1000 (trig source.count 2) 0))
+    ∷ line 0 1 (ops.Cmd (timed 0 0 (trig source.now 0) 1000 (trig source.count 2) 0)) ∷ line 0 1 (ops.InsnRead 0 0 1) ∷ line 1000 1 (ops.Map 0 5)
+    ∷ line 1000 1 (ops.Release 0 3) ∷ line 1000 1 (ops.Release 0 2) ∷ line 1000 1 (ops.Release 0 1) ∷ line 1000 1 (ops.Map 0 1) ∷ line 1000 1 (ops.Map 0 1)
+    ∷ line 1000 1 ops.CloseFile ∷ line 1000 1 (ops.Cancel 0) ∷ [])
     ≡ err ∷ pos 22 ∷ ok ∷ err ∷ pos 22 ∷ err ∷ pos 19 ∷ err ∷ pos 5 ∷ err ∷ pos 5 ∷ ok ∷ pos 0 ∷ ok ∷ ok ∷ err ∷ pos 16 ∷ err ∷ pos 16 ∷ ok ∷ pos 2 ∷ err ∷ pos 22 ∷ ok ∷ pos 2
     ∷ err ∷ pos 22 ∷ ok ∷ pos 0 ∷ done ∷ ok ∷ pos 0 ∷ idle ∷ ok ∷ err ∷ pos 22 ∷ []
 unfolding maxdata_of munge_of ranges_of
@@ -334,8 +334,8 @@ refusals = refl
 -- an end is reported only once all that was mapped is released
 all_mapped :
     answers (demo (quiet 10000)) (
-        line 0 1 ops.OpenFile ∷ line 0 1 (ops.Cmd (timed 0 0 (trig source.now 0) 1000 (trig source.count 2) 0)) ∷ line 1000 1 (ops.Map 0 5) ∷ line 1000 1 (ops.Map 0 5)
-        ∷ line 1000 1 (ops.Read 0 1) ∷ line 1000 1 (ops.Release 0 2) ∷ line 1000 1 (ops.Map 0 0) ∷ [])
+    line 0 1 ops.OpenFile ∷ line 0 1 (ops.Cmd (timed 0 0 (trig source.now 0) 1000 (trig source.count 2) 0)) ∷ line 1000 1 (ops.Map 0 5) ∷ line 1000 1 (ops.Map 0 5)
+    ∷ line 1000 1 (ops.Read 0 1) ∷ line 1000 1 (ops.Release 0 2) ∷ line 1000 1 (ops.Map 0 0) ∷ [])
     ≡ ok ∷ ok ∷ ok ∷ pos 2 ∷ ok ∷ pos 0 ∷ err ∷ pos 22 ∷ ok ∷ pos 2 ∷ ok ∷ pos 0 ∷ done ∷ []
 unfolding maxdata_of munge_of ranges_of
 all_mapped = refl
@@ -343,8 +343,8 @@ all_mapped = refl
 -- a command that the horizon ended takes triggers, and stays ended
 trigger_after_the_end :
     answers (demo (quiet 1000)) (
-        line 0 1 ops.OpenFile ∷ line 0 1 (ops.Cmd (timed 0 0 (trig source.int 0) 1000 (trig source.count 2) 0)) ∷ line 1000 1 (ops.InsnIntTrig 0 0)
-        ∷ line 1000 1 (ops.InsnIntTrig 0 0) ∷ line 1000 1 (ops.Read 0 1) ∷ [])
+    line 0 1 ops.OpenFile ∷ line 0 1 (ops.Cmd (timed 0 0 (trig source.int 0) 1000 (trig source.count 2) 0)) ∷ line 1000 1 (ops.InsnIntTrig 0 0)
+    ∷ line 1000 1 (ops.InsnIntTrig 0 0) ∷ line 1000 1 (ops.Read 0 1) ∷ [])
     ≡ ok ∷ ok ∷ ok ∷ pos 1 ∷ ok ∷ pos 1 ∷ ok ∷ pos 0 ∷ dry ∷ []
 unfolding maxdata_of munge_of ranges_of
 trigger_after_the_end = refl
@@ -352,8 +352,8 @@ trigger_after_the_end = refl
 -- the checks come before the end
 fills_after_the_end :
     answers (demo (quiet 10000)) (
-        line 0 1 ops.OpenFile ∷ line 0 1 (ops.Cmd (timed 1 0 (trig source.int 0) 1000 (trig source.count 4) 0)) ∷ line 0 1 (ops.Fill 1 (5 ∷ []))
-        ∷ line 500 1 (ops.InsnIntTrig 1 0) ∷ line 1000 1 (ops.Write 1 (6 ∷ [])) ∷ line 1000 1 (ops.Mark 1 1) ∷ line 1000 1 (ops.Fill 1 (6 ∷ [])) ∷ [])
+    line 0 1 ops.OpenFile ∷ line 0 1 (ops.Cmd (timed 1 0 (trig source.int 0) 1000 (trig source.count 4) 0)) ∷ line 0 1 (ops.Fill 1 (5 ∷ []))
+    ∷ line 500 1 (ops.InsnIntTrig 1 0) ∷ line 1000 1 (ops.Write 1 (6 ∷ [])) ∷ line 1000 1 (ops.Mark 1 1) ∷ line 1000 1 (ops.Fill 1 (6 ∷ [])) ∷ [])
     ≡ ok ∷ ok ∷ ok ∷ pos 1 ∷ ok ∷ pos 1 ∷ err ∷ pos 22 ∷ ok ∷ pos 1 ∷ err ∷ pos 32 ∷ underrun ∷ pos 0 ∷ []
 unfolding maxdata_of munge_of ranges_of
 fills_after_the_end = refl
@@ -361,8 +361,8 @@ fills_after_the_end = refl
 -- a file that is closed gives up its command
 closes :
     answers (demo (rising 10000)) (
-        line 0 1 ops.OpenFile ∷ line 0 2 ops.OpenFile ∷ line 0 1 (ops.Cmd (timed 0 0 (trig source.now 0) 1000 (trig source.count 2) 0)) ∷ line 0 1 ops.CloseFile
-        ∷ line 0 2 (ops.Cmd (timed 0 0 (trig source.now 0) 1000 (trig source.count 2) 0)) ∷ [])
+    line 0 1 ops.OpenFile ∷ line 0 2 ops.OpenFile ∷ line 0 1 (ops.Cmd (timed 0 0 (trig source.now 0) 1000 (trig source.count 2) 0)) ∷ line 0 1 ops.CloseFile
+    ∷ line 0 2 (ops.Cmd (timed 0 0 (trig source.now 0) 1000 (trig source.count 2) 0)) ∷ [])
     ≡ ok ∷ ok ∷ ok ∷ ok ∷ ok ∷ []
 unfolding maxdata_of munge_of ranges_of
 closes = refl
@@ -370,9 +370,9 @@ closes = refl
 -- the command of another file goes on, and what has to be put out by the closing is put out before it
 closes_its_own :
     answers (demo (rising 10000)) (
-        line 0 1 ops.OpenFile ∷ line 0 2 ops.OpenFile ∷ line 0 2 (ops.Cmd (timed 0 0 (trig source.now 0) 1000 (trig source.count 2) 0))
-        ∷ line 0 1 (ops.Cmd (timed 1 0 (trig source.int 0) 1000 (trig source.count 2) 0)) ∷ line 0 1 (ops.Write 1 (9 ∷ [])) ∷ line 0 1 (ops.InsnIntTrig 1 0)
-        ∷ line 0 1 ops.CloseFile ∷ line 1000 2 (ops.Contents 1) ∷ line 1000 2 (ops.Read 0 9) ∷ line 1000 2 (ops.Read 0 9) ∷ [])
+    line 0 1 ops.OpenFile ∷ line 0 2 ops.OpenFile ∷ line 0 2 (ops.Cmd (timed 0 0 (trig source.now 0) 1000 (trig source.count 2) 0))
+    ∷ line 0 1 (ops.Cmd (timed 1 0 (trig source.int 0) 1000 (trig source.count 2) 0)) ∷ line 0 1 (ops.Write 1 (9 ∷ [])) ∷ line 0 1 (ops.InsnIntTrig 1 0)
+    ∷ line 0 1 ops.CloseFile ∷ line 1000 2 (ops.Contents 1) ∷ line 1000 2 (ops.Read 0 9) ∷ line 1000 2 (ops.Read 0 9) ∷ [])
     ≡ ok ∷ ok ∷ ok ∷ ok ∷ ok ∷ pos 1 ∷ ok ∷ pos 1 ∷ out ∷ pos 1 ∷ pos 0 ∷ pos 0 ∷ pos 2057 ∷ ok ∷ ok ∷ pos 0 ∷ ok ∷ pos 2 ∷ pos 0 ∷ minus 153 ∷ pos 0 ∷ pos 999923 ∷ ok ∷ pos 0
     ∷ done ∷ []
 unfolding maxdata_of munge_of ranges_of
@@ -381,8 +381,8 @@ closes_its_own = refl
 -- an edge stops a command, whose end comes with the edge
 waits_for_the_edge :
     answers edged (
-        line 700 1 ops.OpenFile ∷ line 700 1 (ops.Cmd (timed 0 0 (trig source.now 0) 1000 (trig source.ext 0) 0)) ∷ line 3000 1 (ops.Read 0 9) ∷ line 3000 1 (ops.Read 0 9)
-        ∷ line 3199 1 (ops.Read 0 9) ∷ line 3200 1 (ops.Read 0 9) ∷ [])
+    line 700 1 ops.OpenFile ∷ line 700 1 (ops.Cmd (timed 0 0 (trig source.now 0) 1000 (trig source.ext 0) 0)) ∷ line 3000 1 (ops.Read 0 9) ∷ line 3000 1 (ops.Read 0 9)
+    ∷ line 3199 1 (ops.Read 0 9) ∷ line 3200 1 (ops.Read 0 9) ∷ [])
     ≡ ok ∷ ok ∷ ok ∷ pos 3 ∷ pos 0 ∷ minus 153 ∷ pos 0 ∷ minus 153 ∷ pos 0 ∷ minus 153 ∷ ok ∷ pos 0 ∷ ok ∷ pos 0 ∷ ok ∷ pos 0 ∷ done ∷ []
 unfolding maxdata_of munge_of ranges_of
 waits_for_the_edge = refl
@@ -390,8 +390,8 @@ waits_for_the_edge = refl
 -- a loss comes before the edge
 overrun_before_the_edge :
     answers edged (
-        line 200 1 ops.OpenFile ∷ line 200 1 (ops.Cmd (timed 0 0 (trig source.now 0) 500 (trig source.ext 0) 0)) ∷ line 3200 1 (ops.Contents 0) ∷ line 3200 1 (ops.Read 0 4)
-        ∷ line 3200 1 (ops.Read 0 4) ∷ [])
+    line 200 1 ops.OpenFile ∷ line 200 1 (ops.Cmd (timed 0 0 (trig source.now 0) 500 (trig source.ext 0) 0)) ∷ line 3200 1 (ops.Contents 0) ∷ line 3200 1 (ops.Read 0 4)
+    ∷ line 3200 1 (ops.Read 0 4) ∷ [])
     ≡ ok ∷ ok ∷ ok ∷ pos 4 ∷ ok ∷ pos 4 ∷ pos 0 ∷ minus 153 ∷ pos 0 ∷ minus 153 ∷ pos 0 ∷ minus 153 ∷ pos 0 ∷ minus 153 ∷ err ∷ pos 32 ∷ overrun ∷ pos 4 ∷ []
 unfolding maxdata_of munge_of ranges_of
 overrun_before_the_edge = refl
@@ -399,8 +399,8 @@ overrun_before_the_edge = refl
 -- a falling edge stops a command likewise
 waits_for_a_fall :
     answers edged (
-        line 700 1 ops.OpenFile ∷ line 700 1 (ops.Cmd (timed 0 0 (trig source.now 0) 1000 (trig source.ext 2147483648) 0)) ∷ line 2199 1 (ops.Read 0 9)
-        ∷ line 2199 1 (ops.Read 0 9) ∷ line 2200 1 (ops.Read 0 9) ∷ [])
+    line 700 1 ops.OpenFile ∷ line 700 1 (ops.Cmd (timed 0 0 (trig source.now 0) 1000 (trig source.ext 2147483648) 0)) ∷ line 2199 1 (ops.Read 0 9)
+    ∷ line 2199 1 (ops.Read 0 9) ∷ line 2200 1 (ops.Read 0 9) ∷ [])
     ≡ ok ∷ ok ∷ ok ∷ pos 2 ∷ pos 0 ∷ minus 153 ∷ pos 0 ∷ minus 153 ∷ ok ∷ pos 0 ∷ ok ∷ pos 0 ∷ done ∷ []
 unfolding maxdata_of munge_of ranges_of
 waits_for_a_fall = refl
@@ -408,8 +408,8 @@ waits_for_a_fall = refl
 -- nothing stops a command but the horizon
 runs_dry :
     answers (demo (quiet 1500)) (
-        line 0 1 ops.OpenFile ∷ line 0 1 (ops.Cmd (timed 0 0 (trig source.now 0) 1000 (trig source.none 0) 0)) ∷ line 1000 1 (ops.Read 0 9) ∷ line 1000 1 (ops.Read 0 9)
-        ∷ line 1500 1 (ops.Read 0 9) ∷ [])
+    line 0 1 ops.OpenFile ∷ line 0 1 (ops.Cmd (timed 0 0 (trig source.now 0) 1000 (trig source.none 0) 0)) ∷ line 1000 1 (ops.Read 0 9) ∷ line 1000 1 (ops.Read 0 9)
+    ∷ line 1500 1 (ops.Read 0 9) ∷ [])
     ≡ ok ∷ ok ∷ ok ∷ pos 2 ∷ pos 0 ∷ minus 153 ∷ pos 0 ∷ minus 153 ∷ ok ∷ pos 0 ∷ ok ∷ pos 0 ∷ dry ∷ []
 unfolding maxdata_of munge_of ranges_of
 runs_dry = refl

@@ -110,13 +110,13 @@ replied : (h : Here) (state : State) (reply : Reply) → h.files ≡ state.files
 replied h state reply same within tied apart mine i = elim (cases_eq i h.index) [
   | inl at ↦
       let device : is_some (device_at (set state.devices h.index reply.device) i).running ≡ is_some reply.device.running =
-          ap (λ k. is_some (device_at (set state.devices h.index reply.device) k).running) at
-          ∙ ap (λ (d : Device). is_some d.running) (get_or-set_same state.devices h.index reply.device (idle_device no_sub) within) in
+      ap (λ k. is_some (device_at (set state.devices h.index reply.device) k).running) at
+      ∙ ap (λ (d : Device). is_some d.running) (get_or-set_same state.devices h.index reply.device (idle_device no_sub) within) in
       ap (λ k. is_some (claim_at reply.files k).runner) at ∙ mine ∙ sym device
   | inr off ↦
       let claim : claim_at reply.files i ≡ claim_at state.files i = apart i off ∙ ap (λ (f : FilesText). claim_at f i) same in
       let device : device_at (set state.devices h.index reply.device) i ≡ device_at state.devices i =
-          get_or-set_other state.devices h.index i reply.device (idle_device no_sub) off in
+      get_or-set_other state.devices h.index i reply.device (idle_device no_sub) off in
       ap (λ (c : Claim). is_some c.runner) claim ∙ tied i ∙ sym (ap (λ (d : Device). is_some d.running) device)
 ]
 

@@ -1,10 +1,9 @@
 -- What a line leaves as it was.
-use Rattle.std.specs.Prelude.{◌≡◌, ◌≢◌, ℕ, Bool, true, false, length, Option, Some, None}
+use Rattle.std.specs.Prelude.{◌≡◌, ◌≢◌, ℕ, length, Some}
 use Rattle.std.specs.Option.{is_some}
 use Rattle.cm_session.specs.declared.op.SessionLine.{SessionLine}
 use Rattle.cm_sub.specs.Files.{claim_at}
 use Rattle.cm_replay.specs.Answers.{Answer, Refused, Rejected}
-use Rattle.cm_replay.specs.Running.{Running}
 use Rattle.cm_replay.specs.Session.{brought_all, step}
 use Rattle.cm_replay.specs.State.{Setting, State, device_at}
 

@@ -1,5 +1,5 @@
 -- What the code makes of a line, against what its definition says.
-use Rattle.std.specs.Prelude.{◌≡◌, ◌≢◌, ℕ, ◌<◌, ◌≤◌, ◌^◌, Bool, true, false, ◌&&◌, ◌==◌, not, List, ◌++◌, length, map, Option, Some, None, if◌then◌else◌}
+use Rattle.std.specs.Prelude.{◌≡◌, ℕ, ◌≤◌, Bool, true, false, ◌&&◌, ◌==◌, not, List, ◌++◌, length, map, Option, Some, None, if◌then◌else◌}
 use Rattle.cm_board.specs.Board.{BoardText, SubText, takes_commands}
 use Rattle.cm_cmd.specs.Command.{CmdText}
 use Rattle.cm_expand.specs.Rule.{is_output}

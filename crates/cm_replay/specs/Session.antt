@@ -3,7 +3,7 @@ use Rattle.std.specs.Prelude.{ℕ, suc, List, [], ◌∷◌, ◌++◌, map, set,
 use Rattle.std.specs.Option.{is_some, option_map}
 use Rattle.cm_insn.specs.Insn.{time_words}
 use Rattle.cm_sub.specs.Checks.{first_refusal}
-use Rattle.cm_sub.specs.Files.{FilesText, close_checks, closed, open_checks, opened}
+use Rattle.cm_sub.specs.Files.{close_checks, closed, open_checks, opened}
 use Rattle.cm_sub.specs.declared.claim.Claim.{Claim}
 use Rattle.cm_sub.specs.declared.errno.Errno.{Errno}
 use Rattle.cm_session.specs.declared.op.Op.{Op}

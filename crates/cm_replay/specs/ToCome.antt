@@ -1,5 +1,5 @@
 -- What a board still has to give.
-use Rattle.std.specs.Prelude.{ℕ, Bool, nat_eq, nat_le, List, [], ◌∷◌, Option, Some, if◌then◌else◌}
+use Rattle.std.specs.Prelude.{ℕ, Bool, nat_eq, nat_le, List, [], ◌∷◌, Option, if◌then◌else◌}
 use Rattle.cm_expand.specs.Items.{items_of}
 use Rattle.cm_expand.specs.Plan.{is_complete, stop_edge_of}
 use Rattle.cm_expand.specs.Plan.{PlanText}

@@ -210,12 +210,7 @@ fn open(file: u32, files: &mut Files, text: &mut Vec<u8>) -> Result<(), NoMemory
 }
 
 // Answers the time of day to an open file. Refused with Inval (`EINVAL`) where it isn't open.
-fn answer_time(
-    time: u64,
-    file: u32,
-    files: &Files,
-    text: &mut Vec<u8>,
-) -> Result<(), NoMemory>
+fn answer_time(time: u64, file: u32, files: &Files, text: &mut Vec<u8>) -> Result<(), NoMemory>
     requires { time ≤ 10 ^ 12 }
     ensures { (devices : List Device) → OnOk result (Leads (session.unless_refused (first_refusal (close_checks file files.now)) (record { files = files.now; devices = devices }) (record { answer = Data 2 (time_words time); state = record { files = files.now; devices = devices } })) (record { files = files.now; devices = devices }) text.old.items text.new.items) }
 {
@@ -242,7 +237,12 @@ fn act<'a>(
     match &line.op {
         Op::OpenFile => open(line.file, files, text),
         Op::CloseFile => close(line.file, files, seats, text),
-        Op::InsnGtod { .. } => answer_time(line.time, line.file, files, text),
+        Op::InsnGtod { .. } => {
+            let signals = setting.signals;
+            // This read shows that the horizon is within its limit.
+            let _horizon = signals.horizon;
+            answer_time(line.time, line.file, files, text)
+        }
         _ => act_on(alloc, setting, line, tried, files, seats, text),
     }
 }

@@ -115,14 +115,15 @@ pub(crate) fn trigger(
     if let Err(error) = files.claim(at.index).may_cancel(at.file) {
         return put_refused(text, error);
     }
-    match &mut seat.running {
-        Some(command) if command.waits(at.time) => {
-            if !command.takes_number(number) {
-                return put_refused(text, Errno::Inval);
-            }
-            command.trigger(alloc, at.time)?;
-            put_count(text, 1)
-        }
-        _ => put_refused(text, Errno::Again),
+    let Some(command) = &mut seat.running else {
+        return put_refused(text, Errno::Again);
+    };
+    if !command.waits(at.time) {
+        return put_refused(text, Errno::Again);
     }
+    if !command.takes_number(number) {
+        return put_refused(text, Errno::Inval);
+    }
+    command.trigger(alloc, at.time)?;
+    put_count(text, 1)
 }

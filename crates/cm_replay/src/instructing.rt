@@ -73,15 +73,7 @@ pub(crate) fn read_channel(
         entry,
     };
     let mut words = [0; MOST_WORDS];
-    instruct(
-        at,
-        &what,
-        &mut words[..n as usize],
-        true,
-        files,
-        seat,
-        text,
-    )
+    instruct(at, &what, &mut words[..n as usize], true, files, seat, text)
 }
 
 /// `insn write`: these values, one after another.

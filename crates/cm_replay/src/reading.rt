@@ -1,13 +1,15 @@
 // The lines that read from the buffer of a subdevice's command.
-ghost use Rattle.std.specs.Prelude.{◌≡◌, ◌<◌, ◌∷◌, ◌++◌, [], length, OnOk};
+ghost use Rattle.std.specs.Prelude.{◌≡◌, ◌<◌, ◌≤◌, ◌∷◌, [], length, IfSome, OnOk};
 ghost use Rattle.std.specs.Result.{result_err};
+ghost use Rattle.cm_expand.specs.Rule as kind;
 ghost use Rattle.cm_replay.specs.Answers.{Ended, idle};
-ghost use Rattle.cm_replay.specs.Forms.{form, reader_checks};
+ghost use Rattle.cm_replay.specs.Forms.{form};
 ghost use Rattle.cm_replay.specs.Reading as spec;
 ghost use Rattle.cm_replay.specs.Replies.{IsReached, Replies, checked, here_at};
-ghost use Rattle.cm_replay.specs.State.{Device, is_foreign};
 ghost use Rattle.cm_session.specs.declared.op.Op.TheVariants as ops;
 ghost use Rattle.cm_sub.specs.Checks.{first_refusal, refuse};
+ghost use Rattle.cm_sub.specs.Claims.{is_other};
+ghost use Rattle.cm_sub.specs.Files.{claim_at};
 
 use crate::at::At;
 use crate::ending::End;
@@ -21,7 +23,7 @@ use cm_sub::files::Files;
 // Whether the subdevice is busy with another file.
 fn is_foreign(at: &At<'_>, files: &Files) -> bool
     requires { at.now.index < length files.now.claims }
-    ensures { (device : Device) → result ≡ is_foreign (here_at at.now files.now device) }
+    ensures { result ≡ is_other at.now.file (claim_at files.now at.now.index).runner }
 {
     match files.runner(at.index) {
         None => false,
@@ -32,7 +34,7 @@ fn is_foreign(at: &At<'_>, files: &Files) -> bool
 // What a line is refused that reads, where its own test holds.
 fn refuses(at: &At<'_>, files: &Files, test: bool) -> Result<(), Errno>
     requires { at.now.index < length files.now.claims }
-    ensures { (device : Device) → result_err result ≡ first_refusal (reader_checks (here_at at.now files.now device) ++ refuse Errno.Inval test ∷ []) }
+    ensures { result_err result ≡ first_refusal (refuse Errno.Inval (kind.is_output at.now.sub.now.kind) ∷ refuse Errno.Access (is_other at.now.file (claim_at files.now at.now.index).runner) ∷ refuse Errno.Inval test ∷ []) }
 {
     let sub = at.sub;
     if is_output(sub.kind) {
@@ -49,7 +51,8 @@ fn refuses(at: &At<'_>, files: &Files, test: bool) -> Result<(), Errno>
 
 // How many samples are mapped.
 fn mapped(seat: &Seat<'_>) -> u64
-    ensures { result ≡ spec.mapped seat.now.running }
+    ensures count { result ≡ spec.mapped seat.now.running }
+    ensures order { IfSome seat.now.running (λ command. command.r ≤ command.ra) }
 {
     match &seat.running {
         None => 0,

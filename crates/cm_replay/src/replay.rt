@@ -38,12 +38,15 @@ pub fn replay<K: Sink>(alloc: Global, job: &Job, sink: &mut K) -> Result<(), Rep
     ensures fault { IsErrOf result ReplayStop.WriteFault → Rose (K.faults sink.old) (K.faults sink.new) }
     ensures later { K.faults sink.old ≤ K.faults sink.new }
 {
+    let board = &job.board;
+    // This read shows that a board has few subdevices.
+    let _version = board.version;
     let setting = Setting {
-        board: &job.board,
+        board,
         signals: &job.signals,
     };
-    let seats = seats_of(alloc, setting.board)?;
-    let tried = try_all(alloc, setting.board, &job.lines)?;
+    let seats = seats_of(alloc, board)?;
+    let tried = try_all(alloc, board, &job.lines)?;
     replay_lines(alloc, &setting, &job.lines, &tried, seats, sink)
 }
 

@@ -75,11 +75,7 @@ fn try_line(alloc: Global, board: &BoardDesc, op: &Op) -> Result<Option<BoxedAcc
 }
 
 // The command, where the board's subdevice accepts it.
-fn try_cmd(
-    alloc: Global,
-    board: &BoardDesc,
-    cmd: &Cmd,
-) -> Result<Option<BoxedAccepted>, NoMemory>
+fn try_cmd(alloc: Global, board: &BoardDesc, cmd: &Cmd) -> Result<Option<BoxedAccepted>, NoMemory>
     requires { length cmd.now.list < 2 ^ 32 }
     ensures { IfOk result (λ tried. tried ≡ tried_on (sub_at board.now cmd.now.sub) cmd.now) }
 {

@@ -1,5 +1,5 @@
 -- The forms of a session's lines: what each word of a line has to be, and what they ask together.
-use Rattle.std.specs.Prelude.{ℕ, ◌==◌, List, [], ◌∷◌, length, drop, slice_index_or, Result, Ok, Err, if◌then◌else◌}
+use Rattle.std.specs.Prelude.{ℕ, ◌==◌, List, [], length, drop, slice_index_or, Result, Ok, Err, if◌then◌else◌}
 use Rattle.cm_base.specs.Reading.{◌>>=◌}
 use Rattle.cm_base.specs.Words.{Form, number_in, one_word, two_and_more, two_words, three_words, values}
 use Rattle.cm_base.specs.declared.faults.Fault.{Fault}

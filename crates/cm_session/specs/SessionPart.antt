@@ -33,9 +33,13 @@ command_lines =
 abbrev pub lines_by : Bool → List (List ℕ × LineForm)
 lines_by only_insn = insn_lines ++ (if only_insn then [] else command_lines)
 
+-- what the words after a key ask, by the forms of a table
+abbrev pub keyed : List (List ℕ × LineForm) → List ℕ → LineForm
+keyed forms key horizon time words = keyword forms key >>= λ form. form horizon time words
+
 -- what the words of a line ask: its time, its key and those after them
 abbrev pub line_words : Bool → ℕ → List (List ℕ) → Result SessionLine Fault
-line_words only_insn horizon (time ∷ key ∷ words) = keyword (lines_by only_insn) key >>= λ form. form horizon time words
+line_words only_insn horizon (time ∷ key ∷ words) = keyed (lines_by only_insn) key horizon time words
 line_words only_insn horizon words = Err BadLine
 
 -- a line after one of this time, which it may not be below

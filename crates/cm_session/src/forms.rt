@@ -1,8 +1,9 @@
 // The forms of a session's lines: what each word of a line has to be.
-ghost use Rattle.std.specs.Prelude.{◌≡◌, ◌≤◌, drop, map, length, IfOk};
+ghost use Rattle.std.specs.Prelude.{[], ◌≡◌, ◌≤◌, drop, map, length, IfOk};
 ghost use Rattle.cm_base.specs.LineView.{line_view};
 ghost use Rattle.cm_base.specs.ReadStop.{Gives};
 ghost use Rattle.cm_base.specs.Reading.{at_line, seen};
+ghost use Rattle.cm_base.specs.Words.{values};
 ghost use Rattle.cm_cmd.specs.PrintedReads.{HasText};
 ghost use Rattle.cm_session.specs.Forms as spec;
 
@@ -107,8 +108,22 @@ pub(crate) fn values_words(
 {
     let (file, sub, values) = at_line(start.number, two_and_more(words))?;
     let (head, sub) = at_line(start.number, place(start, file, sub))?;
-    let values = numbers(alloc, start.number, values, 1024)?;
-    Ok((head, sub, Nums::new(values)))
+    let values = data_words(alloc, start.number, values, 1024)?;
+    Ok((head, sub, values))
+}
+
+/// At most `most` numbers of 32 bits of the line with this number.
+pub(crate) fn data_words(
+    alloc: Global,
+    line: u32,
+    words: &[&[u8]],
+    most: usize,
+) -> Result<Nums, ReadStop>
+    ensures value { Gives (λ few. few) result (at_line line (values most spec.data_word [] (map (λ word. word.now) words.now))) }
+    ensures few { IfOk result (λ few. length few ≤ most) }
+{
+    let few = numbers(alloc, line, words, most)?;
+    Ok(Nums::new(few))
 }
 
 // The file, where the eight words of a command stand after it.
@@ -129,7 +144,8 @@ pub(crate) fn command_words(
     line: &Line<'_>,
     words: &[&[u8]],
 ) -> Result<(Head, BoxedCmd), ReadStop>
-    requires { drop 2 (line_view line.now).words ≡ map (λ word. word.now) words.now }
+    requires number { start.now.number ≡ line.now.number }
+    requires words { drop 2 (line_view line.now).words ≡ map (λ word. word.now) words.now }
     ensures value { Gives (λ w. (w.0, w.1)) result (at_line start.now.number (spec.command_words start.now.horizon start.now.time.now (map (λ word. word.now) words.now))) }
     ensures within { IfOk result (λ w. (w.0.time ≤ start.now.horizon) × HasText w.1) }
 {

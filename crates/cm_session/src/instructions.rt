@@ -5,12 +5,11 @@ ghost use Rattle.cm_base.specs.Reading.{at_line};
 ghost use Rattle.cm_session.specs.Instructions as spec;
 ghost use Rattle.cm_session.specs.Limits.{IsLimited};
 
-use crate::forms::{Start, place};
+use crate::forms::{Start, data_words, place};
 use crate::op::{Op, SessionLine};
 use cm_base::faults::{Fault, ReadStop};
-use cm_base::lists::Nums;
 use cm_base::parts::refused;
-use cm_base::words::{at_line, none, number_in, numbers, one, one_and_more, three_and_more, two};
+use cm_base::words::{at_line, none, number_in, one, one_and_more, three_and_more, two};
 use cm_cmd::reading::read_entry;
 use std::alloc::Global;
 
@@ -43,12 +42,7 @@ pub(crate) fn instruction(
 }
 
 // `read ENTRY N`
-fn read(
-    start: &Start<'_>,
-    file: &[u8],
-    sub: &[u8],
-    words: &[&[u8]],
-) -> Result<SessionLine, Fault>
+fn read(start: &Start<'_>, file: &[u8], sub: &[u8], words: &[&[u8]]) -> Result<SessionLine, Fault>
     ensures value { result ≡ spec.read_words start.now.horizon start.now.time.now file.now sub.now (map (λ word. word.now) words.now) }
     ensures limits { IfOk result (IsLimited start.now.horizon) }
 {
@@ -73,17 +67,12 @@ fn write(
     let (entry, values) = at_line(start.number, one_and_more(words))?;
     let (head, sub) = at_line(start.number, place(start, file, sub))?;
     let entry = at_line(start.number, read_entry(entry))?;
-    let values = Nums::new(numbers(alloc, start.number, values, 64)?);
+    let values = data_words(alloc, start.number, values, 64)?;
     Ok(head.line(Op::InsnWrite { sub, entry, values }))
 }
 
 // `bits MASK BITS`
-fn bits(
-    start: &Start<'_>,
-    file: &[u8],
-    sub: &[u8],
-    words: &[&[u8]],
-) -> Result<SessionLine, Fault>
+fn bits(start: &Start<'_>, file: &[u8], sub: &[u8], words: &[&[u8]]) -> Result<SessionLine, Fault>
     ensures value { result ≡ spec.bits_words start.now.horizon start.now.time.now file.now sub.now (map (λ word. word.now) words.now) }
     ensures limits { IfOk result (IsLimited start.now.horizon) }
 {
@@ -95,12 +84,7 @@ fn bits(
 }
 
 // `config ENTRY D`
-fn config(
-    start: &Start<'_>,
-    file: &[u8],
-    sub: &[u8],
-    words: &[&[u8]],
-) -> Result<SessionLine, Fault>
+fn config(start: &Start<'_>, file: &[u8], sub: &[u8], words: &[&[u8]]) -> Result<SessionLine, Fault>
     ensures value { result ≡ spec.config_words start.now.horizon start.now.time.now file.now sub.now (map (λ word. word.now) words.now) }
     ensures limits { IfOk result (IsLimited start.now.horizon) }
 {
@@ -112,12 +96,7 @@ fn config(
 }
 
 // `gtod`
-fn gtod(
-    start: &Start<'_>,
-    file: &[u8],
-    sub: &[u8],
-    words: &[&[u8]],
-) -> Result<SessionLine, Fault>
+fn gtod(start: &Start<'_>, file: &[u8], sub: &[u8], words: &[&[u8]]) -> Result<SessionLine, Fault>
     ensures value { result ≡ spec.gtod_words start.now.horizon start.now.time.now file.now sub.now (map (λ word. word.now) words.now) }
     ensures limits { IfOk result (IsLimited start.now.horizon) }
 {

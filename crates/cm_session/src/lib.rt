@@ -3,6 +3,7 @@
 
 pub mod forms;
 pub mod instructions;
+pub mod law;
 pub mod op;
 pub mod reading;
 #[cfg(test)]

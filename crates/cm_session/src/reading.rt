@@ -2,8 +2,7 @@
 ghost use Rattle.std.specs.Prelude.{◌≡◌, ◌≤◌, drop, map, IfOk};
 ghost use Rattle.cm_base.specs.LineView.{line_view};
 ghost use Rattle.cm_base.specs.ReadStop.{Gives};
-ghost use Rattle.cm_base.specs.Reading.{◌>>=◌, at_line};
-ghost use Rattle.cm_base.specs.Words.{keyword};
+ghost use Rattle.cm_base.specs.Reading.{at_line};
 ghost use Rattle.cm_session.specs.Limits.{InOrder, IsLimited};
 ghost use Rattle.cm_session.specs.SessionPart as spec;
 ghost use Rattle.cm_session.specs.SessionPart.{session_of};
@@ -107,8 +106,9 @@ fn keyed_line(
     key: &[u8],
     words: &[&[u8]],
 ) -> Result<SessionLine, ReadStop>
-    requires { drop 2 (line_view line.now).words ≡ map (λ word. word.now) words.now }
-    ensures value { Gives (λ line. line) result (at_line start.now.number (keyword (spec.lines_by only_insn) key.now >>= λ form. form start.now.horizon start.now.time.now (map (λ word. word.now) words.now))) }
+    requires number { start.now.number ≡ line.now.number }
+    requires words { drop 2 (line_view line.now).words ≡ map (λ word. word.now) words.now }
+    ensures value { Gives (λ line. line) result (at_line start.now.number (spec.keyed (spec.lines_by only_insn) key.now start.now.horizon start.now.time.now (map (λ word. word.now) words.now))) }
     ensures limits { IfOk result (IsLimited start.now.horizon) }
 {
     let number = start.number;
@@ -141,8 +141,9 @@ fn command_line(
     key: &[u8],
     words: &[&[u8]],
 ) -> Result<SessionLine, ReadStop>
-    requires { drop 2 (line_view line.now).words ≡ map (λ word. word.now) words.now }
-    ensures value { Gives (λ line. line) result (at_line start.now.number (keyword spec.command_lines key.now >>= λ form. form start.now.horizon start.now.time.now (map (λ word. word.now) words.now))) }
+    requires number { start.now.number ≡ line.now.number }
+    requires words { drop 2 (line_view line.now).words ≡ map (λ word. word.now) words.now }
+    ensures value { Gives (λ line. line) result (at_line start.now.number (spec.keyed spec.command_lines key.now start.now.horizon start.now.time.now (map (λ word. word.now) words.now))) }
     ensures limits { IfOk result (IsLimited start.now.horizon) }
 {
     let number = start.number;
@@ -168,7 +169,7 @@ fn command_line(
 
 // What a line with a number after its subdevice asks.
 fn number_line(start: &Start<'_>, key: &[u8], words: &[&[u8]]) -> Result<SessionLine, Fault>
-    ensures value { result ≡ (keyword spec.number_lines key.now >>= λ form. form start.now.horizon start.now.time.now (map (λ word. word.now) words.now)) }
+    ensures value { result ≡ spec.keyed spec.number_lines key.now start.now.horizon start.now.time.now (map (λ word. word.now) words.now) }
     ensures limits { IfOk result (IsLimited start.now.horizon) }
 {
     if key == b"read".as_slice() {

@@ -13,8 +13,7 @@ const LONG: &str = "signals 3000000000\nsession\n";
 
 const STEADY: &str = "signals 10000\nwave 0 0 const 2500000\nsession\n";
 
-const FAR: &str =
-    "signals 10000\nwave 0 0 const 12000000\nwave 0 1 const -12000000\nsession\n";
+const FAR: &str = "signals 10000\nwave 0 0 const 12000000\nwave 0 1 const -12000000\nsession\n";
 
 const LOCKED: &str =
     "0 open 1\n0 open 2\n0 lock 1 1\n0 insn 2 1 write 0/0/ground 5\n0 insn 1 1 write 0/0/ground 5\n0 close 1\n0 insn 2 1 read 0/0/ground 1\n0 insn 2 0 inttrig 0\n";
@@ -120,7 +119,12 @@ const SESSIONS: [Session; 19] = [
         "ok\nok\nok\nerr 13\nok 3\nerr 16\nok\nok 0\nok 1 39321\nerr 22\n",
     ),
     // Lines that aren't there for a session of instructions, and lines that aren't played yet.
-    ("insn", PLAIN, "0 open 1\n0 read 1 0 1\n", "refused 36 Unknown\n"),
+    (
+        "insn",
+        PLAIN,
+        "0 open 1\n0 read 1 0 1\n",
+        "refused 36 Unknown\n",
+    ),
     (
         "replay",
         PLAIN,
@@ -146,7 +150,11 @@ fn answers_sessions(rt: HostRuntime) -> Result<(), Fail> {
             signals,
             lines,
             answer,
-            status: if refused { Status::Refused } else { Status::Done },
+            status: if refused {
+                Status::Refused
+            } else {
+                Status::Done
+            },
         };
         check(&rt, rt.alloc(), &job)?;
     }

@@ -13,7 +13,7 @@ use Rattle.cm_cli.proofs.serving.serve_lines.Goals as goal
 
 -- what a text says after its board part
 abbrev after : Task → ℕ → List LineText → BoardText × ℕ → Result (List ℕ) Refused
-after task end lines b = signals_at b.0 end b.1 lines >>= λ s. session_said task (record { board = b.0; signals = s.0 }) end (drop s.1 lines)
+after task end lines b = signals_at b.0 end b.1 lines >>= λ s. session_said task (record { board = b.0; signals = s.0 }) (drop s.1 lines)
 
 pub returns-in_err-signals-clause-said : goal.returns-in_err-signals-clause-said
 returns-in_err-signals-clause-said g c =
@@ -26,6 +26,6 @@ returns-in_err-signals-clause-said g c =
     let stop = c.in_err-signals.field-0.0 in
     let same : lines_said task end lines ≡ after task end lines (board, at) = ap (λ (r : Result (BoardText × ℕ) Refused). r >>= after task end lines) c.in_ok-board.ensures.value in
     let none : Serves (Err (stop_of stop)) (after task end lines (board, at)) old old =
-    not_read stop (signals_at board end at lines) (λ s. session_said task (record { board = board; signals = s.0 }) end (drop s.1 lines)) old c.in_err-signals.ensures.value in
+    not_read stop (signals_at board end at lines) (λ s. session_said task (record { board = board; signals = s.0 }) (drop s.1 lines)) old c.in_err-signals.ensures.value in
     stopped c.from_residual-in_err-signals.result stop (lines_said task end lines) old old c.from_residual-in_err-signals.ensures.1
     (subst (λ (reported : Result (List ℕ) Refused). Serves (Err (stop_of stop)) reported old old) (sym same) none)

@@ -1,4 +1,4 @@
-use Rattle.std.proofs.Common.{◌≡◌, ◌<◌, ◌++◌, OnOk, get_or, length, ap, ◌∙◌, subst, sym, arith}
+use Rattle.std.proofs.Common.{◌≡◌, ◌<◌, ◌++◌, OnOk, get_or, length, ap, ◌∙◌, subst, arith}
 use Rattle.cm_board.specs.Board.{BoardText}
 use Rattle.cm_cmd.specs.Command.{CmdText}
 use Rattle.cm_cli.proofs.Tests.{answer-there}

@@ -1,4 +1,4 @@
-use Rattle.std.proofs.Common.{◌≡◌, ◌+◌, ◌≤◌, ◌<◌, ◌-◌, ◌++◌, OnOk, codes, length, take, get_or, sym, ap, ◌∙◌, arith, subst}
+use Rattle.std.proofs.Common.{◌≡◌, ◌+◌, ◌<◌, ◌-◌, ◌++◌, OnOk, codes, length, take, get_or, sym, ap, ◌∙◌, arith, subst}
 use Rattle.std.specs.Fmt.{decimal}
 use Rattle.cm_ring_core.specs.Local.{Ring}
 use Rattle.cm_replay.specs.CommandView.{its_schedule}
@@ -22,7 +22,8 @@ put_taken-reported-requires-clause-places c =
       c.read_alloc-granted.ensures.granted,
       step.level.m_w,
       subst (λ (r : Running). r.ra ≡ r.r) (sym c.self.view_is) c.requires,
-      step.r_ra, step.ra_w,
+      step.r_ra,
+      step.ra_w,
       step.within,
       c.self.invariant.planned.few,
       ap (λ (ring : Ring). ring.r) c.read_alloc-granted.ensures.after,

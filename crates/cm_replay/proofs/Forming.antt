@@ -1,0 +1,54 @@
+-- What a line comes to, by whether one of its checks refuses it.
+use Rattle.std.proofs.Common.{◌≡◌, ℕ, ◌-◌, ◌≤◌, List, [], ◌∷◌, ◌++◌, refl, sym, ap, ◌∙◌, arith, subst, Option, Some, None, Result, OnOk}
+use Rattle.std.specs.Prelude.{IfSome, nat_eq, not}
+use Rattle.std.proofs.lemmas.Result.{on_ok_weaker}
+use Rattle.std.proofs.lemmas.Bool.{eqb-true}
+use Rattle.cm_base.proofs.Bools.{not_false}
+use Rattle.cm_sub.specs.Checks.{first_refusal, refuse}
+use Rattle.cm_sub.specs.Files.{FilesText}
+use Rattle.cm_sub.specs.declared.errno.Errno.{Errno}
+use Rattle.cm_sub.specs.declared.errno.Errno.TheVariants.{Inval}
+use Rattle.cm_replay.specs.Answers.{Refused, Reply, kept}
+use Rattle.cm_replay.specs.Forms.{Form, reader_checks}
+use Rattle.cm_replay.specs.Reading.{mapped}
+use Rattle.cm_replay.specs.Replies.{Replies, checked, unless_kept}
+use Rattle.cm_replay.specs.Running.{Running}
+use Rattle.cm_replay.specs.State.{Device, Here}
+use Rattle.cm_replay.specs.Texts.{answer_text}
+use Rattle.cm_replay.proofs.Checks.{passes, passes-both}
+
+-- where no check refuses, the reply is the form's
+pub checked-ok : (f : Form) (h : Here) → first_refusal f.checks ≡ None → checked f h ≡ f.reply
+checked-ok f h passed = ap (λ (e : Option Errno). unless_kept e h f.reply) passed
+
+-- where one does, the line is refused
+pub checked-err : (f : Form) (h : Here) (e : Errno) → first_refusal f.checks ≡ Some e → checked f h ≡ kept h (Refused e)
+checked-err f h e failed = ap (λ (x : Option Errno). unless_kept x h f.reply) failed
+
+-- a line that is refused
+pub line-refused : {T E : Type 0} (f : Form) (h : Here) (e : Errno) (r : Result T E) (old new : List ℕ) → Some e ≡ first_refusal f.checks →
+    OnOk r (new ≡ old ++ answer_text (Refused e)) → OnOk r (Replies (checked f h) h.files h.device old new)
+line-refused f h e r old new failed text =
+    on_ok_weaker r (λ said. subst (λ (reply : Reply). Replies reply h.files h.device old new) (sym (checked-err f h e (sym failed))) (record { its_files = refl; its_device = refl; reported = said })) text
+
+-- a line that isn't
+pub line-done : {T E : Type 0} (f : Form) (h : Here) (r : Result T E) (files : FilesText) (device : Device) (old new : List ℕ) → None ≡ first_refusal f.checks →
+    OnOk r (Replies f.reply files device old new) → OnOk r (Replies (checked f h) files device old new)
+line-done f h r files device old new passed did = subst (λ (reply : Reply). OnOk r (Replies reply files device old new)) (sym (checked-ok f h (sym passed))) did
+
+-- two lists of checks that pass
+pub both-pass : (xs ys : List (Option Errno)) → first_refusal xs ≡ None → first_refusal ys ≡ None → first_refusal (xs ++ ys) ≡ None
+both-pass [] ys first second = second
+both-pass (None ∷ xs) ys first second = both-pass xs ys first second
+both-pass (Some e ∷ xs) ys first second = absurd (cc)
+
+-- a command of which nothing is mapped
+pub unmapped : (running : Option Running) (c : Running) → running ≡ Some c → mapped running ≡ 0 → IfSome running (λ c. c.r ≤ c.ra) → c.ra ≡ c.r
+unmapped running c same none order =
+    let count : c.ra - c.r ≡ 0 = sym (ap mapped same) ∙ none in
+    let above : c.r ≤ c.ra = subst (λ (o : Option Running). IfSome o (λ d. d.r ≤ d.ra)) same order in
+    omega arith
+
+-- nothing is mapped where a read isn't refused
+pub read-unmapped : (h : Here) → first_refusal (reader_checks h ++ refuse Inval (not (nat_eq (mapped h.device.running) 0)) ∷ []) ≡ None → mapped h.device.running ≡ 0
+read-unmapped h passed = eqb-true _ _ (not_false _ (passes Inval _ _ (passes-both (reader_checks h) _ passed).1).0)

@@ -1,0 +1,168 @@
+-- Each subdevice keeps a value of each of its channels.
+use Rattle.std.proofs.Common.{◌≡◌, ℕ, zero, suc, Bool, true, false, List, [], ◌∷◌, ◌++◌, length, map, get_or, set, replicate, refl, ap, ◌∙◌, Option, Some, None}
+use Rattle.std.specs.Prelude.{◌==◌, if◌then◌else◌}
+use Rattle.std.specs.Option.{is_some}
+use Rattle.std.proofs.lemmas.List.{length-replicate}
+use Rattle.cm_board.specs.Board.{BoardText, SubText, no_sub}
+use Rattle.cm_insn.specs.Insn.{Done, state_after, time_words}
+use Rattle.cm_insn.specs.declared.insn.InsnCode.{InsnCode}
+use Rattle.cm_insn.specs.declared.insn.InsnCode.TheVariants as codes
+use Rattle.cm_insn.proofs.Channels.{as_long}
+use Rattle.cm_sub.specs.Checks.{first_refusal}
+use Rattle.cm_sub.specs.Files.{close_checks, closed, open_checks, opened}
+use Rattle.cm_sub.specs.declared.claim.Claim.{Claim}
+use Rattle.cm_test.specs.Questions.{tested}
+use Rattle.cm_session.specs.declared.op.Op.{Op}
+use Rattle.cm_session.specs.declared.op.Op.TheVariants as ops
+use Rattle.cm_session.specs.declared.op.SessionLine.{SessionLine}
+use Rattle.cm_replay.specs.Answers.{Data, Fine, Reply, unless_ended}
+use Rattle.cm_replay.specs.Calling.{insn_here, insn_reply, trigger_reply}
+use Rattle.cm_replay.specs.Forms.{form, line_checks}
+use Rattle.cm_replay.specs.Reading.{look_reply, map_reply, read_reply, release_reply, reported_end}
+use Rattle.cm_replay.specs.Replies.{AreWhole}
+use Rattle.cm_replay.specs.Running.{Running}
+use Rattle.cm_replay.specs.Session.{Outcome, act, act_on, brought_all, brought_device, closed_state, here, left_devices, step, with_reply}
+use Rattle.cm_replay.specs.State.{Device, Here, Setting, State, at_start, device_at, idle_device}
+use Rattle.cm_replay.specs.Writing.{fill_reply, mark_reply, write_reply}
+use Rattle.cm_replay.specs.declared.ending.End.{End}
+use Rattle.cm_replay.proofs.Counts.{either-way}
+use Rattle.cm_replay.proofs.SessionLaws.{device_at-brought}
+
+-- how many values a subdevice keeps
+abbrev width : Device → ℕ
+width d = length d.state.values
+
+-- a reply leaves as many
+abbrev IsWide : Here → Reply → Type 0
+IsWide h reply = width reply.device ≡ width h.device
+
+ended-wide : (h : Here) (e : Option End) (reply : Reply) → IsWide h reply → IsWide h (unless_ended h e reply)
+ended-wide h None reply w = w
+ended-wide h (Some e) reply w = refl
+
+if-wide : (h : Here) (b : Bool) (x y : Reply) → IsWide h x → IsWide h y → IsWide h (if b then x else y)
+if-wide h true x y wx wy = wx
+if-wide h false x y wx wy = wy
+
+-- an instruction leaves as many
+shown-wide : (t : Bool) (h : Here) (done : Option Done) → length (state_after done h.device.state).values ≡ width h.device → IsWide h (insn_reply t h done)
+shown-wide t h None long = refl
+shown-wide t h (Some done) long = long
+
+insn-wide : (t : Bool) (h : Here) (code : InsnCode) (entry : ℕ) (given : List ℕ) → IsWide h (insn_reply t h (insn_here h code entry given))
+insn-wide t h code entry given =
+    shown-wide t h (insn_here h code entry given) (as_long (record { sub = h.sub; index = h.index; signals = h.signals; time = h.time }) h.device.state code entry given).values
+
+read-wide : (n : ℕ) (h : Here) (c : Option Running) → IsWide h (read_reply n h c)
+read-wide n h None = refl
+read-wide n h (Some c) = ended-wide h (reported_end c) _ refl
+
+map-wide : (n : ℕ) (h : Here) (c : Option Running) → IsWide h (map_reply n h c)
+map-wide n h None = refl
+map-wide n h (Some c) = ended-wide h (reported_end c) _ refl
+
+look-wide : (n : ℕ) (h : Here) (c : Option Running) → IsWide h (look_reply n h c)
+look-wide n h None = refl
+look-wide n h (Some c) = refl
+
+release-wide : (n : ℕ) (h : Here) (c : Option Running) → IsWide h (release_reply n h c)
+release-wide n h None = refl
+release-wide n h (Some c) = refl
+
+write-wide : (words : List ℕ) (h : Here) (c : Option Running) → IsWide h (write_reply words h c)
+write-wide words h None = refl
+write-wide words h (Some c) = ended-wide h (reported_end c) _ refl
+
+fill-wide : (words : List ℕ) (h : Here) (c : Option Running) → IsWide h (fill_reply words h c)
+fill-wide words h None = refl
+fill-wide words h (Some c) = ended-wide h (reported_end c) _ refl
+
+mark-wide : (n : ℕ) (h : Here) (c : Option Running) → IsWide h (mark_reply n h c)
+mark-wide n h None = refl
+mark-wide n h (Some c) = refl
+
+trigger-wide : (h : Here) (c : Option Running) → IsWide h (trigger_reply h c)
+trigger-wide h None = refl
+trigger-wide h (Some c) = refl
+
+-- the reply of each form leaves as many values as the line sees
+form-wide : (op : Op) (h : Here) → IsWide h (form op h).reply
+form-wide ops.OpenFile h = refl
+form-wide ops.CloseFile h = refl
+form-wide (ops.Lock sub) h = refl
+form-wide (ops.Unlock sub) h = refl
+form-wide (ops.Cmd cmd) h = if-wide h ((tested h.sub cmd).0 == 0) _ _ refl refl
+form-wide (ops.Cancel sub) h = refl
+form-wide (ops.Read sub n) h = read-wide n h h.device.running
+form-wide (ops.Map sub n) h = map-wide n h h.device.running
+form-wide (ops.Look sub i) h = look-wide i h h.device.running
+form-wide (ops.Release sub k) h = release-wide k h h.device.running
+form-wide (ops.Contents sub) h = refl
+form-wide (ops.Write sub words) h = write-wide words h h.device.running
+form-wide (ops.Fill sub words) h = fill-wide words h h.device.running
+form-wide (ops.Mark sub k) h = mark-wide k h h.device.running
+form-wide (ops.InsnRead sub entry n) h = insn-wide true h codes.Read entry (replicate n 0)
+form-wide (ops.InsnWrite sub entry words) h = insn-wide false h codes.Write entry words
+form-wide (ops.InsnBits sub mask bits) h = insn-wide true h codes.Bits 0 (mask ∷ bits ∷ [])
+form-wide (ops.InsnConfig sub entry word) h = insn-wide false h codes.Config entry (word ∷ [])
+form-wide (ops.InsnGtod sub) h = refl
+form-wide (ops.InsnIntTrig sub number) h = trigger-wide h h.device.running
+
+-- each subdevice keeps as many values as before
+abbrev AreWide : List Device → List Device → Type 0
+AreWide old new = (i : ℕ) → width (device_at new i) ≡ width (device_at old i)
+
+wide-set : (devices : List Device) (sub : ℕ) (d : Device) → width d ≡ width (device_at devices sub) → AreWide devices (set devices sub d)
+wide-set [] sub d w i = refl
+wide-set (x ∷ devices) zero d w zero = w
+wide-set (x ∷ devices) zero d w (suc i) = refl
+wide-set (x ∷ devices) (suc sub) d w zero = refl
+wide-set (x ∷ devices) (suc sub) d w (suc i) = wide-set devices sub d w i
+
+wide-left : (claims : List Claim) (devices : List Device) → AreWide devices (left_devices claims devices)
+wide-left [] devices i = refl
+wide-left (claim ∷ claims) [] i = refl
+wide-left (claim ∷ claims) (d ∷ devices) zero = by (is_some claim.runner)
+  where
+    by : (b : Bool) → width (let e : Device = if b then d else record d { running = None } in e) ≡ width d
+    by true = refl
+    by false = refl
+wide-left (claim ∷ claims) (d ∷ devices) (suc i) = wide-left claims devices i
+
+wide-brought : (time : ℕ) (devices : List Device) → AreWide devices (map (brought_device time) devices)
+wide-brought time devices i = ap width (device_at-brought time devices i)
+
+abbrev LeavesWide : State → Outcome → Type 0
+LeavesWide state outcome = AreWide state.devices outcome.state.devices
+
+wide-on : (op : Op) (h : Here) (state : State) → h.device ≡ device_at state.devices h.index → LeavesWide state (act_on op h state)
+wide-on op h state same =
+    either-way (LeavesWide state) (first_refusal (line_checks op h ++ (form op h).checks)) state (with_reply h.index state (form op h).reply)
+    (λ passed. wide-set state.devices h.index (form op h).reply.device (form-wide op h ∙ ap width same)) (λ error i. refl)
+
+wide-acted : (s : Setting) (line : SessionLine) (op : Op) (state : State) → LeavesWide state (act s line op state)
+wide-acted s line ops.OpenFile state =
+    either-way (LeavesWide state) (first_refusal (open_checks line.file state.files)) state (record { answer = Fine; state = record state { files = opened line.file state.files } }) (λ passed i. refl) (λ error i. refl)
+wide-acted s line ops.CloseFile state =
+    either-way (LeavesWide state) (first_refusal (close_checks line.file state.files)) state (record { answer = Fine; state = closed_state line.file state })
+    (λ passed. wide-left (closed line.file state.files).claims state.devices) (λ error i. refl)
+wide-acted s line (ops.InsnGtod sub) state =
+    either-way (LeavesWide state) (first_refusal (close_checks line.file state.files)) state (record { answer = Data 2 (time_words line.time); state = state }) (λ passed i. refl) (λ error i. refl)
+wide-acted s line op state = wide-on op (here s line state) state refl
+
+-- the passing of time keeps them
+pub whole-brought : (board : BoardText) (time : ℕ) (devices : List Device) → AreWhole board devices → AreWhole board (map (brought_device time) devices)
+whole-brought board time devices whole i = wide-brought time devices i ∙ whole i
+
+-- and so does each line
+pub whole-step : (s : Setting) (line : SessionLine) (state : State) → AreWhole s.board state.devices → AreWhole s.board (step s line state).state.devices
+whole-step s line state whole i = wide-acted s line line.op (brought_all line.time state) i ∙ whole-brought s.board line.time state.devices whole i
+
+idle-whole : (subs : List SubText) (i : ℕ) → width (device_at (map idle_device subs) i) ≡ (let sub : SubText = get_or subs i no_sub in sub).channels
+idle-whole [] i = refl
+idle-whole (sub ∷ subs) zero = length-replicate sub.channels 0
+idle-whole (sub ∷ subs) (suc i) = idle-whole subs i
+
+-- before the first line each value is there
+pub whole-start : (s : Setting) → AreWhole s.board (at_start s).devices
+whole-start s = idle-whole s.board.subs
