@@ -49,6 +49,11 @@ tests() {
     board; printf 'session\n'
     awk -v n="$1" 'BEGIN { for (i = 0; i < n; i++) printf "test 0 0 now|ext:0 timer:%d now:0 count:1 count:3 0/0/ground\n", i }'
 }
+# N readings of one channel, one after the other.
+readings() {
+    board; printf 'wave 0 0 %s\nsession\n0 open 1\n' "$2"
+    awk -v n="$1" 'BEGIN { for (i = 0; i < n; i++) printf "%d insn 1 0 read 0/0/ground 1\n", i }'
+}
 # N lines of comment before a line that is refused.
 comments() {
     printf 'comedi 1\nboard measure\n'
@@ -74,5 +79,6 @@ row 'replay, a constant' replay 'const 2500000' replay sample 1000 10000 100000 
 row 'replay, a saw' replay 'saw -10000000 10000000 4096000' replay sample 1000 10000 100000 1000000
 row 'expand, four channels' expansion '' expand conversion 1000 10000 100000 1000000
 row 'expand, an edge a scan' edges '' expand conversion 1000 10000 100000
+row 'insn, readings' readings 'saw -10000000 10000000 4096000' insn line 1000 10000
 row 'test' tests '' test line 1000 10000
 row 'comments, then a refusal' comments '' replay line 1000 10000

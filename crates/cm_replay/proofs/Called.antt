@@ -6,35 +6,30 @@ use Rattle.cm_board.specs.Board.{SubText, takes_commands}
 use Rattle.cm_cmd.specs.Command.{CmdText}
 use Rattle.cm_sub.specs.Checks.{first_refusal, refuse}
 use Rattle.cm_sub.specs.Claims.{use_checks}
-use Rattle.cm_sub.specs.Files.{FilesText, reach_checks, with_runner}
+use Rattle.cm_sub.specs.Files.{FilesText, reach_checks}
 use Rattle.cm_sub.specs.declared.errno.Errno.{Errno}
 use Rattle.cm_sub.specs.declared.errno.Errno.TheVariants.{Inval}
 use Rattle.cm_test.specs.Questions.{tested}
 use Rattle.cm_test.specs.ValidList.{is_valid_list}
 use Rattle.cm_session.specs.declared.op.Op.TheVariants as ops
-use Rattle.cm_replay.specs.Answers.{Begun, Rejected, Reply, kept}
-use Rattle.cm_replay.specs.Calling.{cmd_reply}
+use Rattle.cm_replay.specs.Answers.{Rejected, Reply, kept}
+use Rattle.cm_replay.specs.Calling.{cmd_reply, start_reply}
 use Rattle.cm_replay.specs.Forms.{form}
 use Rattle.cm_replay.specs.Replies.{Replies, checked, tried_on, unless_kept}
-use Rattle.cm_replay.specs.Running.{started}
-use Rattle.cm_replay.specs.Schedules.{schedule_of}
-use Rattle.cm_replay.specs.State.{Device, Here, claim_of, plan_here}
+use Rattle.cm_replay.specs.State.{Device, Here, claim_of}
 use Rattle.cm_replay.specs.Texts.{answer_text}
 use Rattle.cm_replay.proofs.Checks.{passes-both}
 use Rattle.cm_replay.proofs.Forming.{both-pass}
-
-abbrev starts : Here → CmdText → Reply
-starts h cmd = record { answer = Begun; files = with_runner (Some h.file) h.index h.files; device = record h.device { running = Some (started (schedule_of (plan_here h cmd))) } }
 
 abbrev fails : Here → CmdText → Reply
 fails h cmd = kept h (Rejected (tested h.sub cmd).0 (tested h.sub cmd).1)
 
 -- a command that passes its test starts
-pub called : {E : Type 0} (h : Here) (cmd : CmdText) (result : Result (Unit {0}) E) (files : FilesText) (device : Device) (old new : List ℕ) → (tested h.sub cmd).0 ≡ 0 → files ≡ (starts h cmd).files → device ≡ (starts h cmd).device →
+pub called : {E : Type 0} (h : Here) (cmd : CmdText) (result : Result (Unit {0}) E) (files : FilesText) (device : Device) (old new : List ℕ) → (tested h.sub cmd).0 ≡ 0 → files ≡ (start_reply h cmd).files → device ≡ (start_reply h cmd).device →
     OnOk result (new ≡ old ++ codes "ok\n") → OnOk result (Replies (cmd_reply h cmd) files device old new)
 called h cmd (Err e) files device old new passed its_files its_device reported = tt
 called h cmd (Ok u) files device old new passed its_files its_device reported =
-    let is : cmd_reply h cmd ≡ starts h cmd = cond-true ((tested h.sub cmd).0 == 0) (starts h cmd) (fails h cmd) (eq-eqb _ _ passed) in
+    let is : cmd_reply h cmd ≡ start_reply h cmd = cond-true ((tested h.sub cmd).0 == 0) (start_reply h cmd) (fails h cmd) (eq-eqb _ _ passed) in
     record {
       its_files = its_files ∙ sym (ap (λ (r : Reply). r.files) is);
       its_device = its_device ∙ sym (ap (λ (r : Reply). r.device) is);
@@ -46,7 +41,7 @@ pub rejected : {E : Type 0} (h : Here) (cmd : CmdText) (result : Result (Unit {0
     OnOk result (new ≡ old ++ answer_text (Rejected (tested h.sub cmd).0 (tested h.sub cmd).1)) → OnOk result (Replies (cmd_reply h cmd) h.files h.device old new)
 rejected h cmd (Err e) old new failed reported = tt
 rejected h cmd (Ok u) old new failed reported =
-    let is : cmd_reply h cmd ≡ fails h cmd = cond-false ((tested h.sub cmd).0 == 0) (starts h cmd) (fails h cmd) failed in
+    let is : cmd_reply h cmd ≡ fails h cmd = cond-false ((tested h.sub cmd).0 == 0) (start_reply h cmd) (fails h cmd) failed in
     record {
       its_files = sym (ap (λ (r : Reply). r.files) is);
       its_device = sym (ap (λ (r : Reply). r.device) is);

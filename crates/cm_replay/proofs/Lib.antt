@@ -24,6 +24,7 @@ pub mod Refusals
 pub mod Rows
 pub mod Samples
 pub mod SessionLaws
+pub mod Shapes
 pub mod Texts
 pub mod Tied
 pub mod Trials

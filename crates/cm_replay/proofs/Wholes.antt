@@ -1,31 +1,26 @@
 -- Each subdevice keeps a value of each of its channels.
-use Rattle.std.proofs.Common.{◌≡◌, ℕ, zero, suc, Bool, true, false, List, [], ◌∷◌, ◌++◌, length, map, get_or, set, replicate, refl, ap, ◌∙◌, Option, Some, None}
-use Rattle.std.specs.Prelude.{◌==◌, if◌then◌else◌}
+use Rattle.std.proofs.Common.{◌≡◌, ℕ, zero, suc, Bool, true, false, List, [], ◌∷◌, ◌++◌, length, map, get_or, set, refl, ap, ◌∙◌, Option, Some, None}
+use Rattle.std.specs.Prelude.{if◌then◌else◌}
 use Rattle.std.specs.Option.{is_some}
 use Rattle.std.proofs.lemmas.List.{length-replicate}
 use Rattle.cm_board.specs.Board.{BoardText, SubText, no_sub}
 use Rattle.cm_insn.specs.Insn.{Done, state_after, time_words}
 use Rattle.cm_insn.specs.declared.insn.InsnCode.{InsnCode}
-use Rattle.cm_insn.specs.declared.insn.InsnCode.TheVariants as codes
 use Rattle.cm_insn.proofs.Channels.{as_long}
 use Rattle.cm_sub.specs.Checks.{first_refusal}
 use Rattle.cm_sub.specs.Files.{close_checks, closed, open_checks, opened}
 use Rattle.cm_sub.specs.declared.claim.Claim.{Claim}
-use Rattle.cm_test.specs.Questions.{tested}
 use Rattle.cm_session.specs.declared.op.Op.{Op}
 use Rattle.cm_session.specs.declared.op.Op.TheVariants as ops
 use Rattle.cm_session.specs.declared.op.SessionLine.{SessionLine}
-use Rattle.cm_replay.specs.Answers.{Data, Fine, Reply, unless_ended}
-use Rattle.cm_replay.specs.Calling.{insn_here, insn_reply, trigger_reply}
+use Rattle.cm_replay.specs.Answers.{Data, Fine, Reply}
+use Rattle.cm_replay.specs.Calling.{insn_here, insn_reply}
 use Rattle.cm_replay.specs.Forms.{form, line_checks}
-use Rattle.cm_replay.specs.Reading.{look_reply, map_reply, read_reply, release_reply, reported_end}
 use Rattle.cm_replay.specs.Replies.{AreWhole}
-use Rattle.cm_replay.specs.Running.{Running}
 use Rattle.cm_replay.specs.Session.{Outcome, act, act_on, brought_all, brought_device, closed_state, here, left_devices, step, with_reply}
 use Rattle.cm_replay.specs.State.{Device, Here, Setting, State, at_start, device_at, idle_device}
-use Rattle.cm_replay.specs.Writing.{fill_reply, mark_reply, write_reply}
-use Rattle.cm_replay.specs.declared.ending.End.{End}
 use Rattle.cm_replay.proofs.Counts.{either-way}
+use Rattle.cm_replay.proofs.Shapes.{form-holds}
 use Rattle.cm_replay.proofs.SessionLaws.{device_at-brought}
 
 -- how many values a subdevice keeps
@@ -36,14 +31,6 @@ width d = length d.state.values
 abbrev IsWide : Here → Reply → Type 0
 IsWide h reply = width reply.device ≡ width h.device
 
-ended-wide : (h : Here) (e : Option End) (reply : Reply) → IsWide h reply → IsWide h (unless_ended h e reply)
-ended-wide h None reply w = w
-ended-wide h (Some e) reply w = refl
-
-if-wide : (h : Here) (b : Bool) (x y : Reply) → IsWide h x → IsWide h y → IsWide h (if b then x else y)
-if-wide h true x y wx wy = wx
-if-wide h false x y wx wy = wy
-
 -- an instruction leaves as many
 shown-wide : (t : Bool) (h : Here) (done : Option Done) → length (state_after done h.device.state).values ≡ width h.device → IsWide h (insn_reply t h done)
 shown-wide t h None long = refl
@@ -53,60 +40,16 @@ insn-wide : (t : Bool) (h : Here) (code : InsnCode) (entry : ℕ) (given : List 
 insn-wide t h code entry given =
     shown-wide t h (insn_here h code entry given) (as_long (record { sub = h.sub; index = h.index; signals = h.signals; time = h.time }) h.device.state code entry given).values
 
-read-wide : (n : ℕ) (h : Here) (c : Option Running) → IsWide h (read_reply n h c)
-read-wide n h None = refl
-read-wide n h (Some c) = ended-wide h (reported_end c) _ refl
-
-map-wide : (n : ℕ) (h : Here) (c : Option Running) → IsWide h (map_reply n h c)
-map-wide n h None = refl
-map-wide n h (Some c) = ended-wide h (reported_end c) _ refl
-
-look-wide : (n : ℕ) (h : Here) (c : Option Running) → IsWide h (look_reply n h c)
-look-wide n h None = refl
-look-wide n h (Some c) = refl
-
-release-wide : (n : ℕ) (h : Here) (c : Option Running) → IsWide h (release_reply n h c)
-release-wide n h None = refl
-release-wide n h (Some c) = refl
-
-write-wide : (words : List ℕ) (h : Here) (c : Option Running) → IsWide h (write_reply words h c)
-write-wide words h None = refl
-write-wide words h (Some c) = ended-wide h (reported_end c) _ refl
-
-fill-wide : (words : List ℕ) (h : Here) (c : Option Running) → IsWide h (fill_reply words h c)
-fill-wide words h None = refl
-fill-wide words h (Some c) = ended-wide h (reported_end c) _ refl
-
-mark-wide : (n : ℕ) (h : Here) (c : Option Running) → IsWide h (mark_reply n h c)
-mark-wide n h None = refl
-mark-wide n h (Some c) = refl
-
-trigger-wide : (h : Here) (c : Option Running) → IsWide h (trigger_reply h c)
-trigger-wide h None = refl
-trigger-wide h (Some c) = refl
-
 -- the reply of each form leaves as many values as the line sees
 form-wide : (op : Op) (h : Here) → IsWide h (form op h).reply
-form-wide ops.OpenFile h = refl
-form-wide ops.CloseFile h = refl
-form-wide (ops.Lock sub) h = refl
-form-wide (ops.Unlock sub) h = refl
-form-wide (ops.Cmd cmd) h = if-wide h ((tested h.sub cmd).0 == 0) _ _ refl refl
-form-wide (ops.Cancel sub) h = refl
-form-wide (ops.Read sub n) h = read-wide n h h.device.running
-form-wide (ops.Map sub n) h = map-wide n h h.device.running
-form-wide (ops.Look sub i) h = look-wide i h h.device.running
-form-wide (ops.Release sub k) h = release-wide k h h.device.running
-form-wide (ops.Contents sub) h = refl
-form-wide (ops.Write sub words) h = write-wide words h h.device.running
-form-wide (ops.Fill sub words) h = fill-wide words h h.device.running
-form-wide (ops.Mark sub k) h = mark-wide k h h.device.running
-form-wide (ops.InsnRead sub entry n) h = insn-wide true h codes.Read entry (replicate n 0)
-form-wide (ops.InsnWrite sub entry words) h = insn-wide false h codes.Write entry words
-form-wide (ops.InsnBits sub mask bits) h = insn-wide true h codes.Bits 0 (mask ∷ bits ∷ [])
-form-wide (ops.InsnConfig sub entry word) h = insn-wide false h codes.Config entry (word ∷ [])
-form-wide (ops.InsnGtod sub) h = refl
-form-wide (ops.InsnIntTrig sub number) h = trigger-wide h h.device.running
+form-wide op h = form-holds (IsWide h) op h (record {
+  nothing = λ answer. refl;
+  lock = λ holder. refl;
+  more = λ c answer. refl;
+  over = λ answer. refl;
+  call = λ cmd. refl;
+  insn = λ shown code entry given. insn-wide shown h code entry given;
+})
 
 -- each subdevice keeps as many values as before
 abbrev AreWide : List Device → List Device → Type 0

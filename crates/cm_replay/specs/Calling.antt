@@ -14,12 +14,13 @@ use Rattle.cm_replay.specs.Schedules.{schedule_of, triggered}
 use Rattle.cm_replay.specs.State.{Here, plan_here}
 use Rattle.cm_replay.specs.declared.ending.End.{End}
 
+-- a command starts
+abbrev pub start_reply : Here → CmdText → Reply
+start_reply h cmd = record { answer = Begun; files = with_runner (Some h.file) h.index h.files; device = record h.device { running = Some (started (schedule_of (plan_here h cmd))) } }
+
 -- `cmd`: a command that its subdevice accepts starts, and of another one the step that it fails is answered
 abbrev pub cmd_reply : Here → CmdText → Reply
-cmd_reply h cmd =
-    if (tested h.sub cmd).0 == 0
-    then record { answer = Begun; files = with_runner (Some h.file) h.index h.files; device = record h.device { running = Some (started (schedule_of (plan_here h cmd))) } }
-    else kept h (Rejected (tested h.sub cmd).0 (tested h.sub cmd).1)
+cmd_reply h cmd = if (tested h.sub cmd).0 == 0 then start_reply h cmd else kept h (Rejected (tested h.sub cmd).0 (tested h.sub cmd).1)
 
 -- a start has come where it isn't above a time
 abbrev pub has_come : Option ℕ → ℕ → Bool

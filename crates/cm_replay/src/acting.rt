@@ -54,7 +54,7 @@ fn is_unfit(at: &At<'_>, op: &Op) -> bool
     matches!(sub.kind, Kind::Unused) || (is_of_command(op) && !sub.takes_commands())
 }
 
-// What an instruction does with its subdevice, and what a line does that isn't played.
+// Does an instruction on its subdevice. No other line comes here.
 fn instruct(
     at: &At<'_>,
     op: &Op,
@@ -76,7 +76,7 @@ fn instruct(
         }
         Op::InsnBits { mask, bits, .. } => put_bits(at, *mask, *bits, files, seat, text),
         Op::InsnConfig { entry, value, .. } => configure(at, *entry, *value, files, seat, text),
-        _ => put_fine(text),
+        _ => unreachable!(),
     }
 }
 
