@@ -1,5 +1,6 @@
 pub mod ExpandLines
 pub mod Expansions
+pub mod Instructions
 pub mod Positions
 pub mod Rooms
 pub mod Served

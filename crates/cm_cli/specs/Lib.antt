@@ -1,6 +1,7 @@
 pub mod Answer
 pub mod Asked
 pub mod ExpandSession
+pub mod Law
 pub mod Said
 pub mod Serving
 pub mod Sessions

@@ -4,6 +4,7 @@
 pub mod answer;
 pub mod asked;
 pub mod expanding;
+pub mod law;
 pub mod serving;
 pub mod status;
 pub mod stop;
