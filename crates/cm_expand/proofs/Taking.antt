@@ -18,12 +18,12 @@ use Rattle.cm_expand.specs.declared.course.Spot.{Spot}
 use Rattle.cm_expand.proofs.Boards.{board_item, board_none, no_course, no_spot, times_short}
 
 -- what is left at a place begins with the item there
-drop-found : {X : Type 0} (xs : List X) (i : ℕ) (x : X) → slice_get xs i ≡ Some x → drop i xs ≡ x ∷ drop (suc i) xs
+pub drop-found : {X : Type 0} (xs : List X) (i : ℕ) (x : X) → slice_get xs i ≡ Some x → drop i xs ≡ x ∷ drop (suc i) xs
 drop-found [] i x e = absurd (cc)
 drop-found (y ∷ ys) zero x e = let same : y ≡ x = cc in ap (λ z. z ∷ ys) same
 drop-found (y ∷ ys) (suc i) x e = drop-found ys i x e
 
-drop-missing : {X : Type 0} (xs : List X) (i : ℕ) → slice_get xs i ≡ None → drop i xs ≡ []
+pub drop-missing : {X : Type 0} (xs : List X) (i : ℕ) → slice_get xs i ≡ None → drop i xs ≡ []
 drop-missing [] zero e = refl
 drop-missing [] (suc i) e = refl
 drop-missing (y ∷ ys) zero e = absurd (cc)
