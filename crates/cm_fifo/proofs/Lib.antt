@@ -1,0 +1,10 @@
+pub mod Lasts
+pub mod Lists
+pub mod Arrivals
+pub mod Unfolding
+pub mod Rows
+pub mod Helds
+pub mod Looks
+pub mod States
+pub mod Nexts
+pub mod Counts
