@@ -1,7 +1,5 @@
 pub mod ExpandLines
 pub mod Expansions
-pub mod Instructions
-pub mod Positions
 pub mod Rooms
 pub mod Served
 pub mod Tails

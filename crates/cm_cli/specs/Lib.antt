@@ -1,7 +1,6 @@
 pub mod Answer
 pub mod Asked
 pub mod ExpandSession
-pub mod Law
 pub mod Said
 pub mod Serving
 pub mod Sessions
@@ -11,4 +10,3 @@ pub mod Tasks
 pub mod TestSession
 pub mod Top
 pub mod Totals
-pub mod Unplayed

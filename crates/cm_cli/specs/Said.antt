@@ -12,7 +12,6 @@ use Rattle.cm_replay.specs.State.{Setting}
 use Rattle.cm_replay.specs.Texts.{replay_text}
 use Rattle.cm_cli.specs.ExpandSession.{expands_of, expands_text}
 use Rattle.cm_cli.specs.TestSession.{tests_of, tests_text}
-use Rattle.cm_cli.specs.Unplayed.{played}
 use Rattle.cm_cli.specs.declared.task.Task.{Task}
 use Rattle.cm_cli.specs.declared.task.Task.TheVariants.{Test, Expand, Insn, Replay}
 
@@ -27,7 +26,7 @@ expands_said s lines = expands_of s lines >>= λ all. Ok (expands_text s all)
 -- the job of a session, of instructions alone or of all kinds of lines
 abbrev pub job_of : Bool → Setting → List LineText → Result JobText Refused
 job_of only_insn s lines =
-    session_of only_insn s.signals.horizon lines >>= λ all. played s.board lines all >>= λ u. Ok (record { board = s.board; signals = s.signals; lines = all })
+    session_of only_insn s.signals.horizon lines >>= λ all. Ok (record { board = s.board; signals = s.signals; lines = all })
 
 -- the answer to an `insn` job or a `replay` job
 abbrev pub session_answer : Bool → Setting → List LineText → Result (List ℕ) Refused

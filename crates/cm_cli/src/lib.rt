@@ -4,11 +4,9 @@
 pub mod answer;
 pub mod asked;
 pub mod expanding;
-pub mod law;
 pub mod serving;
 pub mod status;
 pub mod stop;
 pub mod task;
 pub mod testing;
 pub mod totals;
-pub mod unplayed;

@@ -1,9 +1,7 @@
 // A whole text, and what is made of it.
-ghost use Rattle.std.specs.Prelude.{◌≡◌, ◌-◌, ◌<◌, ◌≤◌, ◌^◌, true, drop, length, IfOk, IsErrOf};
-ghost use Rattle.std.specs.List.{All};
+ghost use Rattle.std.specs.Prelude.{◌≡◌, ◌-◌, ◌<◌, ◌≤◌, ◌^◌, drop, length, IsErrOf};
 ghost use Rattle.cm_base.specs.Causes.{Rose};
 ghost use Rattle.cm_base.specs.ReadStop.{Gives};
-ghost use Rattle.cm_replay.specs.Replies.{is_played};
 ghost use Rattle.cm_signal.specs.Fitting.{FitBoard};
 ghost use Rattle.cm_cli.specs.Said.{expands_said, job_of, lines_said, said, session_answer, session_said, tests_said};
 ghost use Rattle.cm_cli.specs.Serving.{Serves};
@@ -12,7 +10,6 @@ use crate::expanding::{expand_all, read_expands};
 use crate::stop::Stop;
 use crate::task::Task;
 use crate::testing::{read_tests, test_all};
-use crate::unplayed::check_played;
 use cm_base::faults::ReadStop;
 use cm_base::lines::{Cursor, Lines, split_lines};
 use cm_base::outside::Sink;
@@ -142,11 +139,9 @@ fn read_job(
     at: usize,
 ) -> Result<Job, ReadStop>
     requires { FitBoard board.subs signals }
-    ensures job { Gives (λ job. job) result (job_of only_insn (record { board = board; signals = signals }) (drop at lines.now.list)) }
-    ensures played { IfOk result (λ job. All (λ line. is_played job.board line.op ≡ true) job.lines) }
+    ensures { Gives (λ job. job) result (job_of only_insn (record { board = board; signals = signals }) (drop at lines.now.list)) }
 {
     let session = read_session(alloc, &signals, lines, at, only_insn)?;
-    check_played(alloc, &board, lines.from(at), &session)?;
     Ok(Job {
         board,
         signals,

@@ -15,7 +15,7 @@ use Rattle.cm_session.specs.declared.op.SessionLine.{SessionLine}
 use Rattle.cm_replay.specs.Answers.{Refused, Reply}
 use Rattle.cm_replay.specs.Forms.{form, kind_checks, named_sub}
 use Rattle.cm_replay.specs.Ready.{CanMove}
-use Rattle.cm_replay.specs.Replies.{CanAct, CanStep, IsWhole, Leads, Replies, here_at, plays, seat_reply, tried_by, unless_kept}
+use Rattle.cm_replay.specs.Replies.{CanAct, CanStep, IsWhole, Leads, Replies, here_at, seat_reply, tried_by, unless_kept}
 use Rattle.cm_replay.specs.Session.{Outcome, act_on, here, unless_refused, with_reply}
 use Rattle.cm_replay.specs.State.{Device, Here, Setting, State, device_at, idle_device, sub_at}
 use Rattle.cm_replay.specs.Texts.{answer_text}
@@ -60,7 +60,6 @@ can-act s line tried state at device can same reached =
       time = subst (λ (h : Here). h.time ≤ h.signals.horizon) back can.limits.0;
       whole = subst (λ (h : Here). IsWhole h.sub h.device) back (can.whole (named_sub line.op));
       ready = subst (λ (h : Here). CanMove (record { sub = h.sub; signals = h.signals }) h.index h.time h.device.running) back (can.ready (named_sub line.op));
-      played = subst (λ (h : Here). plays h.sub line.op ≡ true) back can.played;
       its_trial = subst (λ (h : Here). tried ≡ tried_by h.sub line.op) back can.its_trial;
     }
 

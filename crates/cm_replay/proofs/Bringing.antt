@@ -1,41 +1,26 @@
 -- What is left of an expansion once some of it has come.
 use Rattle.std.proofs.Common.{◌≡◌, ℕ, zero, suc, ◌+◌, ◌-◌, ◌<◌, ◌≤◌, min, List, [], ◌∷◌, ◌++◌, length, take, drop, Bool, true, false, Option, Some, None, refl, sym, ap, ap₂, ◌∙◌, inl, inr, arith, subst, length-take, length-drop, drop-drop}
-use Rattle.std.specs.Prelude.{◌&&◌, nat_eq, nat_lt, if◌then◌else◌}
+use Rattle.std.specs.Prelude.{if◌then◌else◌}
 use Rattle.std.proofs.lemmas.Bool.{cases_lt, le-leb, lt-leb, eq-eqb, lt-ltb, le-ltb, ne_eqb}
-use Rattle.std.proofs.lemmas.List.{length-map, drop-append-le, drop-take, length-take-le, take-take}
+use Rattle.std.proofs.lemmas.List.{length-map, drop-append-le, drop-map, drop-take, length-take-le, take-map, take-take}
 use Rattle.cm_base.proofs.Pieces.{take_sum}
 use Rattle.cm_ring_core.specs.Local.{Ring}
 use Rattle.cm_expand.specs.Taking.{raw_words}
-use Rattle.cm_replay.specs.Conversions.{come, munged_from, NeverFalls}
-use Rattle.cm_replay.specs.Running.{Schedule, has_stopped, munge_in, samples, some_if}
+use Rattle.cm_expand.specs.Taking.{come, NeverFalls}
+use Rattle.cm_replay.specs.Conversions.{munged_from}
+use Rattle.cm_replay.specs.Planned.{IsSchedule}
+use Rattle.cm_replay.specs.Putting.{without}
+use Rattle.cm_replay.specs.Running.{Schedule, arrived, end_by, lost_end, missed, munge_in, quiet_end, samples}
+use Rattle.cm_replay.specs.Timely.{IsTimely}
+use Rattle.cm_sample.specs.Rule.{map_from}
 use Rattle.cm_replay.specs.CommandView.{IsInStep}
 use Rattle.cm_replay.specs.Filling.{moving, filled}
-use Rattle.cm_replay.specs.ToCome.{ToCome, end_shown}
+use Rattle.cm_replay.specs.ToCome.{ToCome, end_shown, last_end_shown, left_after}
 use Rattle.cm_expand.specs.declared.conv.Conv.{Conv}
 use Rattle.cm_replay.specs.declared.ending.End.{End}
-use Rattle.cm_replay.specs.declared.ending.End.TheVariants.{Done, Dry, Overrun}
+use Rattle.cm_replay.specs.declared.ending.End.TheVariants.{Fifo}
 use Rattle.cm_replay.proofs.Samples.{length-munged_from}
-use Rattle.cm_replay.proofs.Come.{come-first, come-later_first, come-none, come-le, from_start}
-
--- some have come where the first has
-some_come : (time : ℕ) (c : Conv) (cs : List Conv) → NeverFalls (c ∷ cs) → 1 ≤ come time (c ∷ cs) → c.time ≤ time
-some_come time c cs order some = elim (cases_lt time c.time) [
-  | inl late ↦ absurd (omega (arith, come-later_first time c cs late, come-none time cs c.time order.1 late))
-  | inr early ↦ early
-]
-
--- of what is left after those that have come, as many have come as are missing
-pub come-drop : (time w : ℕ) (cs : List Conv) → NeverFalls cs → w ≤ come time cs → come time (drop w cs) ≡ come time cs - w
-come-drop time zero cs order some = omega arith
-come-drop time (suc w) [] order some = absurd (omega arith)
-come-drop time (suc w) (c ∷ cs) order some =
-    let first = come-first time c cs (some_come time c cs order (omega arith)) in
-    come-drop time w cs (from_start c.time cs order.1) (omega arith) ∙ omega arith
-
-pub NeverFalls-drop : (w : ℕ) (cs : List Conv) → NeverFalls cs → NeverFalls (drop w cs)
-NeverFalls-drop zero cs order = order
-NeverFalls-drop (suc w) [] order = tt
-NeverFalls-drop (suc w) (c ∷ cs) order = NeverFalls-drop w cs (from_start c.time cs order.1)
+use Rattle.cm_expand.proofs.Come.{NeverFalls-drop, come-drop, come-first, come-le, come-later, come-later_first, come-none}
 
 -- munging from a later place on gives the later samples
 munged_from-drop : (munge : ℕ → ℕ → ℕ) (place w : ℕ) (cs : List Conv) → drop w (munged_from munge place cs) ≡ munged_from munge (place + w) (drop w cs)
@@ -57,84 +42,120 @@ held-more munge cs r w n within all =
     let more : munged_from munge w (take n (drop w cs)) ≡ take n (drop w m) = sym (munged_from-take munge w n (drop w cs)) ∙ ap (take n) (sym (munged_from-drop munge 0 w cs ∙ ap (λ p. munged_from munge p (drop w cs)) (omega arith))) in
     ap (λ xs. drop r (take w m) ++ xs) more ∙ sym (drop-append-le r (take w m) (take n (drop w m)) (omega arith)) ∙ ap (drop r) (sym (take_sum w n m))
 
+raw-take : (n : ℕ) (cs : List Conv) → raw_words (take n cs) ≡ take n (raw_words cs)
+raw-take n cs = sym (take-map (λ (c : Conv). c.raw) n cs)
+
+raw-drop : (n : ℕ) (cs : List Conv) → raw_words (drop n cs) ≡ drop n (raw_words cs)
+raw-drop n cs = sym (drop-map (λ (c : Conv). c.raw) n cs)
+
+-- what has the words of the first of others has the same words piece by piece
+same-words : (cs others : List Conv) (w n : ℕ) → raw_words cs ≡ take (length cs) (raw_words others) → w + n ≤ length cs → raw_words (take n (drop w cs)) ≡ raw_words (take n (drop w others))
+same-words cs others w n same within =
+    let all : length cs ≡ w + (length cs - w) = omega arith in
+    raw-take n (drop w cs) ∙ ap (take n) (raw-drop w cs ∙ ap (drop w) same ∙ ap (λ k. drop w (take k (raw_words others))) all ∙ drop-take w (length cs - w) (raw_words others))
+    ∙ take-take n (length cs - w) (drop w (raw_words others)) (omega arith) ∙ ap (take n) (sym (raw-drop w others)) ∙ sym (raw-take n (drop w others))
+
 neither : (e : Option End) (complete : Bool) → e ≡ (if complete then e else e)
 neither e true = refl
 neither e false = refl
 
--- the end that has come to an input whose conversions reach the buffer as they are made
-abbrev pub plain_end : Schedule → ℕ → ℕ → Option End
-plain_end s limit time = if nat_lt limit (come time s.conversions) then Some (Overrun limit) else
-    (if s.complete then some_if (nat_eq (come time s.conversions) (length s.conversions) && has_stopped s.edge time) Done else some_if (nat_eq time s.horizon) Dry)
+-- without a loss no end has come before all has
+quiet-none : (s : Schedule) (time : ℕ) → arrived s time < length s.conversions → (time ≡ s.horizon → ⊥) → None ≡ quiet_end s time
+quiet-none s time fewer early =
+    rw (ne_eqb (arrived s time) (length s.conversions) (λ (e : arrived s time ≡ length s.conversions). absurd (omega arith))) (rw (ne_eqb time s.horizon early) (neither None s.complete))
 
--- the end that a board and a full ring show is the one that has come
-pub plain_end-right : (s : Schedule) (limit w time : ℕ) → NeverFalls s.conversions → come s.horizon s.conversions ≡ length s.conversions → w ≡ min (come time s.conversions) limit →
-    end_shown (record { conversions = drop w s.conversions; complete = s.complete; edge = s.edge }) w s.horizon time ≡ plain_end s limit time
-plain_end-right s limit w time order cut written = by_left (drop w s.conversions) refl
+-- no end has come while something is to come
+none-yet : (s : Schedule) (time : ℕ) (lost : Option ℕ) → s.lost_at ≡ lost → IsTimely s → arrived s time < length s.arrivals → None ≡ lost_end lost s time
+none-yet s time None is timely fewer = quiet-none s time (omega (arith, timely.within)) (λ (e : time ≡ s.horizon). absurd (omega (arith, timely.cut, ap (arrived s) e)))
+none-yet s time (Some at) is timely fewer =
+    let loss = timely.lost at is in
+    elim (cases_lt time at) [
+      | inl early ↦ rw (lt-leb _ _ early) (quiet-none s time (omega (arith, timely.within)) (λ (e : time ≡ s.horizon). absurd (omega (arith, timely.cut, ap (arrived s) e))))
+      | inr late ↦ absurd (omega (arith, loss.1, come-later at time s.arrivals late))
+    ]
+
+-- the end that has come once nothing is to come
+last-right : (s : Schedule) (served time : ℕ) (lost : Option ℕ) → s.lost_at ≡ lost → IsTimely s → arrived s time ≡ length s.arrivals → served ≡ length s.arrivals →
+    last_end_shown (record { conversions = []; complete = s.complete; edge = s.edge; lost_at = lost }) served s.horizon time ≡ lost_end lost s time
+last-right s served time None is timely all here =
+    let whole : arrived s time ≡ length s.conversions = all ∙ timely.whole is in
+    rw (eq-eqb _ _ whole) refl
+last-right s served time (Some at) is timely all here =
+    let loss = timely.lost at is in
+    elim (cases_lt time at) [
+      | inl early ↦ rw (lt-leb _ _ early) (quiet-none s time (omega (arith, loss.2)) (λ (e : time ≡ s.horizon). absurd (omega (arith, loss.0))))
+      | inr late ↦ rw (le-leb _ _ late) (ap (λ k. Some (Fifo k)) here)
+    ]
+
+-- the end that a board shows is the one that has come, where all that has come is served up to a limit
+pub end_shown-right : (s : Schedule) (its_miss : End) (limit count time : ℕ) → NeverFalls s.arrivals → IsTimely s → count ≡ min (arrived s time) limit → (limit < arrived s time → its_miss ≡ missed s limit) →
+    end_shown (left_after count s) its_miss count s.horizon time ≡ end_by s limit time
+end_shown-right s its_miss limit count time order timely here over = by_left (drop count s.arrivals) refl
   where
-    some : w ≤ come time s.conversions
-    some = omega arith
+    few : arrived s time ≤ length s.arrivals
+    few = come-le time s.arrivals
 
-    after : come time (drop w s.conversions) ≡ come time s.conversions - w
-    after = come-drop time w s.conversions order some
+    after : come time (drop count s.arrivals) ≡ arrived s time - count
+    after = come-drop time count s.arrivals order (omega arith)
 
-    count : length (drop w s.conversions) ≡ length s.conversions - w
-    count = length-drop w s.conversions
+    many : length (drop count s.arrivals) ≡ length s.arrivals - count
+    many = length-drop count s.arrivals
 
-    by_left : (left : List Conv) → drop w s.conversions ≡ left → end_shown (record { conversions = left; complete = s.complete; edge = s.edge }) w s.horizon time ≡ plain_end s limit time
+    by_left : (left : List Conv) → drop count s.arrivals ≡ left → end_shown (record { conversions = left; complete = s.complete; edge = s.edge; lost_at = s.lost_at }) its_miss count s.horizon time ≡ end_by s limit time
     by_left [] none =
-        let all : come time s.conversions ≡ length s.conversions = omega (arith, ap length none, count, some, come-le time s.conversions) in
-        rw (le-ltb limit (come time s.conversions) (omega (arith, ap length none, count, written, come-le time s.conversions))) (rw (eq-eqb _ _ all) refl)
+        let all : arrived s time ≡ length s.arrivals = omega (arith, ap length none, many, few) in
+        rw (le-ltb limit (arrived s time) (omega (arith, ap length none, many, few))) (last-right s count time s.lost_at refl timely all (omega (arith, ap length none, many, few)))
     by_left (c ∷ rest) more = elim (cases_lt time c.time) [
       | inl late ↦
-          let none_yet : come time (c ∷ rest) ≡ 0 = come-later_first time c rest late ∙ come-none time rest c.time (subst NeverFalls more (NeverFalls-drop w s.conversions order)).1 late in
-          let here : come time s.conversions ≡ w = omega (arith, ap (come time) more, after, some) in
-          let fewer : come time s.conversions < length s.conversions = omega (arith, ap length more, count) in
-          let early : (time ≡ s.horizon → ⊥) = λ (e : time ≡ s.horizon). absurd (omega (arith, ap (λ t. come t s.conversions) e)) in
-          rw (lt-leb _ _ late) (rw (le-ltb limit (come time s.conversions) (omega arith)) (rw (ne_eqb (come time s.conversions) (length s.conversions) (λ (e : come time s.conversions ≡ length s.conversions). absurd (omega arith))) (rw (ne_eqb time s.horizon early) (neither None s.complete))))
+          let none_has : come time (c ∷ rest) ≡ 0 = come-later_first time c rest late ∙ come-none time rest c.time (subst NeverFalls more (NeverFalls-drop count s.arrivals order)).1 late in
+          let fewer : arrived s time < length s.arrivals = omega (arith, ap (come time) more, ap length more, after, many) in
+          rw (lt-leb _ _ late) (rw (le-ltb limit (arrived s time) (omega (arith, ap (come time) more, after))) (none-yet s time s.lost_at refl timely fewer))
       | inr come_too ↦
-          let over : limit < come time s.conversions = omega (arith, ap (come time) more, after, come-first time c rest come_too) in
-          rw (le-leb _ _ come_too) (rw (lt-ltb _ _ over) (ap (λ k. Some (Overrun k)) (omega arith)))
+          let above : limit < arrived s time = omega (arith, ap (come time) more, after, come-first time c rest come_too) in
+          rw (le-leb _ _ come_too) (rw (lt-ltb _ _ above) (ap (λ (e : End). Some e) (over above)))
     ]
 
 -- the ring and the board are in step after the conversions that have come by a time moved from one into the other
-pub filled-in_step : (s : Schedule) (ring : Ring) (board : ToCome) (time : ℕ) → NeverFalls s.conversions → IsInStep s ring board → ring.w ≤ come time s.conversions →
-    IsInStep s (filled ring board.conversions time) (record board { conversions = drop (moving ring board.conversions time) board.conversions })
-    × ((filled ring board.conversions time).w ≡ min (come time s.conversions) (ring.r + s.size))
-filled-in_step s ring board time order in_step some = (
+pub filled-in_step : (s : Schedule) (ring : Ring) (board : ToCome) (time : ℕ) → IsSchedule s → IsInStep s ring board → ring.w ≤ arrived s time →
+    IsInStep s (filled ring board.conversions time) (without (moving ring board.conversions time) board)
+    × ((filled ring board.conversions time).w ≡ min (arrived s time) (ring.r + s.size))
+filled-in_step s ring board time planned in_step some = (
   record {
     level = record { m_w = refl; w_a = refl };
     munge = in_step.munge;
     size = in_step.size;
     r_ra = in_step.r_ra;
     ra_w = omega (arith, in_step.ra_w);
-    within = omega (arith, moved, place, come-le time s.conversions);
+    within = omega (arith, moved, place, few);
     w_room = omega (arith, moved, place, in_step.w_room);
-    held = ap₂ (λ to_come munge. ring.held ++ munged_from munge ring.w (take n to_come)) left in_step.munge
+    held = ap₂ (λ words munge. ring.held ++ map_from munge ring.w words) words in_step.munge
         ∙ ap (λ xs. xs ++ munged_from (munge_in s) ring.w (take n (drop ring.w s.conversions))) in_step.held
-        ∙ held-more (munge_in s) s.conversions ring.r ring.w n (omega (arith, in_step.r_ra, in_step.ra_w)) (omega (arith, some, come-le time s.conversions))
+        ∙ held-more (munge_in s) s.conversions ring.r ring.w n (omega (arith, in_step.r_ra, in_step.ra_w)) (omega (arith, in_step.within, planned.timely.within))
         ∙ ap (λ k. drop ring.r (take k (samples s))) (sym place);
-    ahead = λ i. record {
-      conversions = (ap (drop n) left ∙ drop-drop n ring.w s.conversions ∙ ap (λ k. drop k s.conversions) (sym place)) i;
-      complete = ap (λ (b : ToCome). b.complete) in_step.ahead i;
-      edge = ap (λ (b : ToCome). b.edge) in_step.ahead i;
-    };
+    ahead = ap (without n) in_step.ahead ∙ ap (λ cs. let t : ToCome = record { conversions = cs; complete = s.complete; edge = s.edge; lost_at = s.lost_at } in t) (drop-drop n ring.w s.arrivals ∙ ap (λ k. drop k s.arrivals) (sym place));
   },
   place ∙ moved,
 )
   where
-    left : board.conversions ≡ drop ring.w s.conversions
+    left : board.conversions ≡ drop ring.w s.arrivals
     left = ap (λ (b : ToCome). b.conversions) in_step.ahead
+
+    few : arrived s time ≤ length s.arrivals
+    few = come-le time s.arrivals
 
     n : ℕ
     n = moving ring board.conversions time
 
-    after : come time board.conversions ≡ come time s.conversions - ring.w
-    after = ap (come time) left ∙ come-drop time ring.w s.conversions order some
+    after : come time board.conversions ≡ arrived s time - ring.w
+    after = ap (come time) left ∙ come-drop time ring.w s.arrivals planned.order some
+
+    words : raw_words (take n board.conversions) ≡ raw_words (take n (drop ring.w s.conversions))
+    words = ap (λ cs. raw_words (take n cs)) left ∙ same-words s.arrivals s.conversions ring.w n planned.words (omega (arith, after, some, few))
 
     place : ring.w + length (raw_words (take n board.conversions)) ≡ ring.w + n
     place = omega (arith, length-map (take n board.conversions) (λ (c : Conv). c.raw), length-take n board.conversions, come-le time board.conversions)
 
-    moved : ring.w + n ≡ min (come time s.conversions) (ring.r + s.size)
+    moved : ring.w + n ≡ min (arrived s time) (ring.r + s.size)
     moved = omega (arith, after, some, in_step.level.w_a, in_step.size, in_step.w_room)
 
 -- what is taken of a ring's samples is taken of the expansion's

@@ -8,7 +8,7 @@ use Rattle.cm_replay.specs.Timely.{IsTimely}
 use Rattle.cm_replay.specs.Running.{Schedule, arrived, end_by, has_stopped, is_out, lost_end, some_if}
 use Rattle.cm_replay.specs.declared.ending.End.{End}
 use Rattle.cm_replay.specs.declared.ending.End.TheVariants.{Done, Dry, Overrun, Underrun}
-use Rattle.cm_replay.proofs.Come.{come-le, come-later}
+use Rattle.cm_expand.proofs.Come.{come-le, come-later}
 
 -- an end that comes under a test is due where the test shows it
 some-due : (e : End) (place all : ℕ) (test : Bool) → (test ≡ true → IsDue e place all) → IsDueIfAny (some_if test e) place all

@@ -1,5 +1,5 @@
 -- A session line by line.
-use Rattle.std.proofs.Common.{◌≡◌, ℕ, zero, suc, ◌+◌, ◌<◌, ◌≤◌, true, List, [], ◌∷◌, length, get_or, map, drop, refl, sym, ap, ◌∙◌, subst, arith, add-one, drop-cons, Option, Some, None}
+use Rattle.std.proofs.Common.{◌≡◌, ℕ, zero, suc, ◌+◌, ◌<◌, ◌≤◌, List, [], ◌∷◌, length, get_or, map, drop, refl, sym, ap, ◌∙◌, subst, arith, add-one, drop-cons, Option, Some, None}
 use Rattle.std.specs.List.{All}
 use Rattle.std.proofs.lemmas.List.{drop_all, length-map, length-replicate}
 use Rattle.cm_base.specs.Transfer.{IsUnderWay}
@@ -10,7 +10,7 @@ use Rattle.cm_session.specs.declared.op.SessionLine.{SessionLine}
 use Rattle.cm_sub.specs.Claims.{nobody}
 use Rattle.cm_replay.specs.Law.{Spot, spot_at}
 use Rattle.cm_replay.specs.Ready.{CanMove, StaysReady}
-use Rattle.cm_replay.specs.Replies.{AreMany, AreWhole, CanCome, CanReplay, CanStep, HasCome, Steps, is_played, tried_of}
+use Rattle.cm_replay.specs.Replies.{AreMany, AreWhole, CanCome, CanReplay, CanStep, HasCome, Steps, tried_of}
 use Rattle.cm_replay.specs.Running.{Running}
 use Rattle.cm_replay.specs.Session.{brought_all, step}
 use Rattle.cm_replay.specs.State.{Device, Setting, State, at_start, idle_device}
@@ -49,7 +49,6 @@ can-step s lines tried first state i line t can many whole ready within is its =
   few = omega (arith, length-brought line.time state, many.places, can.few);
   whole = whole-brought s.board line.time state.devices whole;
   ready = (line-ready s lines i line state within is ready).2;
-  played = subst (λ (x : SessionLine). is_played s.board x.op ≡ true) (sym is) (can.played i line within);
   its_trial = its ∙ ap (λ (all : List (Option CmdText)). get_or all i t) can.trials ∙ trial-at (λ x. tried_of s.board x.op) lines i line t within ∙ ap (λ (x : SessionLine). tried_of s.board x.op) (sym is);
 }
 

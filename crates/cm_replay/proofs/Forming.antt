@@ -1,5 +1,5 @@
 -- What a line comes to, by whether one of its checks refuses it.
-use Rattle.std.proofs.Common.{◌≡◌, ℕ, ◌-◌, ◌≤◌, List, [], ◌∷◌, ◌++◌, refl, sym, ap, ◌∙◌, arith, subst, Option, Some, None, Result, OnOk}
+use Rattle.std.proofs.Common.{◌≡◌, ℕ, ◌-◌, ◌≤◌, Bool, true, false, List, [], ◌∷◌, ◌++◌, refl, sym, ap, ◌∙◌, arith, subst, Option, Some, None, Result, OnOk}
 use Rattle.std.specs.Prelude.{IfSome, nat_eq, not}
 use Rattle.std.proofs.lemmas.Result.{on_ok_weaker}
 use Rattle.std.proofs.lemmas.Bool.{eqb-true}
@@ -12,7 +12,11 @@ use Rattle.cm_replay.specs.Answers.{Refused, Reply, kept}
 use Rattle.cm_replay.specs.Forms.{Form, reader_checks}
 use Rattle.cm_replay.specs.Reading.{mapped}
 use Rattle.cm_replay.specs.Replies.{Replies, checked, unless_kept}
-use Rattle.cm_replay.specs.Running.{Running}
+use Rattle.cm_replay.specs.Law.{Spot}
+use Rattle.cm_replay.specs.Ready.{CanMove}
+use Rattle.cm_replay.specs.Running.{Running, is_out}
+use Rattle.cm_board.specs.Board.{SubText}
+use Rattle.cm_expand.specs.Rule.{is_output}
 use Rattle.cm_replay.specs.State.{Device, Here}
 use Rattle.cm_replay.specs.Texts.{answer_text}
 use Rattle.cm_replay.proofs.Checks.{passes, passes-both}
@@ -52,3 +56,20 @@ unmapped running c same none order =
 -- nothing is mapped where a read isn't refused
 pub read-unmapped : (h : Here) → first_refusal (reader_checks h ++ refuse Inval (not (nat_eq (mapped h.device.running) 0)) ∷ []) ≡ None → mapped h.device.running ≡ 0
 read-unmapped h passed = eqb-true _ _ (not_false _ (passes Inval _ _ (passes-both (reader_checks h) _ passed).1).0)
+
+-- the direction of a subdevice's command is the subdevice's
+pub its-direction : (spot : Spot) (number time : ℕ) (running : Option Running) (c : Running) (out : Bool) → running ≡ Some c → CanMove spot number time running → is_output spot.sub.kind ≡ out → is_out c.schedule ≡ out
+its-direction spot number time None c out is ready direction = absurd (cc)
+its-direction spot number time (Some d) c out is ready direction =
+    let same : d ≡ c = cc in
+    ap (λ (r : Running). is_out r.schedule) (sym same) ∙ ap (λ (sub : SubText). is_output sub.kind) ready.its.0 ∙ direction
+
+-- a line that reads and isn't refused is one of an input
+pub reads-input : (spot : Spot) (number time : ℕ) (running : Option Running) (c : Running) (rest : List (Option Errno)) → running ≡ Some c → CanMove spot number time running →
+    first_refusal (refuse Inval (is_output spot.sub.kind) ∷ rest) ≡ None → is_out c.schedule ≡ false
+reads-input spot number time running c rest is ready passed = its-direction spot number time running c false is ready (passes Inval _ rest passed).0
+
+-- a line that writes and isn't refused is one of an output
+pub writes-output : (spot : Spot) (number time : ℕ) (running : Option Running) (c : Running) (rest : List (Option Errno)) → running ≡ Some c → CanMove spot number time running →
+    first_refusal (refuse Inval (not (is_output spot.sub.kind)) ∷ rest) ≡ None → is_out c.schedule ≡ true
+writes-output spot number time running c rest is ready passed = its-direction spot number time running c true is ready (not_false _ (passes Inval _ rest passed).0)

@@ -15,7 +15,7 @@ use Rattle.cm_replay.specs.Calling.{has_come, trigger_on, waits}
 use Rattle.cm_replay.specs.Reading.{map_on, mapping, read_on, reported_end, taken, taking}
 use Rattle.cm_replay.specs.Writing.{fill_on, mark_on, munged_within, taken_in, write_on}
 use Rattle.cm_replay.specs.declared.ending.End.{End}
-use Rattle.cm_replay.proofs.Come.{come-later}
+use Rattle.cm_expand.proofs.Come.{come-later}
 use Rattle.cm_replay.proofs.Ends.{arrived-le, end-due}
 use Rattle.cm_replay.proofs.Samples.{length-samples}
 use Rattle.cm_replay.proofs.Words.{map_from-append, map_from-after, map_from-drop, map_from-further, outputs-munged}

@@ -17,7 +17,7 @@ use Rattle.cm_replay.specs.Conversions.{munged_from}
 use Rattle.cm_replay.specs.Format.{IsSample}
 use Rattle.cm_replay.specs.Planned.{IsSchedule}
 use Rattle.cm_replay.specs.Schedules.{format_of, schedule_of}
-use Rattle.cm_replay.proofs.Plannable.{all_come, never_falls}
+use Rattle.cm_replay.proofs.Plannable.{reaching-is, timely}
 
 -- a munged word is a code where it is munged as an input's
 code_by : (raw out : Bool) (word other code most : ℕ) → raw ≡ false → out ≡ false → code ≤ most → (if raw then word else (if out then other else code)) ≤ most
@@ -53,9 +53,11 @@ planned-schedule p sound =
     let is = expansion_of p sound in
     let fits = fit p sound.sub sound.plan in
     let many = items_counted p in
+    let reached = reaching-is p p.sub.fifo sound in
     record {
-      order = never_falls p 0 0 (times_of p) is.order;
-      cut = all_come p 0 p.signals.horizon (times_of p) is.horizon;
+      order = reached.order;
+      timely = timely p sound;
+      words = reached.are.words;
       few = omega (arith, many, length-times_of p sound);
       soon = omega (arith, sound.signals.horizon);
       nonempty = sound.sub.buffer.low;

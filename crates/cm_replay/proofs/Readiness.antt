@@ -29,7 +29,7 @@ use Rattle.cm_replay.specs.Session.{Outcome, act, act_on, brought_all, brought_d
 use Rattle.cm_replay.specs.State.{Device, Here, Setting, State, at_start, device_at, idle_device, plan_here}
 use Rattle.cm_replay.specs.Writing.{fill_reply, mark_reply, write_reply}
 use Rattle.cm_replay.specs.declared.ending.End.{End}
-use Rattle.cm_replay.proofs.Come.{come-later}
+use Rattle.cm_expand.proofs.Come.{come-later}
 use Rattle.cm_replay.proofs.Counts.{either-way}
 use Rattle.cm_replay.proofs.Laws.{input, moves, output, served-in, served-out, stays, waits-early}
 use Rattle.cm_replay.proofs.SessionLaws.{AllKeep, IsSoundState, all-brought, all-idle, device_at-brought, first-idle, left-at, reached, set-other, set-same, sound-brought, sound-start, sound-stepped, step-well}

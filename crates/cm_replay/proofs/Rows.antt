@@ -1,5 +1,5 @@
--- Sessions on the demo board, worked by hand: what is put out and answered, as numbers in the order of the text.
-use Rattle.std.proofs.Common.{◌≡◌, ℕ, suc, ◌%◌, ℤ, pos, true, List, [], ◌∷◌, ◌++◌, length, replicate, codes, refl}
+-- Sessions on the demo board and on one with a FIFO, worked by hand: what is put out and answered, as numbers in the order of the text.
+use Rattle.std.proofs.Common.{◌≡◌, ℕ, suc, ◌%◌, ℤ, pos, true, List, [], ◌∷◌, ◌++◌, length, replicate, codes, refl, Some}
 use Rattle.std.specs.Prelude.{◌-ℤ◌, if◌then◌else◌}
 use Rattle.cm_base.specs.Source as source
 use Rattle.cm_board.specs.Board.{BoardText, SubText, idle_sub, maxdata_of, munge_of, no_sub, range_of, ranges_of}
@@ -413,3 +413,39 @@ runs_dry :
     ≡ ok ∷ ok ∷ ok ∷ pos 2 ∷ pos 0 ∷ minus 153 ∷ pos 0 ∷ minus 153 ∷ ok ∷ pos 0 ∷ ok ∷ pos 0 ∷ dry ∷ []
 unfolding maxdata_of munge_of ranges_of
 runs_dry = refl
+
+-- a board of one input with a FIFO of 4 that is drained a while after it is half full, and a level of 100
+abbrev delayed : ℕ → Setting
+delayed latency = record {
+  board = record {
+    version = 2;
+    name = codes "first";
+    subs = record (idle_sub kinds.Ai 1 255 (record { min = pos 0; max = pos 255; unit = 0 } ∷ [])) {
+      masks = record { start = 2; scan_begin = 16; convert = 2; scan_end = 32; stop = 32 };
+      scan_max = 1000000;
+      scans_max = 1000000;
+      buffer = 16;
+      fifo = Some (record { depth = 4; latency = latency });
+    } ∷ [];
+  };
+  signals = record (quiet 10000) { waves = record { sub = 0; chan = 0; wave = waves.Const (pos 100) } ∷ [] };
+}
+
+-- samples reach the buffer when the FIFO is drained: three at 2,500 and three at 5,500
+waits_in_the_fifo :
+    answers (delayed 1500) (
+    line 0 1 ops.OpenFile ∷ line 0 1 (ops.Cmd (timed 0 0 (trig source.now 0) 1000 (trig source.count 6) 0)) ∷ line 2000 1 (ops.Read 0 9) ∷ line 2500 1 (ops.Read 0 9)
+    ∷ line 5000 1 (ops.Read 0 9) ∷ line 5500 1 (ops.Read 0 9) ∷ line 5500 1 (ops.Read 0 9) ∷ [])
+    ≡ ok ∷ ok ∷ ok ∷ pos 0 ∷ ok ∷ pos 3 ∷ pos 0 ∷ pos 100 ∷ pos 0 ∷ pos 100 ∷ pos 0 ∷ pos 100 ∷ ok ∷ pos 0 ∷ ok ∷ pos 3 ∷ pos 0 ∷ pos 100 ∷ pos 0 ∷ pos 100 ∷ pos 0 ∷ pos 100
+    ∷ ok ∷ pos 0 ∷ done ∷ []
+unfolding maxdata_of munge_of ranges_of
+waits_in_the_fifo = refl
+
+-- the sample at 4,000 comes before the drain at that time and finds the FIFO full
+lost_in_the_fifo :
+    answers (delayed 3000) (
+    line 0 1 ops.OpenFile ∷ line 0 1 (ops.Cmd (timed 0 0 (trig source.now 0) 1000 (trig source.count 6) 0)) ∷ line 3999 1 (ops.Read 0 9) ∷ line 4000 1 (ops.Read 0 9)
+    ∷ line 4000 1 (ops.Read 0 9) ∷ line 4000 1 (ops.Read 0 9) ∷ [])
+    ≡ ok ∷ ok ∷ ok ∷ pos 0 ∷ ok ∷ pos 4 ∷ pos 0 ∷ pos 100 ∷ pos 0 ∷ pos 100 ∷ pos 0 ∷ pos 100 ∷ pos 0 ∷ pos 100 ∷ err ∷ pos 32 ∷ fifo ∷ pos 4 ∷ ok ∷ pos 0 ∷ idle ∷ []
+unfolding maxdata_of munge_of ranges_of
+lost_in_the_fifo = refl

@@ -1,6 +1,6 @@
 -- A command that is given its internal trigger.
-use Rattle.std.proofs.Common.{◌≡◌, ℕ, Bool, true, false, List, [], ◌∷◌, ◌++◌, codes, drop, take, Option, Some, None, Result, OnOk, refl, sym, ap, ◌∙◌, arith, subst}
-use Rattle.std.specs.Prelude.{is_some, not}
+use Rattle.std.proofs.Common.{◌≡◌, ℕ, Bool, true, false, List, [], ◌∷◌, ◌++◌, codes, Option, Some, None, Result, OnOk, refl, sym, ap, ◌∙◌, arith, subst}
+use Rattle.std.specs.Prelude.{is_some, not, if◌then◌else◌}
 use Rattle.std.proofs.lemmas.Fmt.{decimal_digit}
 use Rattle.std.proofs.lemmas.Result.{on_ok_weaker}
 use Rattle.cm_board.specs.Board.{IsSoundSub}
@@ -18,13 +18,15 @@ use Rattle.cm_replay.specs.CommandView.{IsCommand, its_schedule, running_of}
 use Rattle.cm_replay.specs.Forms.{form}
 use Rattle.cm_replay.specs.Planned.{IsSchedule}
 use Rattle.cm_replay.specs.Replies.{Replies, checked}
-use Rattle.cm_replay.specs.Running.{Running, samples}
+use Rattle.cm_replay.specs.Law.{served}
+use Rattle.cm_replay.specs.Running.{Running}
 use Rattle.cm_replay.specs.Schedules.{schedule_of}
 use Rattle.cm_replay.specs.State.{Device, Here, claim_of}
 use Rattle.cm_replay.specs.Texts.{count_text}
 use Rattle.cm_replay.specs.ToCome.{ToCome, all_to_come}
 use Rattle.cm_replay.specs.declared.command.Command.TheInside.{Inside}
 use Rattle.cm_replay.proofs.Forming.{both-pass, line-done}
+use Rattle.cm_replay.proofs.Pacing.{served-anew}
 use Rattle.cm_replay.proofs.Plans.{planned-schedule}
 
 -- a plan that has a trigger is planned as each sound plan
@@ -32,26 +34,14 @@ pub trigger-planned : (plan : Plan) → IsSoundSub (plan_text plan).sub → sign
 trigger-planned plan sub its_signals = planned-schedule (plan_text plan) (record { sub = sub; signals = its_signals; plan = plan.sound })
 
 -- and the command stays in step, since nothing has come yet
-pub trigger-command : (c : Inside) → IsCommand c → (plan : Plan) (board : ToCome) (time : ℕ) → c.ring.w ≡ 0 → plan_text plan ≡ record (plan_text c.plan) { trig = Some time } →
-    IsSchedule (schedule_of (plan_text plan)) → board ≡ all_to_come (plan_text plan) → IsCommand (record c { plan = plan; board = board })
-trigger-command c command plan board time none given planned all =
-    let s = schedule_of (plan_text plan) in
-    let step = command.in_step in
-    record {
-      planned = planned;
-      input = ap (λ (p : PlanText). is_output p.sub.kind) given ∙ command.input;
-      in_step = record {
-        level = step.level;
-        munge = step.munge ∙ sym (ap (λ (p : PlanText). munged_at p.sub p.cmd) given);
-        size = step.size ∙ sym (ap (λ (p : PlanText). p.sub.buffer) given);
-        r_ra = step.r_ra;
-        ra_w = step.ra_w;
-        within = omega (arith, none);
-        w_room = omega (arith, none);
-        held = step.held ∙ ap (λ w. drop c.ring.r (take w (samples (its_schedule c)))) none ∙ sym (ap (λ w. drop c.ring.r (take w (samples s))) none);
-        ahead = all ∙ ap (λ w. let t : ToCome = record { conversions = drop w s.conversions; complete = s.complete; edge = s.edge } in t) (sym none);
-      };
-    }
+pub trigger-command : (c : Inside) → IsCommand c → (plan : Plan) (board : ToCome) (time : ℕ) → served (running_of c) ≡ 0 → plan_text plan ≡ record (plan_text c.plan) { trig = Some time } →
+    IsSchedule (schedule_of (plan_text plan)) → board ≡ all_to_come (schedule_of (plan_text plan)) → IsCommand (record c { plan = plan; board = board })
+trigger-command c command plan board time none given planned all = record {
+  planned = planned;
+  out = command.out ∙ sym (ap (λ (p : PlanText). is_output p.sub.kind) given);
+  served = served-anew c.out (its_schedule c) (schedule_of (plan_text plan)) c.ring c.board board command.served (ap (λ (b : Bool). if b then c.ring.r else c.ring.w) command.out ∙ none)
+      (ap (λ (p : PlanText). munged_at p.sub p.cmd) given) (ap (λ (p : PlanText). p.sub.buffer) given) all;
+}
 
 -- what it is then
 pub running-triggered : (c : Inside) (plan : Plan) (board : ToCome) (time : ℕ) → c.end ≡ None → plan_text plan ≡ record (plan_text c.plan) { trig = Some time } →

@@ -1,8 +1,10 @@
 pub mod Answers
 pub mod Calling
-pub mod Coming
+pub mod ComingView
 pub mod CommandView
 pub mod Conversions
+pub mod DelayedView
+pub mod DirectView
 pub mod Filling
 pub mod Format
 pub mod Forms
@@ -10,6 +12,7 @@ pub mod Job
 pub mod JobView
 pub mod Law
 pub mod Planned
+pub mod Putting
 pub mod Reading
 pub mod Ready
 pub mod Refusals
@@ -20,6 +23,7 @@ pub mod SeatView
 pub mod Session
 pub mod SettingView
 pub mod State
+pub mod Storing
 pub mod Texts
 pub mod Timely
 pub mod ToCome

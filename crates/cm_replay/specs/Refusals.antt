@@ -1,21 +1,30 @@
 -- What a line leaves as it was.
-use Rattle.std.specs.Prelude.{◌≡◌, ◌≢◌, ℕ, length, Some}
+use Rattle.std.specs.Prelude.{◌≡◌, ◌≢◌, ℕ, length, set, Some, None}
 use Rattle.std.specs.Option.{is_some}
 use Rattle.cm_session.specs.declared.op.SessionLine.{SessionLine}
-use Rattle.cm_sub.specs.Files.{claim_at}
-use Rattle.cm_replay.specs.Answers.{Answer, Refused, Rejected}
+use Rattle.cm_sub.specs.Files.{claim_at, with_runner}
+use Rattle.cm_replay.specs.Answers.{Answer, Ended, Refused, Rejected}
+use Rattle.cm_replay.specs.Forms.{named_sub}
 use Rattle.cm_replay.specs.Session.{brought_all, step}
 use Rattle.cm_replay.specs.State.{Setting, State, device_at}
 
--- a line that is refused leaves the state as it was brought to its time
-abbrev pub Leaves : State → Answer → State → Type 0
-Leaves before (Refused error) after = after ≡ before
-Leaves before (Rejected step cmd) after = after ≡ before
-Leaves before other after = Unit {0}
+-- a subdevice is idle, with its command gone, and all else is as it was
+abbrev pub made_idle : ℕ → State → State
+made_idle sub state = record {
+  files = with_runner None sub state.files;
+  devices = set state.devices sub (record (device_at state.devices sub) { running = None });
+}
+
+-- a line of a subdevice that is refused leaves the state as it was brought to the line's time; one that reports an end makes the subdevice idle
+abbrev pub Leaves : ℕ → State → Answer → State → Type 0
+Leaves sub before (Refused error) after = after ≡ before
+Leaves sub before (Rejected step cmd) after = after ≡ before
+Leaves sub before (Ended e) after = after ≡ made_idle sub before
+Leaves sub before other after = Unit {0}
 
 -- the refusal law
 abbrev pub RefusalLaw : Type 0
-RefusalLaw = (s : Setting) (line : SessionLine) (state : State) → Leaves (brought_all line.time state) (step s line state).answer (step s line state).state
+RefusalLaw = (s : Setting) (line : SessionLine) (state : State) → Leaves (named_sub line.op) (brought_all line.time state) (step s line state).answer (step s line state).state
 
 -- a line never changes a command or a lock of another file
 pub record IsForeign (file i : ℕ) (before after : State) : Type 0 where

@@ -1,8 +1,7 @@
 -- What the code makes of a line, against what its definition says.
-use Rattle.std.specs.Prelude.{◌≡◌, ℕ, ◌≤◌, Bool, true, false, ◌&&◌, ◌==◌, not, List, ◌++◌, length, map, Option, Some, None, if◌then◌else◌}
+use Rattle.std.specs.Prelude.{◌≡◌, ℕ, ◌≤◌, Bool, true, false, ◌&&◌, ◌==◌, List, ◌++◌, length, map, Option, Some, None, if◌then◌else◌}
 use Rattle.cm_board.specs.Board.{BoardText, SubText, takes_commands}
 use Rattle.cm_cmd.specs.Command.{CmdText}
-use Rattle.cm_expand.specs.Rule.{is_output}
 use Rattle.cm_session.specs.Limits.{HasLimits, IsLimited}
 use Rattle.cm_session.specs.declared.op.Op.{Op}
 use Rattle.cm_session.specs.declared.op.Op.TheVariants as ops
@@ -16,7 +15,6 @@ use Rattle.cm_sub.specs.Claims.{use_checks}
 use Rattle.cm_replay.specs.Calling.{insn_here, insn_reply}
 use Rattle.cm_replay.specs.Answers.{Refused, Reply, kept}
 use Rattle.cm_replay.specs.Forms.{Form, form, kind_checks, named_sub}
-use Rattle.std.specs.List.{All}
 use Rattle.cm_replay.specs.Law.{IsSoundJob, Spot, served}
 use Rattle.cm_replay.specs.Ready.{AllCanMove, CanMove}
 use Rattle.cm_replay.specs.Running.{Running, arrived}
@@ -88,18 +86,6 @@ pub record AreMany (board : BoardText) (files : FilesText) (devices : List Devic
   pub claims : length files.claims ≡ length devices
   pub places : length devices ≡ length board.subs
 
--- a line that is played on a subdevice: not one that writes, and not a command of an output
-abbrev pub plays : SubText → Op → Bool
-plays sub (ops.Cmd cmd) = not (is_output sub.kind)
-plays sub (ops.Write number words) = false
-plays sub (ops.Fill number words) = false
-plays sub (ops.Mark number k) = false
-plays sub op = true
-
--- a line that is played on its subdevice
-abbrev pub is_played : BoardText → Op → Bool
-is_played board op = plays (sub_at board (named_sub op)) op
-
 -- a command where a subdevice accepts it
 abbrev pub tried_on : SubText → CmdText → Option CmdText
 tried_on sub cmd = if takes_commands sub && (tested sub cmd).0 == 0 then Some cmd else None
@@ -132,15 +118,14 @@ names_sub op = true
 abbrev pub spot_of : At → Spot
 spot_of at = record { sub = at.sub.now; signals = at.signals.now }
 
--- what a line can rely on where it acts: the file is open and the subdevice there, what is asked has its limits and is played, the
--- subdevice's command was brought to the time, and what was tried of the line's own command is at hand
+-- what a line can rely on where it acts: the file is open and the subdevice there, what is asked has its limits, the subdevice's command was
+-- brought to the time, and what was tried of the line's own command is at hand
 pub record CanAct (at : At) (op : Op) (tried : Option CmdText) (files : FilesText) (device : Device) : Type 0 where
   pub reached : IsReached at files
   pub limits : HasLimits op
   pub time : at.time ≤ at.signals.now.horizon
   pub whole : IsWhole at.sub.now device
   pub ready : CanMove (spot_of at) at.index at.time device.running
-  pub played : plays at.sub.now op ≡ true
   pub its_trial : tried ≡ tried_by at.sub.now op
 
 -- the same for a line, where all commands were brought to its time
@@ -150,13 +135,11 @@ pub record CanStep (s : Setting) (line : SessionLine) (tried : Option CmdText) (
   pub few : length state.devices ≤ 16
   pub whole : AreWhole s.board state.devices
   pub ready : AllCanMove s line.time state
-  pub played : is_played s.board line.op ≡ true
   pub its_trial : tried ≡ tried_of s.board line.op
 
 -- what the lines of a session can rely on from its start
 pub record CanReplay (s : Setting) (lines : List SessionLine) (tried : List (Option CmdText)) (devices : List Device) : Type 0 where
   pub job : IsSoundJob (record { board = s.board; signals = s.signals; lines = lines })
   pub few : length s.board.subs ≤ 16
-  pub played : All (λ line. is_played s.board line.op ≡ true) lines
   pub trials : tried ≡ map (λ line. tried_of s.board line.op) lines
   pub idle : devices ≡ map idle_device s.board.subs

@@ -3,7 +3,8 @@ use Rattle.std.specs.Prelude.{ℕ, ◌+◌, ◌-◌, min, Bool, true, ◌&&◌, 
 use Rattle.cm_expand.specs.Plan.{PlanText}
 use Rattle.cm_expand.specs.declared.conv.Conv.{Conv}
 use Rattle.cm_expand.specs.Rule.{is_output, munged_at}
-use Rattle.cm_replay.specs.Conversions.{come, munged_from}
+use Rattle.cm_expand.specs.Taking.{come}
+use Rattle.cm_replay.specs.Conversions.{munged_from}
 use Rattle.cm_replay.specs.Format.{Format}
 use Rattle.cm_replay.specs.declared.ending.End.{End}
 use Rattle.cm_replay.specs.declared.ending.End.TheVariants.{Done, Dry, Overrun, Underrun, Fifo}

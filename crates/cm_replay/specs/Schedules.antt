@@ -1,8 +1,10 @@
 -- What is planned for a command of a board.
-use Rattle.std.specs.Prelude.{ℕ, None, Some}
+use Rattle.std.specs.Prelude.{ℕ, Option, None, Some}
+use Rattle.cm_board.specs.declared.board.Fifo.{Fifo}
 use Rattle.cm_expand.specs.Items.{items_of}
 use Rattle.cm_expand.specs.Plan.{PlanText, is_complete, stop_edge_of}
 use Rattle.cm_expand.specs.Rule.{is_raw}
+use Rattle.cm_fifo.specs.Handed.{Handed, handed_of}
 use Rattle.cm_replay.specs.Format.{Format}
 use Rattle.cm_replay.specs.Running.{Schedule}
 
@@ -10,14 +12,19 @@ use Rattle.cm_replay.specs.Running.{Schedule}
 abbrev pub format_of : PlanText → Format
 format_of p = record { sub = p.sub; list = p.cmd.list; raw = is_raw p.cmd.flags }
 
--- what a plan comes to, where each conversion reaches the buffer when it is made
+-- what reaches the buffer of a plan's command: each conversion when it is made, or when the FIFO hands it over
+abbrev pub reaching : PlanText → Option Fifo → Handed
+reaching p None = record { arrivals = items_of p; lost_at = None }
+reaching p (Some f) = handed_of p f
+
+-- what a plan comes to
 abbrev pub schedule_of : PlanText → Schedule
 schedule_of p = record {
   plan = p;
   conversions = items_of p;
   complete = is_complete p;
-  arrivals = items_of p;
-  lost_at = None;
+  arrivals = (reaching p p.sub.fifo).arrivals;
+  lost_at = (reaching p p.sub.fifo).lost_at;
   edge = stop_edge_of p;
   horizon = p.signals.horizon;
   size = p.sub.buffer;

@@ -23,6 +23,7 @@ use crate::seat::Seat;
 use crate::setting::Setting;
 use crate::text::{put_fine, put_refused};
 use crate::trying::BoxedAccepted;
+use crate::writing::{fill, mark, write};
 use cm_base::transfer::NoMemory;
 use cm_board::board::Kind;
 use cm_session::op::{Op, SessionLine};
@@ -105,6 +106,9 @@ fn run<'a>(
         Op::Look { i, .. } => look(at, *i, files, seat, text),
         Op::Release { k, .. } => release(at, *k, files, seat, text),
         Op::Contents { .. } => contents(at, files, seat, text),
+        Op::Write { values, .. } => write(at, values.as_slice(), files, seat, text),
+        Op::Fill { values, .. } => fill(at, values.as_slice(), files, seat, text),
+        Op::Mark { k, .. } => mark(at, *k, files, seat, text),
         Op::InsnIntTrig { num, .. } => trigger(alloc, at, *num, files, seat, text),
         _ => instruct(at, op, files, seat, text),
     }
@@ -261,6 +265,6 @@ pub(crate) fn step<'a>(
     requires can { CanStep setting.now line.now tried.now (session.brought_all line.now.time (record { files = files.old; devices = seats.old.items })) }
     ensures { OnOk result (Steps (session.step setting.now line.now (record { files = files.old; devices = seats.old.items })) (record { files = files.new; devices = seats.new.items }) text.old.items text.new.items) }
 {
-    bring_all(seats, line.time);
+    bring_all(seats, line.time, text)?;
     act(alloc, setting, line, tried, files, seats, text)
 }

@@ -1,7 +1,6 @@
 // The lines that start commands.
-ghost use Rattle.std.specs.Prelude.{◌≡◌, ◌<◌, ◌≤◌, ◌^◌, ◌++◌, true, false, length, OnOk};
+ghost use Rattle.std.specs.Prelude.{◌≡◌, ◌<◌, ◌≤◌, ◌^◌, ◌++◌, true, length, OnOk};
 ghost use Rattle.cm_board.specs.Board.{takes_commands};
-ghost use Rattle.cm_expand.specs.Rule as kind;
 ghost use Rattle.cm_replay.specs.Answers.{Rejected};
 ghost use Rattle.cm_replay.specs.Calling.{cmd_reply};
 ghost use Rattle.cm_replay.specs.Forms.{form};
@@ -44,7 +43,6 @@ pub(crate) fn call<'a>(
     requires takes { takes_commands at.now.sub.now ≡ true }
     requires its_trial { tried.now ≡ tried_on at.now.sub.now cmd.now }
     requires time { at.now.time ≤ at.now.signals.now.horizon }
-    requires input { kind.is_output at.now.sub.now.kind ≡ false }
     ensures { OnOk result (Replies (checked (form (ops.Cmd cmd.now) (here_at at.now files.old seat.old)) (here_at at.now files.old seat.old)) files.new seat.new text.old.items text.new.items) }
 {
     if let Err(error) = files.may_use(at.file, at.index) {
@@ -71,7 +69,6 @@ fn start<'a>(
     requires within { at.now.index < length files.old.claims }
     requires passed { (tested at.now.sub.now cmd.now).0 ≡ 0 }
     requires time { at.now.time ≤ at.now.signals.now.horizon }
-    requires input { kind.is_output at.now.sub.now.kind ≡ false }
     ensures { OnOk result (Replies (cmd_reply (here_at at.now files.old seat.old) cmd.now) files.new seat.new text.old.items text.new.items) }
 {
     let sub = at.sub;

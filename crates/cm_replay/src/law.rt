@@ -15,7 +15,8 @@ pub fn what_is_read_is_a_prefix()
     ensures { PrefixLaw }
 {}
 
-/// A line that is refused leaves the state as it was brought to its time.
+/// A line that is refused leaves the state as it was brought to its time. One that reports an end, as
+/// `err 32` does, makes its subdevice idle and leaves all else so.
 pub fn refused_lines_leave_the_state()
     ensures { RefusalLaw }
 {}

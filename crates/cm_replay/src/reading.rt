@@ -5,7 +5,8 @@ ghost use Rattle.cm_expand.specs.Rule as kind;
 ghost use Rattle.cm_replay.specs.Answers.{Ended, idle};
 ghost use Rattle.cm_replay.specs.Forms.{form};
 ghost use Rattle.cm_replay.specs.Reading as spec;
-ghost use Rattle.cm_replay.specs.Replies.{IsReached, Replies, checked, here_at};
+ghost use Rattle.cm_replay.specs.Ready.{CanMove};
+ghost use Rattle.cm_replay.specs.Replies.{IsReached, Replies, checked, here_at, spot_of};
 ghost use Rattle.cm_session.specs.declared.op.Op.TheVariants as ops;
 ghost use Rattle.cm_sub.specs.Checks.{first_refusal, refuse};
 ghost use Rattle.cm_sub.specs.Claims.{is_other};
@@ -20,17 +21,6 @@ use cm_expand::rule::is_output;
 use cm_sub::errno::Errno;
 use cm_sub::files::Files;
 
-// Whether the subdevice is busy with another file.
-fn is_foreign(at: &At<'_>, files: &Files) -> bool
-    requires { at.now.index < length files.now.claims }
-    ensures { result ≡ is_other at.now.file (claim_at files.now at.now.index).runner }
-{
-    match files.runner(at.index) {
-        None => false,
-        Some(file) => file != at.file,
-    }
-}
-
 // What a line is refused that reads, where its own test holds.
 fn refuses(at: &At<'_>, files: &Files, test: bool) -> Result<(), Errno>
     requires { at.now.index < length files.now.claims }
@@ -40,7 +30,7 @@ fn refuses(at: &At<'_>, files: &Files, test: bool) -> Result<(), Errno>
     if is_output(sub.kind) {
         return Err(Errno::Inval);
     }
-    if is_foreign(at, files) {
+    if at.is_foreign(files) {
         return Err(Errno::Access);
     }
     if test {
@@ -63,8 +53,8 @@ fn mapped(seat: &Seat<'_>) -> u64
     }
 }
 
-// Reports an end, and makes the subdevice idle.
-fn end(
+/// Reports an end, and makes the subdevice idle.
+pub(crate) fn report_end(
     at: &At<'_>,
     end: End,
     files: &mut Files,
@@ -88,7 +78,8 @@ pub(crate) fn read(
     seat: &mut Seat<'_>,
     text: &mut Vec<u8>,
 ) -> Result<(), NoMemory>
-    requires { at.now.index < length files.old.claims }
+    requires within { at.now.index < length files.old.claims }
+    requires ready { CanMove (spot_of at.now) at.now.index at.now.time seat.old.running }
     ensures { OnOk result (Replies (checked (form (ops.Read at.now.index n) (here_at at.now files.old seat.old)) (here_at at.now files.old seat.old)) files.new seat.new text.old.items text.new.items) }
 {
     if let Err(error) = refuses(at, files, mapped(seat) != 0) {
@@ -98,7 +89,7 @@ pub(crate) fn read(
         None => put_idle(text),
         Some(command) => match command.reported_end() {
             None => command.read(n, text),
-            Some(last) => end(at, last, files, seat, text),
+            Some(last) => report_end(at, last, files, seat, text),
         },
     }
 }
@@ -111,7 +102,8 @@ pub(crate) fn map(
     seat: &mut Seat<'_>,
     text: &mut Vec<u8>,
 ) -> Result<(), NoMemory>
-    requires { at.now.index < length files.old.claims }
+    requires within { at.now.index < length files.old.claims }
+    requires ready { CanMove (spot_of at.now) at.now.index at.now.time seat.old.running }
     ensures { OnOk result (Replies (checked (form (ops.Map at.now.index n) (here_at at.now files.old seat.old)) (here_at at.now files.old seat.old)) files.new seat.new text.old.items text.new.items) }
 {
     if let Err(error) = refuses(at, files, false) {
@@ -124,7 +116,7 @@ pub(crate) fn map(
                 let count = command.map(n);
                 put_count(text, u64::from(count))
             }
-            Some(last) => end(at, last, files, seat, text),
+            Some(last) => report_end(at, last, files, seat, text),
         },
     }
 }
@@ -138,7 +130,8 @@ pub(crate) fn look(
     seat: &Seat<'_>,
     text: &mut Vec<u8>,
 ) -> Result<(), NoMemory>
-    requires { at.now.index < length files.now.claims }
+    requires within { at.now.index < length files.now.claims }
+    requires ready { CanMove (spot_of at.now) at.now.index at.now.time seat.now.running }
     ensures { OnOk result (Replies (checked (form (ops.Look at.now.index i) (here_at at.now files.now seat.now)) (here_at at.now files.now seat.now)) files.now seat.now text.old.items text.new.items) }
 {
     if let Err(error) = refuses(at, files, mapped(seat) <= u64::from(i)) {
@@ -159,7 +152,8 @@ pub(crate) fn release(
     seat: &mut Seat<'_>,
     text: &mut Vec<u8>,
 ) -> Result<(), NoMemory>
-    requires { at.now.index < length files.now.claims }
+    requires within { at.now.index < length files.now.claims }
+    requires ready { CanMove (spot_of at.now) at.now.index at.now.time seat.old.running }
     ensures { OnOk result (Replies (checked (form (ops.Release at.now.index k) (here_at at.now files.now seat.old)) (here_at at.now files.now seat.old)) files.now seat.new text.old.items text.new.items) }
 {
     if let Err(error) = refuses(at, files, mapped(seat) < u64::from(k)) {
@@ -182,7 +176,7 @@ pub(crate) fn contents(
     requires { at.now.index < length files.now.claims }
     ensures { OnOk result (Replies (checked (form (ops.Contents at.now.index) (here_at at.now files.now seat.now)) (here_at at.now files.now seat.now)) files.now seat.now text.old.items text.new.items) }
 {
-    if is_foreign(at, files) {
+    if at.is_foreign(files) {
         return put_refused(text, Errno::Access);
     }
     match &seat.running {

@@ -1,14 +1,13 @@
 // A session, line by line.
-ghost use Rattle.std.specs.Prelude.{◌≡◌, ◌≤◌, true, map, length, IfOk, OnOk, OnErr, IsErrOf};
+ghost use Rattle.std.specs.Prelude.{◌≡◌, ◌≤◌, map, IfOk, OnOk, OnErr, IsErrOf};
 ghost use Rattle.std.specs.Io.KnownBytes.{Appends};
 ghost use Rattle.std.specs.List.{All};
 ghost use Rattle.cm_base.specs.Causes.{Rose};
 ghost use Rattle.cm_base.specs.Transfer.{AppendsPrefix};
 ghost use Rattle.cm_board.specs.Board.{IsSoundSub};
 ghost use Rattle.cm_replay.specs.Job.{IsJob, setting_of};
-ghost use Rattle.cm_replay.specs.Replies.{CanReplay, is_played};
-ghost use Rattle.cm_expand.specs.Rule.{is_output};
-ghost use Rattle.cm_replay.specs.State.{idle_device, sub_at};
+ghost use Rattle.cm_replay.specs.Replies.{CanReplay};
+ghost use Rattle.cm_replay.specs.State.{idle_device};
 ghost use Rattle.cm_replay.specs.Texts.{replay_text};
 
 use crate::acting::step;
@@ -19,8 +18,7 @@ use crate::trying::{BoxedAccepted, try_all};
 use cm_base::outside::Sink;
 use cm_base::transfer::{NoMemory, flush, flush_full};
 use cm_board::board::{BoardDesc, Sub};
-use cm_expand::rule::is_output;
-use cm_session::op::{Op, SessionLine};
+use cm_session::op::SessionLine;
 use cm_sub::files::Files;
 use cm_sub::state::SubState;
 use std::alloc::Global;
@@ -29,10 +27,8 @@ use std::alloc::Global;
 pub use cm_base::transfer::TextStop as ReplayStop;
 
 /// Writes the text that is answered to a job's session, in pieces of about 64 KiB. A fault of the
-/// sink or want of memory leaves a prefix of the text written. Lines that write and commands of
-/// outputs aren't played yet.
+/// sink or want of memory leaves a prefix of the text written.
 pub fn replay<K: Sink>(alloc: Global, job: &Job, sink: &mut K) -> Result<(), ReplayStop>
-    requires { All (λ line. is_played job.now.board line.op ≡ true) job.now.lines }
     ensures ok { OnOk result (Appends (K.text sink.old) (K.text sink.new) (replay_text (setting_of job.now) job.now.lines)) }
     ensures prefix { OnErr result (AppendsPrefix (K.text sink.old) (K.text sink.new) (replay_text (setting_of job.now) job.now.lines)) }
     ensures fault { IsErrOf result ReplayStop.WriteFault → Rose (K.faults sink.old) (K.faults sink.new) }
@@ -100,28 +96,4 @@ fn idle_seat<'a>(alloc: Global, sub: &Sub) -> Result<Seat<'a>, NoMemory>
         state: SubState::new(alloc, sub.channels)?,
         running: None,
     })
-}
-
-/// Whether a replay plays a line yet: not one that writes, and not a command of an output.
-pub fn is_played(board: &BoardDesc, op: &Op) -> bool
-    ensures { result ≡ is_played board.now op.now }
-{
-    match op {
-        Op::Cmd { cmd } => {
-            let cmd = cmd.cmd();
-            !is_out(board, cmd.sub)
-        }
-        Op::Write { .. } | Op::Fill { .. } | Op::Mark { .. } => false,
-        _ => true,
-    }
-}
-
-// Whether a subdevice is an output.
-fn is_out(board: &BoardDesc, sub: u32) -> bool
-    ensures { result ≡ is_output (sub_at board.now sub).kind }
-{
-    match board.subs.get(sub as usize) {
-        None => false,
-        Some(sub) => is_output(sub.kind),
-    }
 }

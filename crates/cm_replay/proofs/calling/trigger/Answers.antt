@@ -17,4 +17,4 @@ returns c =
     let runs : h.device.running ≡ Some c.in-Some.command = sym (ap (λ (d : Device). d.running) c.seat.view_is) ∙ c.in-Some.is in
     let device = ap (λ (d : Device). record d { running = Some c.trigger.new.self }) c.seat.view_is ∙ ap (λ (r : Running). let d : Device = record h.device { running = Some r } in d) c.in_ok-trigger.ensures in
     trigger-replies h c.args.at.now.index c.args.number c.in-Some.command _ c.put_count.result c.args.text.now.items c.put_count.new.text.items runs passed
-    (sym c.waits.ensures.value ∙ c.if-not-waits.false) (sym c.takes_number.ensures ∙ c.if-not-takes_number.false) device c.put_count.ensures
+    (sym c.waits.ensures ∙ c.if-not-waits.false) (sym c.takes_number.ensures ∙ c.if-not-takes_number.false) device c.put_count.ensures

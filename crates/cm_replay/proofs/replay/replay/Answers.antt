@@ -1,4 +1,4 @@
-use Rattle.std.proofs.Common.{◌≡◌, ◌≤◌, List, OnErr, length, map, true, sym, ap, ◌∙◌, subst}
+use Rattle.std.proofs.Common.{◌≤◌, List, OnErr, length, map, sym, ap, ◌∙◌, subst}
 use Rattle.std.specs.List.{All}
 use Rattle.cm_base.specs.Transfer.{AppendsPrefix}
 use Rattle.cm_board.specs.Board.{BoardText}
@@ -6,7 +6,7 @@ use Rattle.cm_session.specs.Limits.{HasLimits}
 use Rattle.cm_session.specs.declared.op.SessionLine.{SessionLine}
 use Rattle.cm_replay.specs.Job.{JobText, setting_of}
 use Rattle.cm_replay.specs.JobView.{job_text}
-use Rattle.cm_replay.specs.Replies.{CanReplay, is_played, tried_of}
+use Rattle.cm_replay.specs.Replies.{CanReplay, tried_of}
 use Rattle.cm_replay.specs.Texts.{replay_text}
 use Rattle.cm_replay.proofs.Trials.{all-limited}
 use Rattle.cm_replay.proofs.replay.replay.Goals as goal
@@ -20,12 +20,10 @@ pub replay_lines-requires : goal.replay_lines-requires
 replay_lines-requires g c =
     let job : JobText = job_text c.job.inside in
     let few : length job.board.subs ≤ 16 = subst (λ (board : BoardText). length board.subs ≤ 16) c.board.view_is c.board.invariant.subs.high in
-    let played : All (λ (line : SessionLine). is_played job.board line.op ≡ true) job.lines = subst (λ (j : JobText). All (λ (line : SessionLine). is_played j.board line.op ≡ true) j.lines) (sym c.job.view_is) c.requires in
     subst (λ (lines : List SessionLine). CanReplay (setting_of job) lines c.deref-3.result.now c.in_ok-seats.seats.items) (sym c.deref-2.ensures.value)
     (record {
       job = record { is = c.job.invariant; subs = c.in_ok-seats.ensures.subs };
       few = few;
-      played = played;
       trials = c.deref-3.ensures.value ∙ c.in_ok-tried.ensures ∙ ap (λ (lines : List SessionLine). map (λ (line : SessionLine). tried_of job.board line.op) lines) c.deref.ensures.value;
       idle = c.in_ok-seats.ensures.seats;
     })

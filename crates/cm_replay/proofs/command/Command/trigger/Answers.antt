@@ -2,6 +2,8 @@ use Rattle.std.proofs.Common.{◌≡◌, None, sym, ap, ◌∙◌, subst}
 use Rattle.cm_board.specs.Board.{IsSoundSub}
 use Rattle.cm_signal.specs.Signals as signals
 use Rattle.cm_replay.specs.Calling.{trigger_on}
+use Rattle.cm_replay.specs.CommandView.{running_of}
+use Rattle.cm_replay.specs.Law.{served}
 use Rattle.cm_replay.specs.Running.{Running}
 use Rattle.cm_replay.proofs.Triggering.{not-some, running-triggered, trigger-command, trigger-planned}
 use Rattle.cm_replay.proofs.command.Command.trigger.Goals as goal
@@ -15,7 +17,7 @@ pub invariant_of-self : goal.invariant_of-self
 invariant_of-self c =
     let planned = trigger-planned c.triggered-plan.result (subst IsSoundSub (c.sub.view_is ∙ c.sub-sub.ensures) c.sub.invariant)
     (subst signals.IsSoundSignals (c.signals.view_is ∙ c.signals-signals.ensures) c.signals.invariant) in
-    let none : c.self.inside.ring.w ≡ 0 = subst (λ (r : Running). r.w ≡ 0) (sym c.self.view_is) c.requires.early in
+    let none : served (running_of c.self.inside) ≡ 0 = subst (λ (r : Running). served r ≡ 0) (sym c.self.view_is) c.requires.early in
     trigger-command c.self.inside c.self.invariant c.triggered-plan.result c.in_ok-self-inside.field-0 c.args.time none c.triggered-plan.ensures planned c.in_ok-self-inside.ensures
 
 pub returns : goal.returns

@@ -1,0 +1,12 @@
+-- How contracts see what is still to come.
+use Rattle.cm_replay.specs.ToCome.{ToCome}
+use Rattle.cm_replay.specs.declared.coming.Coming.TheInside.{Inside}
+use Rattle.cm_replay.specs.declared.coming.Feed.{Feed}
+use Rattle.cm_replay.specs.declared.coming.Feed.TheVariants as feeds
+
+abbrev pub by_feed : Feed → ToCome
+by_feed (feeds.Direct board) = board
+by_feed (feeds.Delayed board) = board
+
+abbrev pub to_come : Inside → ToCome
+to_come c = by_feed c.feed
