@@ -1,14 +1,12 @@
 // Jobs at the limits, with ample memory: no limit is lower than it says.
 ghost use Rattle.std.specs.Prelude.{None};
 
-use crate::text::Text;
-use cm_base::memory::{MemSink, MemSource};
+use crate::text::{Text, check_texts};
+use cm_base::memory::MemSource;
 use cm_base::outside::{Failed, Sink};
 use cm_base::transfer::NoMemory;
 use cm_cli::answer::answer;
 use cm_cli::status::Status;
-use std::alloc::Global;
-use std::process::Abort;
 use std::test::Fail;
 
 // An analog input of 16 bits with 64 channels, and all that a subdevice may have.
@@ -45,26 +43,6 @@ fn put_conversion(text: &mut Text, time: u64, index: u32, raw: u64) -> Result<()
     text.number(raw, "\n")
 }
 
-// Runs a job, whose answer must be this one.
-fn check(
-    rt: &impl Abort,
-    alloc: Global,
-    command: &str,
-    job: &Text,
-    wanted: &Text,
-) -> Result<(), Fail> {
-    let mut words = Vec::new(alloc);
-    words.push(command.to_string(alloc)?)?;
-    let bytes = job.bytes().to_vec(alloc)?;
-    let mut source = MemSource::new(bytes, 65_536, Vec::new(alloc));
-    let mut sink = MemSink::new(alloc, 64_000_000, 65_536, Vec::new(alloc))?;
-    let status = answer(alloc, &words, &mut source, &mut sink);
-    assert_eq!(rt; status, Status::Done);
-    assert_eq!(rt; sink.text().len(), wanted.bytes().len());
-    assert!(rt; sink.text() == wanted.bytes());
-    Ok(())
-}
-
 #[test]
 fn a_buffer_of_65536_samples_is_filled(rt: HostRuntime) -> Result<(), Fail> {
     let mut job = Text::of(rt.alloc(), LARGE)?;
@@ -74,7 +52,7 @@ fn a_buffer_of_65536_samples_is_filled(rt: HostRuntime) -> Result<(), Fail> {
     let mut wanted = Text::of(rt.alloc(), "ok\nok\nok 65536\n")?;
     wanted.repeat(65_536, "0 7\n")?;
     wanted.put("err 32 overrun 65536\n")?;
-    check(&rt, rt.alloc(), "replay", &job, &wanted)
+    check_texts(&rt, rt.alloc(), "replay", &job, &wanted)
 }
 
 #[test]
@@ -91,7 +69,7 @@ fn a_list_has_256_entries(rt: HostRuntime) -> Result<(), Fail> {
         }
     }
     wanted.put("done\n")?;
-    check(&rt, rt.alloc(), "expand", &job, &wanted)
+    check_texts(&rt, rt.alloc(), "expand", &job, &wanted)
 }
 
 #[test]
@@ -112,7 +90,7 @@ fn a_subdevice_has_64_waves(rt: HostRuntime) -> Result<(), Fail> {
         }
     }
     wanted.put("done\n")?;
-    check(&rt, rt.alloc(), "expand", &job, &wanted)
+    check_texts(&rt, rt.alloc(), "expand", &job, &wanted)
 }
 
 #[test]
@@ -129,7 +107,7 @@ fn a_table_has_64_levels(rt: HostRuntime) -> Result<(), Fail> {
         put_conversion(&mut wanted, 10 * scan, 0, 2 * (scan % 64))?;
     }
     wanted.put("done\n")?;
-    check(&rt, rt.alloc(), "expand", &job, &wanted)
+    check_texts(&rt, rt.alloc(), "expand", &job, &wanted)
 }
 
 #[test]
@@ -147,7 +125,7 @@ fn a_line_has_100000_edges_and_scans(rt: HostRuntime) -> Result<(), Fail> {
         put_conversion(&mut wanted, 5 + 10 * u64::from(edge), edge % 2, 0)?;
     }
     wanted.put("done\n")?;
-    check(&rt, rt.alloc(), "expand", &job, &wanted)
+    check_texts(&rt, rt.alloc(), "expand", &job, &wanted)
 }
 
 #[test]
@@ -161,7 +139,7 @@ fn signals_have_1000_triggers(rt: HostRuntime) -> Result<(), Fail> {
     job.put("session\nexpand 0 0 0 int:0 timer:1 now:0 count:1 count:1 0/0/ground\n")?;
     job.put("expand 1000 0 0 int:0 timer:1 now:0 count:1 count:1 0/0/ground\n")?;
     let wanted = Text::of(rt.alloc(), "1 0 0\ndone\n1000 0 0\ndone\n")?;
-    check(&rt, rt.alloc(), "expand", &job, &wanted)
+    check_texts(&rt, rt.alloc(), "expand", &job, &wanted)
 }
 
 #[test]
@@ -176,7 +154,7 @@ fn a_board_has_16_subdevices(rt: HostRuntime) -> Result<(), Fail> {
     job.put("test 16 0 now:0 timer:1 now:0 count:1 count:1 0/0/ground\n")?;
     let mut wanted = Text::of(rt.alloc(), "err 5\n")?;
     wanted.put("step 0 15 0 now:0 timer:1 now:0 count:1 count:1 0/0/ground\nerr 19\n")?;
-    check(&rt, rt.alloc(), "test", &job, &wanted)
+    check_texts(&rt, rt.alloc(), "test", &job, &wanted)
 }
 
 #[test]
@@ -192,7 +170,7 @@ fn a_job_has_1048576_bytes(rt: HostRuntime) -> Result<(), Fail> {
     let rest = 1_048_576usize.saturating_sub(job.bytes().len());
     job.repeat(rest as u32, "\n")?;
     assert_eq!(rt; job.bytes().len(), 1_048_576);
-    check(&rt, rt.alloc(), "test", &job, &wanted)
+    check_texts(&rt, rt.alloc(), "test", &job, &wanted)
 }
 
 // A sink that counts its calls and what they bring.

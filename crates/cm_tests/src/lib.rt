@@ -8,9 +8,19 @@ mod board_tests;
 #[cfg(test)]
 mod boards;
 #[cfg(test)]
+mod fault_tests;
+#[cfg(test)]
+mod fifo_tests;
+#[cfg(test)]
 mod job;
 #[cfg(test)]
+mod output_tests;
+#[cfg(test)]
 mod real_boards;
+#[cfg(test)]
+mod refusal_tests;
+#[cfg(test)]
+mod scan_tests;
 #[cfg(test)]
 mod second_tests;
 #[cfg(test)]
@@ -19,3 +29,5 @@ mod session_tests;
 mod tests;
 #[cfg(test)]
 mod text;
+#[cfg(test)]
+mod turns;

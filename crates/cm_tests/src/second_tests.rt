@@ -142,12 +142,12 @@ const JOBS: [Job; 18] = [
         status: Status::Done,
     },
     Job {
-        name: "a FIFO is read and not played",
+        name: "samples wait in a FIFO until the signals end",
         command: "replay",
         board: "comedi 2\n",
         signals: boards::TWO,
         lines: "fifo 4096 1000000000\nsignals 10000\nwave 0 0 const 100\nsession\n0 open 1\n0 cmd 1 0 0 now:0 timer:1000 now:0 count:1 count:6 0/0/ground\n3000 read 1 0 1\n5000 read 1 0 10\n5000 read 1 0 10\n",
-        answer: "ok\nok\nok 1\n0 100\nok 4\n0 100\n0 100\n0 100\n0 100\nerr 32 overrun 5\n",
+        answer: "ok\nok\nok 0\nok 0\nok 0\n",
         status: Status::Done,
     },
     Job {

@@ -118,7 +118,7 @@ const SESSIONS: [Session; 19] = [
         "0 open 1\n0 open 2\n0 cmd 1 0 0 now:0 timer:1000 now:0 count:1 count:6 0/0/ground\n2000 contents 2 0\n2000 contents 1 0\n2000 insn 1 0 read 0/0/ground 1\n2000 close 1\n2000 contents 2 0\n2000 insn 2 0 read 0/0/ground 1\n2000 contents 1 0\n",
         "ok\nok\nok\nerr 13\nok 3\nerr 16\nok\nok 0\nok 1 39321\nerr 22\n",
     ),
-    // Lines that aren't there for a session of instructions, and lines that aren't played yet.
+    // Lines that aren't there for a session of instructions. A line that writes is read as one of commands.
     (
         "insn",
         PLAIN,
@@ -129,7 +129,7 @@ const SESSIONS: [Session; 19] = [
         "replay",
         PLAIN,
         "0 open 1\n0 write 1 1 5\n0 read 1 0 1\n",
-        "refused 36 Limit\n",
+        "ok\nok 0 idle\nok 0 idle\n",
     ),
     (
         "replay",

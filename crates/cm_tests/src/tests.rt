@@ -1,6 +1,6 @@
-// Whole jobs, and jobs that are cut short.
+// Whole jobs, and what is looked at before a job is read.
 use crate::boards;
-use crate::job::{Job, check, text_of, word};
+use crate::job::{Job, check, word};
 use cm_base::memory::{MemSink, MemSource};
 use cm_cli::answer::answer;
 use cm_cli::status::Status;
@@ -180,51 +180,12 @@ fn answers_jobs(rt: HostRuntime) -> Result<(), Fail> {
     Ok(())
 }
 
-// A job of eight samples, whose answer the tests of faults cut.
-const SHORT: Job = Job {
-    name: "three samples",
-    command: "replay",
-    board: boards::FIRST,
-    signals: "signals 10000\nwave 0 0 const 100\nsession\n",
-    lines: "0 open 1\n0 cmd 1 0 0 now:0 timer:1000 now:0 count:1 count:3 0/0/ground\n2000 read 1 0 10\n2000 read 1 0 10\n",
-    answer: "ok\nok\nok 3\n0 100\n0 100\n0 100\nok 0 done\n",
-    status: Status::Done,
-};
-
-#[test]
-fn a_source_that_fails_is_reported(rt: HostRuntime) -> Result<(), Fail> {
-    let words = word(rt.alloc(), SHORT.command)?;
-    for call in [1u64, 2, 3, 4, 5, 6, 7] {
-        let fails = vec![in rt.alloc(); call]?;
-        let mut source = MemSource::new(text_of(rt.alloc(), &SHORT)?, 50, fails);
-        let mut sink = MemSink::new(rt.alloc(), 4096, 300, Vec::new(rt.alloc()))?;
-        let status = answer(rt.alloc(), &words, &mut source, &mut sink);
-        assert_eq!(rt; status, Status::ReadFault);
-        assert_eq!(rt; sink.text(), b"".as_slice());
-    }
-    Ok(())
-}
-
-#[test]
-fn a_sink_that_fails_is_reported(rt: HostRuntime) -> Result<(), Fail> {
-    let words = word(rt.alloc(), SHORT.command)?;
-    for call in [1usize, 2, 3, 12, 39] {
-        let fails = vec![in rt.alloc(); call as u64]?;
-        let mut source = MemSource::new(text_of(rt.alloc(), &SHORT)?, 700, Vec::new(rt.alloc()));
-        let mut sink = MemSink::new(rt.alloc(), 4096, 1, fails)?;
-        let status = answer(rt.alloc(), &words, &mut source, &mut sink);
-        assert_eq!(rt; status, Status::WriteFault);
-        assert_eq!(rt; sink.text().len(), call - 1);
-    }
-    Ok(())
-}
-
 #[test]
 fn words_are_read_before_the_source(rt: HostRuntime) -> Result<(), Fail> {
     let mut words = word(rt.alloc(), "replay")?;
     words.push("x".to_string(rt.alloc())?)?;
     let fails = vec![in rt.alloc(); 1]?;
-    let mut source = MemSource::new(text_of(rt.alloc(), &SHORT)?, 50, fails);
+    let mut source = MemSource::new(b"comedi 1\n".as_slice().to_vec(rt.alloc())?, 50, fails);
     let mut sink = MemSink::new(rt.alloc(), 4096, 300, Vec::new(rt.alloc()))?;
     let status = answer(rt.alloc(), &words, &mut source, &mut sink);
     assert_eq!(rt; status, Status::Usage);
