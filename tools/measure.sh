@@ -61,6 +61,24 @@ comments() {
     printf 'wrong\n'
 }
 
+# N words that are put out, in writes of a hundred.
+writes() {
+    board | sed '$d'
+    printf 'subdevice ao 2\nbits 12\nmunge offset\nrange -10000000 10000000 0\nsources now|int timer now count none|count\n'
+    printf 'tick 1\nscan 1 1000000\nconvert 1 1000\nlist 2\nscans 4000000\nbuffer 65536\n'
+    printf 'signals 1000000000000\nsession\n0 open 1\n0 cmd 1 1 0 int:0 timer:10 now:0 count:1 count:%d 0/0/ground\n' "$1"
+    awk -v n="$1" 'BEGIN {
+        for (i = 0; i < 100; i++) words = words " " (i * 7) % 4096
+        print "0 write 1 1" words; print "0 insn 1 1 inttrig 0"
+        for (i = 100; i < n; i += 100) print i * 10 - 500 " write 1 1" words
+        print n * 10 " contents 1 1"
+    }'
+}
+# A replay of N samples that come through a FIFO, in reads of twenty.
+delayed() {
+    replay "$1" "$2" | sed -e 's/^comedi 1$/comedi 2/' -e 's/^buffer 65536$/&\nfifo 512 200/'
+}
+
 # A row: what is made, the command, the unit, and the sizes.
 row() {
     name=$1 make=$2 wave=$3 command=$4 unit=$5; shift 5
@@ -77,6 +95,8 @@ row() {
 printf '%-28s %9s %12s %8s   %-10s %11s\n' work size instructions each '' 'peak memory'
 row 'replay, a constant' replay 'const 2500000' replay sample 1000 10000 100000 1000000
 row 'replay, a saw' replay 'saw -10000000 10000000 4096000' replay sample 1000 10000 100000 1000000
+row 'replay, a FIFO' delayed 'const 2500000' replay sample 1000 10000 100000
+row 'replay, outputs' writes '' replay word 1000 10000 100000
 row 'expand, four channels' expansion '' expand conversion 1000 10000 100000 1000000
 row 'expand, an edge a scan' edges '' expand conversion 1000 10000 100000
 row 'insn, readings' readings 'saw -10000000 10000000 4096000' insn line 1000 10000
