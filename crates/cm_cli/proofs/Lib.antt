@@ -1,5 +1,6 @@
 pub mod ExpandLines
 pub mod Expansions
+pub mod Nothing
 pub mod Rooms
 pub mod Served
 pub mod Tails

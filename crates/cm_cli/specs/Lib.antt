@@ -1,5 +1,7 @@
 pub mod Answer
 pub mod Asked
+pub mod Calls
+pub mod Comedi
 pub mod ExpandSession
 pub mod Said
 pub mod Serving
@@ -8,5 +10,6 @@ pub mod Statuses
 pub mod Stopped
 pub mod Tasks
 pub mod TestSession
+pub mod ThreadedSaid
 pub mod Top
 pub mod Totals

@@ -20,7 +20,7 @@ use cm_base::transfer::{NoMemory, ReadError, WriteFault, read_all, write_all};
 use std::alloc::Global;
 
 /// The most bytes that are read.
-const BYTE_LIMIT: u32 = 1_048_576;
+pub(crate) const BYTE_LIMIT: u32 = 1_048_576;
 
 /// Does the task that the arguments name with the input, and writes the answer.
 ///
@@ -99,7 +99,7 @@ fn respond<K: Sink>(alloc: Global, task: Task, bytes: &[u8], sink: &mut K) -> St
 }
 
 // Reports why the input is refused.
-fn decline<K: Sink>(alloc: Global, refused: Refused, sink: &mut K) -> Status
+pub(crate) fn decline<K: Sink>(alloc: Global, refused: Refused, sink: &mut K) -> Status
     ensures outcome { Concludes result (Declined refused) (K.text sink.old) (K.text sink.new) }
     ensures usage { result ≢ Status.Usage }
     ensures done { result ≢ Status.Done }
@@ -113,7 +113,7 @@ fn decline<K: Sink>(alloc: Global, refused: Refused, sink: &mut K) -> Status
 }
 
 // Writes a text, and gives the status unless the sink fails.
-fn conclude<K: Sink>(sink: &mut K, text: &[u8], status: Status) -> Status
+pub(crate) fn conclude<K: Sink>(sink: &mut K, text: &[u8], status: Status) -> Status
     ensures { ((result ≡ status) × Appends (K.text sink.old) (K.text sink.new) text.now)
         ⊎ ((result ≡ Status.WriteFault) × AppendsPrefix (K.text sink.old) (K.text sink.new) text.now
         × Rose (K.faults sink.old) (K.faults sink.new)) }

@@ -1,9 +1,9 @@
 -- A command's fields against what contracts see.
 use Rattle.std.proofs.Common.{◌≡◌, ℕ, ◌+◌, ◌<◌, ◌≤◌, ◌^◌, Bool, true, false, List, [], length, drop, Option, None, sym, ap, ap₂, ◌∙◌, arith, subst, ◌-◌, ◌++◌, min, take, get_or, codes, length-drop, length-take, get_or-drop, get_or-take}
 use Rattle.cm_ring_core.specs.Local.{Ring}
+use Rattle.cm_text.specs.Format.{IsSample, sample_lines}
 use Rattle.cm_replay.specs.CommandView.{IsCommand, IsInStep, IsPaced, IsServed, its_schedule, running_of}
 use Rattle.cm_replay.specs.Filling.{filled, moving}
-use Rattle.cm_replay.specs.Format.{IsSample, sample_lines}
 use Rattle.std.specs.Prelude.{nat_eq, ◌||◌, if◌then◌else◌}
 use Rattle.std.proofs.lemmas.Bool.{cond-false, cond-true}
 use Rattle.cm_replay.specs.Putting.{without}

@@ -31,7 +31,6 @@ pub mod Shapes
 pub mod Sizes
 pub mod Storings
 pub mod Takings
-pub mod Texts
 pub mod Tied
 pub mod Trials
 pub mod Triggering

@@ -4,10 +4,10 @@ use Rattle.std.specs.Prelude.{slice_index}
 use Rattle.cm_expand.specs.declared.conv.Conv.{Conv}
 use Rattle.cm_ring_core.specs.Local.{Ring}
 use Rattle.cm_ring_core.proofs.Rings.{same_ring}
+use Rattle.cm_text.specs.Outputs.{Output, output_text, output_texts}
 use Rattle.cm_replay.specs.Putting.{Moves, emptied, going, less}
 use Rattle.cm_replay.specs.ToCome.{ToCome}
-use Rattle.cm_replay.specs.Running.{Output, outputs}
-use Rattle.cm_replay.specs.Texts.{output_text, output_texts}
+use Rattle.cm_replay.specs.Running.{outputs}
 use Rattle.cm_expand.proofs.Come.{come-first}
 
 -- the lines of what goes out of a ring

@@ -16,9 +16,9 @@ use Rattle.cm_sub.specs.Checks.{number_of}
 use Rattle.cm_session.specs.declared.op.Op.{Op}
 use Rattle.cm_session.specs.declared.op.Op.TheVariants as ops
 use Rattle.cm_session.specs.declared.op.SessionLine.{SessionLine}
+use Rattle.cm_text.specs.Format.{Format, entry_at}
+use Rattle.cm_text.specs.Outputs.{Output}
 use Rattle.cm_replay.specs.Answers.{Answer, Begun, Data, Ended, Filled, Fine, Holds, Idle, Looked, Mapped, Marked, Refused, Rejected, Released, Taken, Triggered, Written}
-use Rattle.cm_replay.specs.Format.{Format, entry_at}
-use Rattle.cm_replay.specs.Running.{Output}
 use Rattle.cm_replay.specs.Session.{step}
 use Rattle.cm_replay.specs.State.{Setting, State, at_start}
 use Rattle.cm_replay.specs.declared.ending.End.{End}

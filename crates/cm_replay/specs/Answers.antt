@@ -3,7 +3,7 @@ use Rattle.std.specs.Prelude.{ℕ, List, Option, Some, None}
 use Rattle.cm_cmd.specs.Command.{CmdText}
 use Rattle.cm_sub.specs.Files.{FilesText, with_runner}
 use Rattle.cm_sub.specs.declared.errno.Errno.{Errno}
-use Rattle.cm_replay.specs.Format.{Format}
+use Rattle.cm_text.specs.Format.{Format}
 use Rattle.cm_replay.specs.Running.{Running}
 use Rattle.cm_replay.specs.State.{Device, Here}
 use Rattle.cm_replay.specs.declared.ending.End.{End}

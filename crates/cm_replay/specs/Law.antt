@@ -6,10 +6,11 @@ use Rattle.cm_expand.specs.Plan.{PlanText}
 use Rattle.cm_sample.specs.Rule.{map_from}
 use Rattle.cm_signal.specs.Signals.{SignalsText}
 use Rattle.cm_session.specs.declared.op.SessionLine.{SessionLine}
+use Rattle.cm_text.specs.Outputs.{Output}
 use Rattle.cm_replay.specs.Answers.{Answer, Begun, Ended, Filled, Looked, Released, Taken, Written}
 use Rattle.cm_replay.specs.Forms.{named_sub}
 use Rattle.cm_replay.specs.Job.{JobText, IsJob, setting_of}
-use Rattle.cm_replay.specs.Running.{Output, Running, arrived, due, is_out, munge_in, outputs, put_by, samples}
+use Rattle.cm_replay.specs.Running.{Running, arrived, due, is_out, munge_in, outputs, put_by, samples}
 use Rattle.cm_replay.specs.Schedules.{schedule_of, triggered}
 use Rattle.cm_replay.specs.Session.{brought_all, step}
 use Rattle.cm_replay.specs.State.{Setting, State, at_start, device_at, sub_at}

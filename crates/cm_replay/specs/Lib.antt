@@ -6,7 +6,6 @@ pub mod Conversions
 pub mod DelayedView
 pub mod DirectView
 pub mod Filling
-pub mod Format
 pub mod Forms
 pub mod Job
 pub mod JobView

@@ -2,7 +2,7 @@
 use Rattle.std.specs.Prelude.{◌≡◌, ℕ, ◌<◌, ◌≤◌, ◌^◌, false, length, slice_index, take}
 use Rattle.cm_expand.specs.Taking.{raw_words}
 use Rattle.cm_expand.specs.Taking.{NeverFalls}
-use Rattle.cm_replay.specs.Format.{IsFormat, IsSample}
+use Rattle.cm_text.specs.Format.{IsFormat, IsSample}
 use Rattle.cm_replay.specs.Running.{Schedule, is_out, samples}
 use Rattle.cm_replay.specs.Timely.{IsTimely}
 

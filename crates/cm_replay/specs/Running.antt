@@ -4,8 +4,9 @@ use Rattle.cm_expand.specs.Plan.{PlanText}
 use Rattle.cm_expand.specs.declared.conv.Conv.{Conv}
 use Rattle.cm_expand.specs.Rule.{is_output, munged_at}
 use Rattle.cm_expand.specs.Taking.{come}
+use Rattle.cm_text.specs.Format.{Format}
+use Rattle.cm_text.specs.Outputs.{Output}
 use Rattle.cm_replay.specs.Conversions.{munged_from}
-use Rattle.cm_replay.specs.Format.{Format}
 use Rattle.cm_replay.specs.declared.ending.End.{End}
 use Rattle.cm_replay.specs.declared.ending.End.TheVariants.{Done, Dry, Overrun, Underrun, Fifo}
 
@@ -113,13 +114,6 @@ brought time c = if_running c.end
     if_running : Option End → Running
     if_running None = moved_on c time
     if_running (Some e) = c
-
--- a word that a subdevice puts out
-pub record Output : Type 0 where
-  pub sub : ℕ
-  pub time : ℕ
-  pub index : ℕ
-  pub word : ℕ
 
 -- words that are put out, each when its conversion comes
 abbrev pub outputs : ℕ → List Conv → List ℕ → List Output

@@ -3,14 +3,9 @@ use Rattle.std.specs.Prelude.{ℕ, Option, None, Some}
 use Rattle.cm_board.specs.declared.board.Fifo.{Fifo}
 use Rattle.cm_expand.specs.Items.{items_of}
 use Rattle.cm_expand.specs.Plan.{PlanText, is_complete, stop_edge_of}
-use Rattle.cm_expand.specs.Rule.{is_raw}
 use Rattle.cm_fifo.specs.Handed.{Handed, handed_of}
-use Rattle.cm_replay.specs.Format.{Format}
+use Rattle.cm_text.specs.Format.{format_of}
 use Rattle.cm_replay.specs.Running.{Schedule}
-
--- how the samples of a plan's command are reported
-abbrev pub format_of : PlanText → Format
-format_of p = record { sub = p.sub; list = p.cmd.list; raw = is_raw p.cmd.flags }
 
 -- what reaches the buffer of a plan's command: each conversion when it is made, or when the FIFO hands it over
 abbrev pub reaching : PlanText → Option Fifo → Handed

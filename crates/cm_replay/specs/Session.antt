@@ -9,9 +9,10 @@ use Rattle.cm_sub.specs.declared.errno.Errno.{Errno}
 use Rattle.cm_session.specs.declared.op.Op.{Op}
 use Rattle.cm_session.specs.declared.op.Op.TheVariants as ops
 use Rattle.cm_session.specs.declared.op.SessionLine.{SessionLine}
+use Rattle.cm_text.specs.Outputs.{Output}
 use Rattle.cm_replay.specs.Answers.{Answer, Data, Fine, Refused, Reply}
 use Rattle.cm_replay.specs.Forms.{form, line_checks, named_sub}
-use Rattle.cm_replay.specs.Running.{Output, Running, brought, due}
+use Rattle.cm_replay.specs.Running.{Running, brought, due}
 use Rattle.cm_replay.specs.State.{Device, Here, Setting, State, device_at, sub_at}
 
 -- what a line that names a subdevice sees

@@ -4,9 +4,9 @@ use Rattle.std.specs.Fmt.{decimal}
 use Rattle.cm_cmd.specs.CommandText.{command_text}
 use Rattle.cm_sub.specs.Checks.{number_of}
 use Rattle.cm_session.specs.declared.op.SessionLine.{SessionLine}
+use Rattle.cm_text.specs.Format.{sample_line, sample_lines}
+use Rattle.cm_text.specs.Outputs.{output_texts}
 use Rattle.cm_replay.specs.Answers.{Answer, Begun, Data, Ended, Filled, Fine, Holds, Idle, Looked, Mapped, Marked, Refused, Rejected, Released, Taken, Triggered, Written}
-use Rattle.cm_replay.specs.Format.{sample_line, sample_lines}
-use Rattle.cm_replay.specs.Running.{Output}
 use Rattle.cm_replay.specs.Session.{Step, step}
 use Rattle.cm_replay.specs.State.{Setting, State, at_start}
 use Rattle.cm_replay.specs.declared.ending.End.{End}
@@ -47,15 +47,6 @@ answer_text Idle = codes "ok 0 idle\n"
 answer_text (Ended e) = end_text e
 answer_text (Rejected step cmd) = codes "err 11 " ++ decimal step ++ codes " " ++ command_text cmd ++ codes "\n"
 answer_text (Refused error) = codes "err " ++ decimal (number_of error) ++ codes "\n"
-
--- the line of a word that is put out
-abbrev pub output_text : Output → List ℕ
-output_text o = codes "out " ++ decimal o.sub ++ codes " " ++ decimal o.time ++ codes " " ++ decimal o.index ++ codes " " ++ decimal o.word ++ codes "\n"
-
--- the lines of words that are put out
-abbrev pub output_texts : List Output → List ℕ
-output_texts [] = []
-output_texts (o ∷ outputs) = output_text o ++ output_texts outputs
 
 -- what a step writes: what was put out stands before the answer
 abbrev pub step_text : Step → List ℕ

@@ -3,8 +3,8 @@ use Rattle.std.specs.Prelude.{ℕ, suc, ◌+◌, ◌-◌, Bool, true, ◌&&◌, 
 use Rattle.cm_board.specs.Board.{SubText, maxdata_of}
 use Rattle.cm_cmd.specs.Entry.{chan}
 use Rattle.cm_sample.specs.Rule.{map_from}
+use Rattle.cm_text.specs.Format.{entry_at}
 use Rattle.cm_replay.specs.Answers.{Filled, Idle, Marked, Reply, Written, goes_on, kept, unless_ended}
-use Rattle.cm_replay.specs.Format.{entry_at}
 use Rattle.cm_replay.specs.Reading.{reported_end}
 use Rattle.cm_replay.specs.Running.{Running, munge_in}
 use Rattle.cm_replay.specs.State.{Here}

@@ -1,9 +1,9 @@
 // The passing of time.
 ghost use Rattle.std.specs.Prelude.{◌≡◌, ◌≤◌, ◌++◌, length, map, OnOk};
 ghost use Rattle.std.specs.List.{All};
+ghost use Rattle.cm_text.specs.Outputs.{output_texts};
 ghost use Rattle.cm_replay.specs.Replies.{HasCome};
 ghost use Rattle.cm_replay.specs.Session.{brought_device, due_from, due_of};
-ghost use Rattle.cm_replay.specs.Texts.{output_texts};
 
 use crate::seat::Seat;
 use cm_base::transfer::NoMemory;

@@ -1,14 +1,14 @@
 // Words on their way out of a ring.
 ghost use Rattle.std.specs.Prelude.{◌≡◌, ◌+◌, ◌-◌, ◌<◌, ◌≤◌, ◌^◌, ◌++◌, length, take, slice_index, OnOk};
+ghost use Rattle.cm_text.specs.Outputs.{output_text, output_texts};
 ghost use Rattle.cm_replay.specs.Putting.{Moves, emptied, going, less, without};
 ghost use Rattle.cm_replay.specs.Running.{outputs};
-ghost use Rattle.cm_replay.specs.Texts.{output_text, output_texts};
 
 use crate::coming::Coming;
-use crate::text::put_output;
 use cm_base::transfer::NoMemory;
 use cm_expand::conv::Conv;
 use cm_ring_core::local::LocalRing;
+use cm_text::output::put_output;
 
 /// Puts the words out whose conversions have come by a time, one after the other, while there are
 /// marked ones, and appends their lines. After want of memory as many conversions are gone as words.

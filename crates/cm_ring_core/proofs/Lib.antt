@@ -1,6 +1,11 @@
 pub mod Cells
+pub mod Cores
+pub mod CutLaws
+pub mod Keeps
 pub mod Munged
+pub mod Places
 pub mod Rings
+pub mod Roles
 pub mod Stored
 pub mod Views
 pub mod Written

@@ -1,5 +1,9 @@
 pub mod Between
+pub mod Cut
 pub mod Held
+pub mod Kinds
+pub mod Law
+pub mod Lawful
 pub mod Local
 pub mod LocalView
 pub mod Pushed

@@ -1,6 +1,12 @@
-// A ring of samples for one thread, as an unbounded list cut at five places.
+// Rings of samples: one for one thread, as an unbounded list cut at five places, and the rule and the
+// kinds of step of a ring that three threads share.
 #![tactic(auto)]
 
+pub mod cell;
+pub mod kinds;
+pub mod law;
 pub mod local;
+pub mod rule;
 #[cfg(test)]
 mod tests;
+pub mod view;

@@ -2,5 +2,9 @@ pub mod Checks
 pub mod Claims
 pub mod Files
 pub mod FilesView
+pub mod Laws
+pub mod Owning
+pub mod OwnersView
 pub mod State
 pub mod StateView
+pub mod Turns

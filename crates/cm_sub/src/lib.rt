@@ -4,6 +4,10 @@
 pub mod claim;
 pub mod errno;
 pub mod files;
+pub mod law;
+pub mod owners;
 pub mod state;
+mod steps;
 #[cfg(test)]
 mod tests;
+mod turns;

@@ -1,10 +1,15 @@
-// Two files that take turns at a subdevice, and what a fresh subdevice keeps.
-ghost use Rattle.std.specs.Prelude.{◌≡◌, length};
+// Two files that take turns at a subdevice, two seats that share places, and what a fresh subdevice
+// keeps.
+ghost use Rattle.std.specs.Prelude.{◌≡◌, [], ◌∷◌, length, IfOk};
 
 use crate::errno::Errno;
 use crate::files::Files;
+use crate::owners::{Busy, Owners};
 use crate::state::SubState;
+use cm_base::transfer::NoMemory;
+use std::alloc::Global;
 use std::test::Fail;
+use std::thread::join;
 
 // What a file asks for.
 #[derive(Clone, Copy, Debug)]
@@ -136,4 +141,47 @@ fn errors_have_the_numbers_of_linux(rt: HostRuntime) -> Result<(), Fail> {
         assert_eq!(rt; error.number(), number);
     }
     Ok(())
+}
+
+#[test]
+fn a_place_has_one_owner_at_a_time(rt: HostRuntime) -> Result<(), Fail> {
+    let states = vec![in rt.alloc(); kept(rt.alloc(), 7)?, kept(rt.alloc(), 8)?]?;
+    let (owners, mut first) = Owners::open(rt.alloc(), states)?;
+    let state = owners.claim(&mut first, 0)?;
+    assert!(rt; state.values.as_slice() == [7].as_slice());
+    let mut other = owners.split(&mut first);
+    let Err(Busy) = owners.claim(&mut other, 0) else {
+        panic!(rt; "place 0 has another owner");
+    };
+    let second = owners.claim(&mut other, 1)?;
+    assert!(rt; second.values.as_slice() == [8].as_slice());
+    owners.give_back(&mut first, 0, state);
+    let state = owners.claim(&mut other, 0)?;
+    assert!(rt; state.values.as_slice() == [7].as_slice());
+    Ok(())
+}
+
+#[test]
+fn threads_claim_beside_each_other(rt: HostRuntime) -> Result<(), Fail> {
+    let states = vec![in rt.alloc(); kept(rt.alloc(), 7)?, kept(rt.alloc(), 8)?]?;
+    let (owners, mut first) = Owners::open(rt.alloc(), states)?;
+    let mut other = owners.split(&mut first);
+    let owners = &owners;
+    let claims = join(
+        &rt,
+        move || owners.claim(&mut first, 0).is_ok(),
+        move || owners.claim(&mut other, 1).is_ok(),
+    );
+    assert_eq!(rt; claims, (true, true));
+    Ok(())
+}
+
+// What a subdevice with one output keeps.
+fn kept(alloc: Global, value: u32) -> Result<SubState, NoMemory>
+    ensures { IfOk result (λ state. state.values ≡ value ∷ []) }
+{
+    Ok(SubState {
+        values: vec![in alloc; value]?,
+        outs: vec![in alloc; true]?,
+    })
 }

@@ -12,6 +12,8 @@ mod fault_tests;
 #[cfg(test)]
 mod fifo_tests;
 #[cfg(test)]
+mod gates;
+#[cfg(test)]
 mod job;
 #[cfg(test)]
 mod output_tests;
@@ -19,6 +21,8 @@ mod output_tests;
 mod real_boards;
 #[cfg(test)]
 mod refusal_tests;
+#[cfg(test)]
+mod run_tests;
 #[cfg(test)]
 mod scan_tests;
 #[cfg(test)]

@@ -1,6 +1,6 @@
 use Rattle.std.proofs.Common.{◌≡◌, ◌++◌, map, take, drop}
+use Rattle.cm_text.specs.Outputs.{output_texts}
 use Rattle.cm_replay.specs.Session.{brought_device, due_from}
-use Rattle.cm_replay.specs.Texts.{output_texts}
 use Rattle.cm_replay.proofs.passing.bring_all.Given as goal
 
 -- those before `i` are brought to the time, and the others stand

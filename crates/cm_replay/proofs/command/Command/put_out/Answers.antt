@@ -1,9 +1,9 @@
 use Rattle.std.proofs.Common.{◌≡◌, ◌≤◌, ◌++◌, true, List, None, sym, ap, ◌∙◌, subst, rules}
 use Rattle.std.proofs.lemmas.Result.{on_ok_weaker}
+use Rattle.cm_text.specs.Outputs.{Output, output_texts}
 use Rattle.cm_replay.specs.CommandView.{its_schedule}
 use Rattle.cm_replay.specs.Putting.{Moves}
-use Rattle.cm_replay.specs.Running.{Output, Running, arrived, due, is_out, put_out}
-use Rattle.cm_replay.specs.Texts.{output_texts}
+use Rattle.cm_replay.specs.Running.{Running, arrived, due, is_out, put_out}
 use Rattle.cm_replay.specs.ToCome.{ToCome, end_shown}
 use Rattle.cm_replay.specs.declared.ending.End.TheVariants.{Underrun}
 use Rattle.cm_replay.proofs.Pacing.{due-put, long, marked, put-command, running-put}

@@ -1,8 +1,8 @@
 use Rattle.std.proofs.Common.{◌≡◌, ◌+◌, ◌<◌, ◌-◌, ◌++◌, false, OnOk, codes, length, take, get_or, sym, ap, ◌∙◌, arith, subst}
 use Rattle.std.specs.Fmt.{decimal}
 use Rattle.cm_ring_core.specs.Local.{Ring}
+use Rattle.cm_text.specs.Format.{IsSample, sample_lines}
 use Rattle.cm_replay.specs.CommandView.{its_schedule}
-use Rattle.cm_replay.specs.Format.{IsSample, sample_lines}
 use Rattle.cm_replay.specs.Texts.{answer_text}
 use Rattle.cm_replay.specs.Reading.{taken}
 use Rattle.cm_replay.specs.Running.{Running, is_out}
@@ -14,23 +14,6 @@ put_taken-reported-requires-clause-held c =
     let input : is_out (its_schedule c.self.inside) ≡ false = subst (λ (r : Running). is_out r.schedule ≡ false) (sym c.self.view_is) c.requires.input in
     let step = in_step c.self.inside c.self.invariant input in
     omega (arith, c.read_alloc-granted.ensures.granted, step.level.m_w, subst (λ (r : Running). r.ra ≡ r.r) (sym c.self.view_is) c.requires.unmapped, ap (λ (ring : Ring). length ring.held) c.read_alloc-granted.ensures.after, length-ring c.self.inside c.self.invariant input)
-
-pub put_taken-reported-requires-clause-places : goal.put_taken-reported-requires-clause-places
-put_taken-reported-requires-clause-places c =
-    let input : is_out (its_schedule c.self.inside) ≡ false = subst (λ (r : Running). is_out r.schedule ≡ false) (sym c.self.view_is) c.requires.input in
-    let step = in_step c.self.inside c.self.invariant input in
-    omega (
-      arith,
-      c.read_alloc-granted.ensures.granted,
-      step.level.m_w,
-      subst (λ (r : Running). r.ra ≡ r.r) (sym c.self.view_is) c.requires.unmapped,
-      step.r_ra,
-      step.ra_w,
-      step.within,
-      c.self.invariant.planned.timely.within,
-      c.self.invariant.planned.few,
-      ap (λ (ring : Ring). ring.r) c.read_alloc-granted.ensures.after,
-    )
 
 pub put_taken-reported-requires-clause-codes : goal.put_taken-reported-requires-clause-codes
 put_taken-reported-requires-clause-codes c = λ i below.

@@ -1,13 +1,14 @@
-use Rattle.std.proofs.Common.{◌≡◌, ◌+◌, ◌-◌, ◌%◌, length, get_or, set, ap, ◌∙◌, arith}
+use Rattle.std.proofs.Common.{◌≡◌, ◌+◌, ◌-◌, ◌%◌, length, get_or, set, ap, subst, ◌∙◌, arith}
 use Rattle.std.proofs.lemmas.Grind.{get_or_default_zero}
-use Rattle.cm_ring_core.proofs.Views.{read_cell, wrote}
-use Rattle.cm_ring_core.specs.Local.{Ring}
+use Rattle.cm_ring_core.proofs.Views.{IsRing-ring_of, read_cell, wrote}
+use Rattle.cm_ring_core.proofs.CutLaws.{munge_local}
+use Rattle.cm_ring_core.specs.Local.{Ring, IsRing}
 use Rattle.cm_ring_core.specs.LocalView.{ring_of}
 use Rattle.cm_sample.specs.Rule.{munged_word}
 use Rattle.cm_ring_core.proofs.local.LocalRing.munge_one.Goals as goal
 
-pub returns : goal.returns
-returns c =
+pub returns-clause-after : goal.returns-clause-after
+returns-clause-after c =
     let l = c.self.inside in
     let size : c.len.result ≡ length l.cells.items = omega arith in
     let from_m = ap (λ (ring : Ring). ring.m) c.self.view_is in
@@ -27,3 +28,6 @@ returns c =
       cells = set ring.cells (ring.m % ring.size) (munged_word ring.rule ring.m (get_or ring.held (ring.m - ring.r) 0));
       held = set ring.held (ring.m - ring.r) (munged_word ring.rule ring.m (get_or ring.held (ring.m - ring.r) 0));
     }) c.self.view_is
+
+pub returns-clause-cut : goal.returns-clause-cut
+returns-clause-cut c = munge_local _ _ (subst IsRing c.self.view_is (IsRing-ring_of c.self.inside c.self.invariant)) c.requires (returns-clause-after c)

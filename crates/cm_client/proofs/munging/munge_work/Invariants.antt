@@ -1,0 +1,8 @@
+use Rattle.std.proofs.Common.{◌≡◌}
+use Rattle.cm_client.proofs.munging.munge_work.Given as goal
+
+abbrev pub invariant-loop : goal.invariant-loop
+invariant-loop g l = record {
+  table : l.munger.table ≡ l.initial.munger.table;
+  ring : l.munger.ring ≡ l.initial.munger.ring;
+}

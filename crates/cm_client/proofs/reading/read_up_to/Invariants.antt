@@ -1,0 +1,12 @@
+use Rattle.std.proofs.Common.{◌≡◌, ◌≤◌, MatchOption}
+use Rattle.std.specs.Bool.{⊤}
+use Rattle.cm_client.specs.Progress.{HasAll, IsSameRing}
+use Rattle.cm_client.proofs.reading.read_up_to.Given as goal
+
+abbrev pub invariant-loop : goal.invariant-loop
+invariant-loop g l = record {
+  all : HasAll l.reader l.words.items;
+  most : MatchOption l.most ⊤ (λ m. l.reader.part.released ≤ m);
+  asked : l.reader.part.asked ≡ l.initial.reader.part.asked;
+  of : IsSameRing l.initial.reader l.reader;
+}

@@ -1,0 +1,38 @@
+-- What a client has read of a ring, and where it stops.
+use Rattle.std.specs.Prelude.{◌≡◌, ℕ, ◌+◌, ◌≤◌, min, List, ◌++◌, length, Option, Some, None}
+use Rattle.cm_ring_core.specs.declared.view.End.{End}
+use Rattle.cm_ring_core.specs.Lawful.{IsFoundEnd}
+use Rattle.cm_ring.specs.Roles.{Reading}
+use Rattle.cm_client.specs.Samples.{first_munged, piece}
+
+-- the smaller of a count and a number that may be missing
+abbrev pub up_to : ℕ → Option ℕ → ℕ
+up_to count None = count
+up_to count (Some most) = min count most
+
+-- the number of samples to take isn't above an end's count
+abbrev pub IsTaken : Option ℕ → ℕ → Type 0
+IsTaken None count = ⊥
+IsTaken (Some most) count = most ≤ count
+
+-- a reader of the same ring
+abbrev pub IsSameRing : Reading → Reading → Type 0
+IsSameRing old new = (new.table ≡ old.table) × (new.ring ≡ old.ring)
+
+-- a reader has released so many samples more, which stand at the end of its words
+pub record HasRead (old new : Reading) (had has : List ℕ) (count : ℕ) : Type 0 where
+  pub same : new ≡ record old { part = record old.part { released = old.part.released + count; known = new.part.known; munged_looks = new.part.munged_looks } }
+  pub words : has ≡ had ++ piece old.ring old.part.released count
+  pub within : old.part.released + count ≤ length old.ring.samples
+
+-- the words are all those that the reader has released
+pub record HasAll (r : Reading) (words : List ℕ) : Type 0 where
+  pub none_mapped : r.mapped ≡ 0
+  pub are : words ≡ first_munged r.ring r.part.released
+  pub count : length words ≡ r.part.released
+  pub within : r.part.released ≤ length r.ring.samples
+
+-- why a client reads no further: it has as many samples as it takes, or all up to the end that it found
+abbrev pub Stops : Reading → Option ℕ → Option End → Type 0
+Stops r most None = most ≡ Some r.part.released
+Stops r most (Some e) = (r.part.found ≡ Some e) × (r.part.released ≡ e.count) × (r.part.released ≡ up_to e.count most) × IsFoundEnd r.ring r.part e.kind e.count

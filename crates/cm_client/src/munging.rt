@@ -1,0 +1,34 @@
+// A munger that follows its writer to the end.
+ghost use Rattle.std.specs.Prelude.{◌≡◌, MatchOption};
+
+use cm_ring::munger::Munger;
+use cm_sample::planned::Planned;
+use crossbeam_utils::Backoff;
+use std::sync::Wait;
+
+// How many samples are munged before the reader is shown them.
+const PIECE: u32 = 256;
+
+// After fewer samples the munger steps back, so that the writer gets ahead of it: else each sample
+// is fetched by itself from the writer's processor.
+const SMALL: u32 = 16;
+
+/// Munges in pieces until it has found the ring's end and munged all samples up to the end's count.
+pub fn munge_work<R: Wait + Sync, P: Planned>(rt: &R, mut munger: Munger<P>) -> Munger<P>
+    ensures of { (result.table ≡ munger.table) × (result.ring ≡ munger.ring) }
+    ensures end { MatchOption result.part.found ⊥ (λ e. result.part.munged ≡ e.count) }
+{
+    let backoff = Backoff::new();
+    for _ in rt.forever() {
+        if munger.munge_some(PIECE) >= SMALL {
+            continue;
+        }
+        if let Some(end) = munger.ended() {
+            if munger.munged() == end.count {
+                break;
+            }
+        }
+        backoff.snooze();
+    }
+    munger
+}

@@ -1,0 +1,269 @@
+// Reads to the end of a ring.
+ghost use Rattle.std.specs.Prelude.{◌≡◌, ◌⊎◌, ◌+◌, ◌-◌, ◌<◌, ◌≤◌, ◌++◌, ◌≢◌, min, length, take, true, false, Some, None, IfOk, IfSome, IsTrue, IsFalse, OnErr, MatchOption, ⊤};
+ghost use Rattle.cm_client.specs.Samples.{first_munged, munged_plan, piece};
+ghost use Rattle.cm_client.specs.Progress.{up_to, HasRead, HasAll, IsSameRing, Stops, IsTaken};
+ghost use Rattle.cm_ring_core.specs.Lawful.{IsFoundEnd};
+ghost use Rattle.cm_ring_core.specs.declared.view.EndKind.TheVariants.{Done, Cancelled};
+
+use crate::copying::copy_read;
+use crate::mapping::MapReader;
+use cm_base::gate::Gate;
+use cm_base::transfer::NoMemory;
+use cm_ring::reader::Reader;
+use cm_ring_core::view::End;
+use cm_sample::planned::Planned;
+use crossbeam_utils::Backoff;
+use std::alloc::{AllocError, Global};
+use std::sync::Wait;
+
+const PIECE: usize = 64;
+
+// After fewer samples the client steps back, so that the munger gets ahead.
+const SMALL: u32 = 16;
+
+// Reads a piece by copying, by way of `room`.
+#[tactic(auto, using(crate::proofs::Pieces::copied_piece))]
+fn copy_piece<P: Planned>(
+    reader: &mut Reader<P>,
+    words: &mut Vec<u32>,
+    room: &mut [u32],
+) -> Result<u32, AllocError>
+    requires mapped { reader.old.mapped ≡ 0 }
+    requires some { (0 < length room.old) × (length room.old ≤ 64) }
+    ensures read { IfOk result (HasRead reader.old reader.new words.old.items words.new.items) }
+    ensures few { IfOk result (λ count. count ≤ length room.old) }
+    ensures of { IsSameRing reader.old reader.new }
+{
+    let count = copy_read(reader, room);
+    words.extend_from_slice(&room[..count])?;
+    Ok(count as u32)
+}
+
+// Reads a piece in place.
+fn map_piece<P: Planned, G: Gate>(
+    reader: &mut Reader<P>,
+    words: &mut Vec<u32>,
+    most: u32,
+    gate: &G,
+    who: u32,
+) -> Result<u32, AllocError>
+    requires { reader.old.mapped ≡ 0 }
+    ensures read { IfOk result (HasRead reader.old reader.new words.old.items words.new.items) }
+    ensures few { IfOk result (λ count. count ≤ most) }
+    ensures of { IsSameRing reader.old reader.new }
+{
+    let mut map = MapReader::new(reader);
+    let count = map.contents(most);
+    push_words(&mut map, words, count)?;
+    if count > 0 {
+        gate.pass(who, 3);
+        map.release(count);
+    }
+    Ok(count)
+}
+
+// The words of the mapped samples.
+#[tactic(auto, using(crate::proofs::Pieces::pushed_more))]
+fn push_words<P: Planned>(
+    map: &mut MapReader<'_, P>,
+    words: &mut Vec<u32>,
+    count: u32,
+) -> Result<(), AllocError>
+    requires mapped { count ≡ map.old.reader.now.mapped }
+    requires within { map.old.reader.now.part.released + count ≤ length map.old.reader.now.ring.samples }
+    ensures same_reader { map.new.reader.ghost_name ≡ map.old.reader.ghost_name }
+    ensures reader { map.new.reader.now ≡ map.old.reader.now }
+    ensures words { IfOk result (λ _. words.new.items ≡ words.old.items ++ piece map.old.reader.now.ring map.old.reader.now.part.released count) }
+{
+    for i in 0..count {
+        words.push(map.word(i))?;
+    }
+    Ok(())
+}
+
+fn read_piece<P: Planned, G: Gate>(
+    reader: &mut Reader<P>,
+    words: &mut Vec<u32>,
+    most: u32,
+    by_map: bool,
+    gate: &G,
+    who: u32,
+) -> Result<u32, AllocError>
+    requires mapped { reader.old.mapped ≡ 0 }
+    requires some { 0 < most }
+    ensures read { IfOk result (HasRead reader.old reader.new words.old.items words.new.items) }
+    ensures few { IfOk result (λ count. count ≤ most) }
+    ensures of { IsSameRing reader.old reader.new }
+{
+    if by_map {
+        map_piece(reader, words, most, gate, who)
+    } else {
+        gate.pass(who, 3);
+        let mut copied = [0u32; PIECE];
+        let room = (most as usize).min(PIECE);
+        copy_piece(reader, words, &mut copied[..room])
+    }
+}
+
+// How many samples are read next: a piece, or what is left.
+fn next_piece(chunk: u32, most: Option<u64>, count: u64) -> u32
+    requires left { MatchOption most ⊤ (λ m. count < m) }
+    requires chunk { 1 ≤ chunk }
+    ensures some { 1 ≤ result }
+    ensures chunk { result ≤ chunk }
+    ensures left { IfSome most (λ m. count + result ≤ m) }
+{
+    match most {
+        None => chunk,
+        Some(m) => (m - count).min(chunk as u64) as u32,
+    }
+}
+
+// Whether so many samples are all that are taken.
+fn is_enough(most: Option<u64>, count: u64) -> bool
+    ensures more { IfSome most (λ m. IsFalse result → count ≢ m) }
+    ensures enough { IsTrue result → most ≡ Some count }
+{
+    match most {
+        None => false,
+        Some(m) => m == count,
+    }
+}
+
+// Reads one piece more, and says whether it is a large one.
+fn read_more<P: Planned, G: Gate>(
+    reader: &mut Reader<P>,
+    words: &mut Vec<u32>,
+    chunk: u32,
+    by_map: bool,
+    most: Option<u64>,
+    gate: &G,
+    who: u32,
+) -> Result<bool, AllocError>
+    requires chunk { 1 ≤ chunk }
+    requires all { HasAll reader.old words.old.items }
+    requires most { MatchOption most ⊤ (λ m. reader.old.part.released < m) }
+    ensures all { IfOk result (λ _. HasAll reader.new words.new.items) }
+    ensures most { IfOk result (λ _. MatchOption most ⊤ (λ m. reader.new.part.released ≤ m)) }
+    ensures asked { IfOk result (λ _. reader.new.part.asked ≡ reader.old.part.asked) }
+    ensures of { IsSameRing reader.old reader.new }
+{
+    let piece = next_piece(chunk, most, words.len() as u64);
+    let count = read_piece(reader, words, piece, by_map, gate, who)?;
+    if count == 0 {
+        return Ok(false);
+    }
+    gate.pass(who, 4);
+    Ok(SMALL <= count)
+}
+
+// The end, where it is found and so many samples are all.
+fn end_at<P: Planned>(reader: &mut Reader<P>, count: u64) -> Option<End>
+    ensures same { reader.new ≡ record reader.old { part = record reader.old.part { found = reader.new.part.found; end_looks = reader.new.part.end_looks } } }
+    ensures end { IfSome result (λ e. (reader.new.part.found ≡ Some e) × (e.count ≡ count) × IsFoundEnd reader.old.ring reader.old.part e.kind e.count) }
+{
+    let end = reader.ended()?;
+    if end.count == count { Some(end) } else { None }
+}
+
+// Reads up to the end, or up to so many samples.
+fn read_up_to<R: Wait + Sync, P: Planned, G: Gate>(
+    rt: &R,
+    reader: &mut Reader<P>,
+    words: &mut Vec<u32>,
+    chunk: u32,
+    by_map: bool,
+    most: Option<u64>,
+    gate: &G,
+    who: u32,
+) -> Result<Option<End>, AllocError>
+    requires chunk { 1 ≤ chunk }
+    requires all { HasAll reader.old words.old.items }
+    requires most { MatchOption most ⊤ (λ m. reader.old.part.released ≤ m) }
+    ensures all { IfOk result (λ _. HasAll reader.new words.new.items) }
+    ensures stops { IfOk result (Stops reader.new most) }
+    ensures asked { IfOk result (λ _. reader.new.part.asked ≡ reader.old.part.asked) }
+    ensures of { IsSameRing reader.old reader.new }
+{
+    let backoff = Backoff::new();
+    for _ in rt.forever() {
+        let count = words.len() as u64;
+        if is_enough(most, count) {
+            return Ok(None);
+        }
+        if let Some(end) = end_at(reader, count) {
+            return Ok(Some(end));
+        }
+        if !read_more(reader, words, chunk, by_map, most, gate, who)? {
+            backoff.snooze();
+        }
+    }
+    unreachable!()
+}
+
+// Waits for the end.
+fn wait_for_end<R: Wait + Sync, P: Planned>(rt: &R, reader: &mut Reader<P>) -> End
+    ensures same { reader.new ≡ record reader.old { part = record reader.old.part { found = Some result; end_looks = reader.new.part.end_looks } } }
+    ensures above { reader.old.part.released ≤ result.count }
+    ensures says { IsFoundEnd reader.old.ring reader.old.part result.kind result.count }
+{
+    let backoff = Backoff::new();
+    for _ in rt.forever() {
+        if let Some(end) = reader.ended() {
+            return end;
+        }
+        backoff.snooze();
+    }
+    unreachable!()
+}
+
+// Asks for the stop and waits for the end.
+fn stop_and_wait<R: Wait + Sync, P: Planned>(rt: &R, reader: &mut Reader<P>) -> End
+    ensures same { reader.new ≡ record reader.old { part = record reader.old.part { asked = true; found = Some result; end_looks = reader.new.part.end_looks } } }
+    ensures above { reader.old.part.released ≤ result.count }
+    ensures says { IsFoundEnd reader.new.ring reader.new.part result.kind result.count }
+{
+    reader.ask_stop();
+    wait_for_end(rt, reader)
+}
+
+/// Reads samples in pieces of at most `chunk`, in place or by copying, up to the end's count or up to
+/// `take` samples. After that many it asks for the stop and waits for the end. It gives the samples
+/// and the end. Where memory runs out, it asks for the stop, so that a writer that waits for room ends.
+pub fn read_to_end<R: Wait + Sync, P: Planned, G: Gate>(
+    rt: &R,
+    alloc: Global,
+    reader: &mut Reader<P>,
+    chunk: u32,
+    by_map: bool,
+    take: Option<u64>,
+    gate: &G,
+    who: u32,
+) -> Result<(Vec<u32>, End), NoMemory>
+    requires chunk { 1 ≤ chunk }
+    requires fresh { (reader.old.part.released ≡ 0) × (reader.old.mapped ≡ 0) }
+    ensures words { IfOk result (λ t. t.0.items ≡ first_munged reader.old.ring (up_to t.1.count take)) }
+    ensures count { IfOk result (λ t. length t.0.items ≡ up_to t.1.count take) }
+    ensures released { IfOk result (λ t. reader.new.part.released ≡ up_to t.1.count take) }
+    ensures mapped { IfOk result (λ t. reader.new.mapped ≡ 0) }
+    ensures within { IfOk result (λ t. up_to t.1.count take ≤ length reader.old.ring.samples) }
+    ensures end { IfOk result (λ t. (reader.new.part.found ≡ Some t.1) × IsFoundEnd reader.new.ring reader.new.part t.1.kind t.1.count) }
+    ensures cancelled { IfOk result (λ t. t.1.kind ≡ Cancelled → reader.old.part.asked ≡ false → IsTaken take t.1.count) }
+    ensures asked { IfOk result (λ t. (reader.new.part.asked ≡ reader.old.part.asked) ⊎ IsTaken take t.1.count) }
+    ensures whole { IfOk result (λ t. reader.old.ring.paced ≡ true → reader.old.part.asked ≡ false → take ≡ None → (t.1.kind ≡ Done) × (t.0.items ≡ munged_plan reader.old.ring)) }
+    ensures of { IsSameRing reader.old reader.new }
+    ensures no_memory { OnErr result (reader.new.part.asked ≡ true) }
+{
+    let mut words = Vec::new(alloc);
+    match read_up_to(rt, reader, &mut words, chunk, by_map, take, gate, who) {
+        Ok(Some(end)) => Ok((words, end)),
+        Ok(None) => {
+            let end = stop_and_wait(rt, reader);
+            Ok((words, end))
+        }
+        Err(_) => {
+            reader.ask_stop();
+            Err(NoMemory)
+        }
+    }
+}

@@ -1,0 +1,167 @@
+// Words through rings, with a thread for each end of a ring.
+ghost use Rattle.std.specs.Prelude.{◌≡◌, ◌<◌, ◌≤◌, ◌∷◌, [], length, take, drop, true, false, IfOk};
+ghost use Rattle.cm_ring_core.specs.Lawful.{first_writer};
+ghost use Rattle.cm_load.specs.Coming.{IsFresh, HasCome};
+ghost use Rattle.cm_board.specs.declared.board.Munge.TheVariants.{Offset};
+ghost use Rattle.cm_sample.specs.Rule.{IsRule, rule_text};
+
+use crate::reading::{Came, read_all};
+use crate::words::Stretch;
+use cm_base::transfer::NoMemory;
+use cm_board::board::Munge;
+use cm_client::feeding::feed;
+use cm_client::munging::munge_work;
+use cm_ring::munger::Munger;
+use cm_ring::open::open;
+use cm_ring::reader::Reader;
+use cm_ring::writer::{Closed, Writer};
+use cm_sample::planned::Planned;
+use cm_sample::rule::{MungeItem, MungeRule};
+use std::alloc::Global;
+use std::sync::Wait;
+use std::thread::{Threads, join};
+
+// The munge of all words: by an offset.
+fn offset_rule(alloc: Global, maxdata: u32) -> Result<MungeRule, NoMemory>
+    ensures { IfOk result (λ r. IsRule r × (r ≡ rule_text (record { kind = Offset; maxdata = maxdata } ∷ []) false false)) }
+{
+    let item = MungeItem {
+        kind: Munge::Offset,
+        maxdata,
+    };
+    Ok(MungeRule {
+        items: vec![in alloc; item]?,
+        out: false,
+        raw: false,
+    })
+}
+
+// Those of the words that are given at places.
+fn words_of<'a>(words: &'a [u32], places: Stretch) -> &'a [u32]
+    ensures words { result.now ≡ take places.count (drop places.first words.now) }
+    ensures few { length result.now ≤ 4294967295 }
+{
+    let first = words.len().min(places.first as usize);
+    let rest = &words[first..];
+    let count = rest.len().min(places.count as usize);
+    &rest[..count]
+}
+
+/// Moves the words at places through a new paced ring, and reports what came.
+pub fn move_words<R: Threads + Wait + Sync>(
+    rt: &R,
+    alloc: Global,
+    words: &[u32],
+    places: Stretch,
+    size: u32,
+    base: u32,
+    maxdata: u32,
+) -> Result<Came, NoMemory>
+    requires size { (0 < size) × (size ≤ 65536) }
+    ensures { IfOk result (λ c. (c.done ≡ true) × (c.count ≡ length (take places.count (drop places.first words.now)))) }
+{
+    let rule = offset_rule(alloc, maxdata)?;
+    let moved = words_of(words, places);
+    let (writer, munger, reader) = open(alloc, size, rule, true, base, moved)?;
+    Ok(stream(rt, writer, munger, reader, moved, places.first, maxdata))
+}
+
+// The writer's thread beside the two others.
+fn stream<R: Threads + Wait + Sync, P: Planned + Send + Sync>(
+    rt: &R,
+    writer: Writer<P>,
+    munger: Munger<P>,
+    reader: Reader<P>,
+    words: &[u32],
+    first: u32,
+    maxdata: u32,
+) -> Came
+    requires writer { (writer.part ≡ first_writer) × (writer.ring.samples ≡ words.now) × (writer.ring.paced ≡ true) }
+    requires reader { IsFresh reader }
+    ensures { HasCome reader.ring result }
+{
+    let (_, came) = join(
+        rt,
+        move || -> Closed<P>
+            requires { (writer.part ≡ first_writer) × (writer.ring.samples ≡ words.now) × (writer.ring.paced ≡ true) }
+        { feed(rt, writer, words) },
+        move || -> Came
+            requires { IsFresh reader }
+            ensures { HasCome reader.ring result }
+        { read_beside(rt, munger, reader, first, maxdata) },
+    );
+    came
+}
+
+// The munger's thread beside the reader's.
+fn read_beside<R: Threads + Wait + Sync, P: Planned + Send + Sync>(
+    rt: &R,
+    munger: Munger<P>,
+    reader: Reader<P>,
+    first: u32,
+    maxdata: u32,
+) -> Came
+    requires { IsFresh reader }
+    ensures { HasCome reader.ring result }
+{
+    let (_, came) = join(
+        rt,
+        move || -> Munger<P> { munge_work(rt, munger) },
+        move || -> Came
+            requires { IsFresh reader }
+            ensures { HasCome reader.ring result }
+        { read_all(rt, reader, first, maxdata) },
+    );
+    came
+}
+
+// The rings of which there are four at once.
+const SIZE: u32 = 256;
+
+const BASE: u32 = 4_294_967_290;
+
+// Two rings at once, with half of the places each.
+fn move_by_two<R: Threads + Wait + Sync>(
+    rt: &R,
+    alloc: Global,
+    words: &[u32],
+    places: Stretch,
+    maxdata: u32,
+) -> Result<Came, NoMemory>
+    ensures { IfOk result (λ c. c.done ≡ true) }
+{
+    let (front, back) = places.halves();
+    let (one, other) = join(
+        rt,
+        move || -> Result<Came, NoMemory>
+            ensures { IfOk result (λ c. c.done ≡ true) }
+        { move_words(rt, alloc, words, front, SIZE, BASE, maxdata) },
+        move || -> Result<Came, NoMemory>
+            ensures { IfOk result (λ c. c.done ≡ true) }
+        { move_words(rt, alloc, words, back, SIZE, BASE, maxdata) },
+    );
+    Ok(one?.and(other?))
+}
+
+/// Moves the words at places through four paced rings at once, a quarter through each.
+pub fn move_by_four<R: Threads + Wait + Sync>(
+    rt: &R,
+    alloc: Global,
+    words: &[u32],
+    places: Stretch,
+    maxdata: u32,
+) -> Result<Came, NoMemory>
+    ensures { IfOk result (λ c. c.done ≡ true) }
+{
+    let (front, back) = places.halves();
+    let (one, other) = join(
+        rt,
+        move || -> Result<Came, NoMemory>
+            ensures { IfOk result (λ c. c.done ≡ true) }
+        { move_by_two(rt, alloc, words, front, maxdata) },
+        move || -> Result<Came, NoMemory>
+            ensures { IfOk result (λ c. c.done ≡ true) }
+        { move_by_two(rt, alloc, words, back, maxdata) },
+    );
+    Ok(one?.and(other?))
+}

@@ -1,0 +1,71 @@
+-- The filter over the first samples of a list.
+use Rattle.std.proofs.Common.{◌≡◌, ℕ, ◌+◌, ◌%◌, ◌<◌, ◌≤◌, Bool, true, cond, List, [], ◌∷◌, ◌++◌, length, take, get_or, sym, ap, ◌∙◌, subst, Option, Some, None, arith}
+use Rattle.std.specs.Prelude.{slice_get, slice_index}
+use Rattle.std.proofs.lemmas.List.{take_more, length-take-le}
+use Rattle.cm_sample.proofs.Mapped.{length-map_from, get_or-map_from, map_from-same}
+use Rattle.cm_sample.specs.Rule.{item_word_if, munged_word}
+use Rattle.cm_ring_core.specs.declared.view.RingConstants.{RingConstants}
+use Rattle.cm_ring_core.specs.Lawful.{munged_at}
+use Rattle.cm_client.specs.Samples.{munged_plan}
+use Rattle.cm_loop.specs.declared.rule.LoopItem.{LoopItem}
+use Rattle.cm_loop.specs.Filter.{FilterText, AreWithin, filtered, all_filtered}
+use Rattle.cm_loop.specs.State.{StateText, StandsFor, IsNext}
+use Rattle.cm_loop.specs.Work.{IsWaiting}
+use Rattle.cm_loop.proofs.Outputs.{length_all_filtered, output_there, filtered_first}
+
+-- there are as many munged samples as samples, and each is that of its place
+pub length_munged : (ring : RingConstants) → length (munged_plan ring) ≡ length ring.samples
+length_munged ring = length-map_from (munged_word ring.rule) 0 ring.samples
+
+pub munged_there : (ring : RingConstants) (k : ℕ) → k < length ring.samples → get_or (munged_plan ring) k 0 ≡ munged_at ring k
+munged_there ring k h =
+    let here : 0 + k ≡ k = omega arith in
+    get_or-map_from (munged_word ring.rule) 0 ring.samples k 0 0 h ∙ ap (λ (p : ℕ). munged_word ring.rule p (get_or ring.samples k 0)) here
+
+-- the next sample of a list, given to a state that stands for those before it
+module _ (rule : FilterText) (x : List ℕ) (k : ℕ) (more : k < length x) (was : StateText) (same : was.rule ≡ rule) (stands : StandsFor was (take k x)) (word : ℕ) (is_word : word ≡ get_or x k 0) where
+  place : length (take k x) ≡ k
+  place = length-take-le k x (omega arith)
+
+  -- it fits its item
+  pub fits_item : AreWithin rule x → (item : LoopItem) → slice_get was.rule.items (was.count % length was.rule.items) ≡ Some item → word ≤ item.in_max
+  fits_item within item at =
+      let count : was.count ≡ k = stands.count ∙ place in
+      let le = within k item more (ap (λ (r : FilterText). slice_get r.items (k % length r.items)) (sym same) ∙ (ap (λ (j : ℕ). slice_get was.rule.items (j % length was.rule.items)) (sym count) ∙ at)) in omega arith
+
+  longer : take k x ++ word ∷ [] ≡ take (k + 1) x
+  longer = ap (λ (v : ℕ). take k x ++ v ∷ []) is_word ∙ sym (take_more x k 0 more)
+
+  module _ (is : StateText) (output : ℕ) (next : IsNext word output was is (take k x)) where
+    -- the output is the filter's over the whole list
+    pub output_is : output ≡ filtered rule x k
+    output_is =
+        next.output_is ∙ (ap (λ (r : FilterText). filtered r (take k x ++ word ∷ []) (length (take k x))) same
+        ∙ (ap (λ (l : List ℕ). filtered rule l (length (take k x))) longer ∙ (ap (filtered rule (take (k + 1) x)) place ∙ filtered_first rule x k (k + 1) (omega arith))))
+
+    pub stands_after : StandsFor is (take (k + 1) x)
+    stands_after = subst (λ (l : List ℕ). StandsFor is l) longer next.stands
+
+-- an output is the next sample of its plan
+pub put_there : (rule : FilterText) (x samples : List ℕ) (put at word : ℕ) → samples ≡ all_filtered rule x → at < length x → put ≡ at → word ≡ filtered rule x at → (put < length samples) × (slice_index samples put ≡ word)
+put_there rule x samples put at word plan low here is =
+    let all = length_all_filtered rule x in let size = ap (length {A = ℕ}) plan in
+    (omega arith, ap (λ (k : ℕ). slice_index samples k) here ∙ (ap (λ (l : List ℕ). get_or l at 0) plan ∙ (output_there rule x at low ∙ sym is)))
+
+-- and so is one that waits for room
+pub waiting_there : (rule : FilterText) (x samples : List ℕ) (next put taken word : ℕ) (waiting : Option ℕ) → samples ≡ all_filtered rule x → taken ≤ length x → waiting ≡ Some word → IsWaiting waiting put taken rule x → next ≡ put
+    → (next < length samples) × (slice_index samples next ≡ word)
+waiting_there rule x samples next put taken word waiting plan within is waits here =
+    let w : IsWaiting (Some word) put taken rule x = subst (λ (o : Option ℕ). IsWaiting o put taken rule x) is waits in
+    let one = w.0 in put_there rule x samples next put word plan (omega arith) here w.1
+
+-- where all samples were taken and no output waits, all were put
+pub all_put : (rule : FilterText) (x samples : List ℕ) (written put taken : ℕ) (waiting : Option ℕ) → samples ≡ all_filtered rule x → taken ≡ length x → waiting ≡ None → IsWaiting waiting put taken rule x → written ≡ put → written ≡ length samples
+all_put rule x samples written put taken waiting plan all is waits here =
+    let w : IsWaiting None put taken rule x = subst (λ (o : Option ℕ). IsWaiting o put taken rule x) is waits in
+    let size : length samples ≡ length (all_filtered rule x) = ap (length {A = ℕ}) plan in here ∙ (w ∙ (all ∙ (sym (length_all_filtered rule x) ∙ sym size)))
+
+-- raw samples stay as they are
+pub munged_raw : (ring : RingConstants) → ring.rule.raw ≡ true → munged_plan ring ≡ ring.samples
+munged_raw ring raw = map_from-same (munged_word ring.rule) 0 ring.samples
+    (λ p x. ap (λ (b : Bool). cond b x (item_word_if ring.rule.out (slice_get ring.rule.items (p % length ring.rule.items)) x)) raw)

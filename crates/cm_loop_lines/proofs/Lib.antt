@@ -1,0 +1,4 @@
+pub mod Kept
+pub mod Later
+pub mod Rules
+pub mod Words

@@ -1,0 +1,9 @@
+-- Conversions of an output beside those of an input.
+use Rattle.std.specs.Prelude.{Bool, true, ◌&&◌, nat_lt, List, [], ◌∷◌}
+use Rattle.cm_expand.specs.declared.conv.Conv.{Conv}
+
+-- each conversion of the second list comes later than the first's of the same place, as far as both have one
+abbrev pub are_later : List Conv → List Conv → Bool
+are_later [] puts = true
+are_later (sample ∷ samples) [] = true
+are_later (sample ∷ samples) (put ∷ puts) = nat_lt sample.time put.time && are_later samples puts

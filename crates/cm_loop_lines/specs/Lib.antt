@@ -1,0 +1,5 @@
+pub mod Forms
+pub mod Job
+pub mod JobView
+pub mod Later
+pub mod LoopPart

@@ -1,0 +1,2 @@
+pub mod LoopText
+pub mod Side

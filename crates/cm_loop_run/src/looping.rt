@@ -1,0 +1,92 @@
+// A whole loop.
+ghost use Rattle.std.specs.Prelude.{◌≡◌, ◌≤◌, take, IfOk};
+ghost use Rattle.cm_run.specs.Blocks as blocks;
+ghost use Rattle.cm_loop_lines.specs.Job.{input_of, output_of};
+ghost use Rattle.cm_loop_run.specs.LoopText as spec;
+
+use crate::filter::filter_of;
+use crate::rings::{LoopSide, stream_loop};
+use crate::side::FilterSide;
+use cm_base::gate::Gate;
+use cm_base::transfer::NoMemory;
+use cm_expand::rule::rule_of;
+use cm_loop::looped::Looped;
+use cm_loop::rule::LoopRule;
+use cm_loop::state::LoopState;
+use cm_loop_lines::job::LoopJob;
+use cm_ring::open::open;
+use cm_run::driving::outputs_block;
+use cm_run::ending::count_of;
+use cm_run::opening::{PacedRing, open_paced};
+use cm_run_core::client::ClientSide;
+use cm_run_core::streaming::BASE;
+use std::alloc::Global;
+use std::sync::Wait;
+use std::thread::Threads;
+
+// How many words the output's client takes, where there are more samples than conversions of the
+// output.
+fn take_of(samples: u64, outputs: u64) -> Option<u64>
+    ensures { result ≡ spec.take_of samples outputs }
+{
+    if outputs < samples { Some(outputs) } else { None }
+}
+
+// What comes out of the output's ring.
+fn loop_words<R: Threads + Wait + Sync, G: Gate + Sync>(
+    rt: &R,
+    alloc: Global,
+    job: &LoopJob,
+    filter: &LoopRule,
+    gate: &G,
+) -> Result<Vec<u32>, NoMemory>
+    requires { filter.now ≡ spec.filter_of job.now }
+    ensures { IfOk result (λ v. v.items ≡ take (blocks.count_of (output_of job.now)) (blocks.munged_words (output_of job.now) (spec.loop_words job.now))) }
+{
+    let input = job.input_plan();
+    let output = job.output_plan();
+    let munge = rule_of(alloc, input.sub(), &job.input)?;
+    let looped = Looped::new(input, &munge, filter);
+    let state = LoopState::new(alloc, filter)?;
+    let rule = rule_of(alloc, output.sub(), &job.output)?;
+    let PacedRing {
+        board,
+        munger,
+        reader,
+    } = open_paced(alloc, input, &job.input)?;
+    let (writer, out_munger, out_reader) =
+        open(alloc, output.sub().buffer, rule, true, BASE, looped)?;
+    let side = LoopSide {
+        munger,
+        filter: FilterSide::new(reader, writer, filter, state),
+        client: ClientSide {
+            munger: out_munger,
+            reader: out_reader,
+        },
+    };
+    let take = take_of(count_of(&input), count_of(&output));
+    let streamed = stream_loop(rt, alloc, board, side, take, gate)?;
+    Ok(streamed.words)
+}
+
+/// Runs the loop of a job, and gives its text, after all threads have ended: the filtered samples of
+/// the input at the times of the output's conversions, and the end line.
+pub fn loop_job<R: Threads + Wait + Sync, G: Gate + Sync>(
+    rt: &R,
+    alloc: Global,
+    job: &LoopJob,
+    gate: &G,
+) -> Result<Vec<u8>, NoMemory>
+    ensures { IfOk result (λ v. v.items ≡ spec.loop_text job.now) }
+{
+    let filter = filter_of(alloc, job)?;
+    let words = loop_words(rt, alloc, job, &filter, gate)?;
+    let input = job.input_plan();
+    outputs_block(
+        alloc,
+        job.output.cmd().sub,
+        job.output_plan(),
+        &words,
+        count_of(&input),
+    )
+}

@@ -1,0 +1,147 @@
+// The threads of a loop.
+ghost use Rattle.std.specs.Prelude.{◌≡◌, IfOk};
+ghost use Rattle.cm_run_core.specs.Streamed.{HasStreamed, IsFresh};
+
+use crate::side::FilterSide;
+use cm_base::gate::Gate;
+use cm_base::transfer::NoMemory;
+use cm_client::munging::munge_work;
+use cm_ring::munger::Munger;
+use cm_run_core::client::{ClientSide, Streamed, run_client};
+use cm_run_core::paced::PacedBoard;
+use cm_run_core::starting::Started;
+use cm_run_core::words::Words;
+use cm_sample::planned::Planned;
+use std::alloc::Global;
+use std::sync::Wait;
+use std::thread::{Threads, join};
+
+/// The number of the input's board in the gate's points, and that of the output's client.
+const BOARD: u32 = 0;
+const CLIENT: u32 = 1;
+
+/// What the threads of a loop own, but for the input's board: its munger, the filter, and the two ends
+/// of the output's ring that the client's side has.
+#[derive(Drop)]
+pub(crate) struct LoopSide<'a, P: Planned, Q: Planned> {
+    pub munger: Munger<P>,
+    pub filter: FilterSide<'a, P, Q>,
+    pub client: ClientSide<Q>,
+}
+
+/// Streams an input through a filter into an output, and gives what comes out of its ring, up to
+/// `take` words: the input's board and munger, the filter and the output's munger have threads of
+/// their own, and all have ended when it returns. It gives NoMemory, too, where a thread can't be
+/// made, and has asked for the stop then.
+pub(crate) fn stream_loop<
+    R: Threads + Wait + Sync,
+    P: Planned + Send + Sync,
+    Q: Planned + Send + Sync,
+    W: Words + Send,
+    G: Gate + Sync,
+>(
+    rt: &R,
+    alloc: Global,
+    board: PacedBoard<P, W>,
+    side: LoopSide<'_, P, Q>,
+    take: Option<u64>,
+    gate: &G,
+) -> Result<Streamed<Q>, NoMemory>
+    requires { IsFresh side.client.reader }
+    ensures { IfOk result (λ s. HasStreamed side.entry.client.reader.ring take s.words.items s.end s.reader) }
+{
+    let started = Started::new();
+    let writing = &started;
+    let (_, streamed) = join(
+        rt,
+        move || {
+            writing.tell();
+            board.put_all(rt, gate, BOARD)
+        },
+        move || -> Result<Streamed<Q>, NoMemory>
+            requires { IsFresh side.client.reader }
+            ensures { IfOk result (λ s. HasStreamed side.entry.client.reader.ring take s.words.items s.end s.reader) }
+        { munge_beside(rt, alloc, side, writing, take, gate) },
+    );
+    streamed
+}
+
+// Starts the input's munger where the board's thread has started, and goes on to the filter.
+fn munge_beside<
+    R: Threads + Wait + Sync,
+    P: Planned + Send + Sync,
+    Q: Planned + Send + Sync,
+    G: Gate + Sync,
+>(
+    rt: &R,
+    alloc: Global,
+    side: LoopSide<'_, P, Q>,
+    writing: &Started,
+    take: Option<u64>,
+    gate: &G,
+) -> Result<Streamed<Q>, NoMemory>
+    requires { IsFresh side.client.reader }
+    ensures { IfOk result (λ s. HasStreamed side.entry.client.reader.ring take s.words.items s.end s.reader) }
+{
+    let LoopSide {
+        munger,
+        filter,
+        client,
+    } = side;
+    if !writing.wait() {
+        filter.stop();
+        return Err(NoMemory);
+    }
+    let started = Started::new();
+    let munging = &started;
+    let (_, streamed) = join(
+        rt,
+        move || {
+            munging.tell();
+            let _munger = munge_work(rt, munger);
+        },
+        move || -> Result<Streamed<Q>, NoMemory>
+            requires { IsFresh client.reader }
+            ensures { IfOk result (λ s. HasStreamed client.entry.reader.ring take s.words.items s.end s.reader) }
+        { filter_beside(rt, alloc, filter, client, munging, take, gate) },
+    );
+    streamed
+}
+
+// Starts the filter where the input's munger has started, and goes on to the output's client.
+fn filter_beside<
+    R: Threads + Wait + Sync,
+    P: Planned + Send + Sync,
+    Q: Planned + Send + Sync,
+    G: Gate + Sync,
+>(
+    rt: &R,
+    alloc: Global,
+    filter: FilterSide<'_, P, Q>,
+    client: ClientSide<Q>,
+    munging: &Started,
+    take: Option<u64>,
+    gate: &G,
+) -> Result<Streamed<Q>, NoMemory>
+    requires { IsFresh client.reader }
+    ensures { IfOk result (λ s. HasStreamed client.entry.reader.ring take s.words.items s.end s.reader) }
+{
+    if !munging.wait() {
+        filter.stop();
+        return Err(NoMemory);
+    }
+    let started = Started::new();
+    let filtering = &started;
+    let (_, streamed) = join(
+        rt,
+        move || {
+            filtering.tell();
+            filter.filter_all(rt)
+        },
+        move || -> Result<Streamed<Q>, NoMemory>
+            requires { IsFresh client.reader }
+            ensures { IfOk result (λ s. HasStreamed client.entry.reader.ring take s.words.items s.end s.reader) }
+        { run_client(rt, alloc, client, filtering, false, take, gate, CLIENT) },
+    );
+    streamed
+}

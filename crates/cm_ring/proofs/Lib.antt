@@ -1,0 +1,4 @@
+pub mod InRow
+pub mod Mungers
+pub mod Readers
+pub mod Writers

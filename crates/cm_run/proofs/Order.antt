@@ -1,0 +1,70 @@
+-- Lines that have run, one line longer at a time; their text as the definition says it; and that a run without free lines has one text.
+use Rattle.std.proofs.Common.{◌≡◌, ℕ, List, [], ◌∷◌, ◌++◌, Option, refl, sym, ap, subst, ◌∙◌, append_assoc, append-nil}
+use Rattle.cm_board.specs.Board.{BoardText}
+use Rattle.cm_signal.specs.Signals.{SignalsText}
+use Rattle.cm_expand.specs.Plan.{PlanText}
+use Rattle.cm_ring.specs.Roles.{Reading}
+use Rattle.cm_run_lines.specs.Calls.{plan_at}
+use Rattle.cm_run_lines.specs.declared.line.Mode.{Mode}
+use Rattle.cm_run_lines.specs.declared.line.Mode.TheVariants.{Paced}
+use Rattle.cm_run_lines.specs.declared.line.RunLine.{RunLine}
+use Rattle.cm_run_lines.specs.declared.line.RunLine.TheVariants.{Go, Drive}
+use Rattle.cm_run.specs.Blocks.{IsBlock, IsGoBlock, IsRunText, ArePaced, PacedLaw, line_block, paced_block, run_text}
+use Rattle.cm_run.specs.Ran.{LineRan, HaveRun}
+use Rattle.cm_run.proofs.Ends.{go_fits}
+
+module _ (board : BoardText) (signals : SignalsText) where
+  pub ran_more : (before : List RunLine) (line : RunLine) (text block : List ℕ) (readers mine : List Reading) → HaveRun board signals before text readers → LineRan board signals line block mine
+      → HaveRun board signals (before ++ line ∷ []) (text ++ block) (readers ++ mine)
+  ran_more [] line text block readers mine ran one = record {
+    block = block;
+    rest = [];
+    mine = mine;
+    theirs = [];
+    text_is = ap (λ (l : List ℕ). l ++ block) ran.0 ∙ sym (append-nil block);
+    readers_are = ap (λ (l : List Reading). l ++ mine) ran.1 ∙ sym (append-nil mine);
+    fits = one;
+    go_on = (refl, refl);
+  }
+  ran_more (first ∷ before) line text block readers mine ran one = record {
+    block = ran.block;
+    rest = ran.rest ++ block;
+    mine = ran.mine;
+    theirs = ran.theirs ++ mine;
+    text_is = ap (λ (l : List ℕ). l ++ block) ran.text_is ∙ append_assoc ran.block ran.rest block;
+    readers_are = ap (λ (l : List Reading). l ++ mine) ran.readers_are ∙ append_assoc ran.mine ran.theirs mine;
+    fits = ran.fits;
+    go_on = ran_more before line ran.rest block ran.theirs mine ran.go_on one;
+  }
+
+  line_fits : (line : RunLine) (text : List ℕ) (readers : List Reading) → LineRan board signals line text readers → IsBlock board signals line text
+  line_fits (Go mode access t0 most cmd) text [] ran = absurd ran
+  line_fits (Go mode access t0 most cmd) text (r ∷ []) ran = go_fits (plan_at board signals t0 cmd) mode most text r ran
+  line_fits (Go mode access t0 most cmd) text (r ∷ s ∷ more) ran = absurd ran
+  line_fits (Drive t0 values cmd) text [] ran = ran
+  line_fits (Drive t0 values cmd) text (r ∷ more) ran = absurd ran
+
+  pub text_of_run : (lines : List RunLine) (text : List ℕ) (readers : List Reading) → HaveRun board signals lines text readers → IsRunText board signals lines text
+  text_of_run [] text readers ran = ran.0
+  text_of_run (line ∷ lines) text readers ran = record {
+    block = ran.block;
+    rest = ran.rest;
+    is = ran.text_is;
+    fits = line_fits line ran.block ran.mine ran.fits;
+    go_on = text_of_run lines ran.rest ran.theirs ran.go_on;
+  }
+
+  paced_go : (mode : Mode) (p : PlanText) (most : Option ℕ) (text : List ℕ) → mode ≡ Paced → IsGoBlock mode p most text → text ≡ paced_block p most
+  paced_go mode p most text is fits = subst (λ (m : Mode). IsGoBlock m p most text) is fits
+
+  pub paced_text : (lines : List RunLine) (text : List ℕ) → ArePaced lines → IsRunText board signals lines text → text ≡ run_text board signals lines
+  paced_text [] text paced is = is
+  paced_text (Go mode access t0 most cmd ∷ lines) text paced is =
+      is.is ∙ ap (λ (l : List ℕ). l ++ is.rest) (paced_go mode (plan_at board signals t0 cmd) most is.block paced.0 is.fits)
+      ∙ ap (λ (l : List ℕ). paced_block (plan_at board signals t0 cmd) most ++ l) (paced_text lines is.rest paced.1 is.go_on)
+  paced_text (Drive t0 values cmd ∷ lines) text paced is =
+      is.is ∙ ap (λ (l : List ℕ). l ++ is.rest) is.fits
+      ∙ ap (λ (l : List ℕ). line_block board signals (Drive t0 values cmd) ++ l) (paced_text lines is.rest paced is.go_on)
+
+pub paced_law : PacedLaw
+paced_law board signals lines text paced is = paced_text board signals lines text paced is

@@ -1,0 +1,9 @@
+pub mod Blocks
+pub mod Driving
+pub mod Going
+pub mod Idle
+pub mod Joined
+pub mod Limits
+pub mod Lines
+pub mod Ran
+pub mod Whole

@@ -1,0 +1,39 @@
+// What lines that have run give.
+ghost use Rattle.std.specs.Prelude.{◌≡◌, ◌++◌, IfOk};
+ghost use Rattle.cm_run.specs.Ran.{as_list};
+
+use crate::blocks::Blocks;
+use cm_base::transfer::NoMemory;
+use cm_expand::plan::Plan;
+use cm_ring::reader::Reader;
+
+/// A line's block, with the reader of its ring where it is a `go` line.
+#[derive(Drop)]
+pub struct LineDone<'a> {
+    pub block: Vec<u8>,
+    pub reader: Option<Reader<Plan<'a>>>,
+}
+
+/// The text of a run, with the readers of the `go` lines' rings in the order of the lines.
+#[derive(Drop)]
+pub struct Ran<'a> {
+    pub text: Blocks,
+    pub readers: Vec<Reader<Plan<'a>>>,
+}
+
+/// Adds a line after others.
+pub(crate) fn add_line<'a>(before: Ran<'a>, done: LineDone<'a>) -> Result<Ran<'a>, NoMemory>
+    ensures text { IfOk result (λ r. r.text ≡ before.entry.text ++ done.entry.block.items) }
+    ensures readers { IfOk result (λ r. r.readers.items ≡ before.entry.readers.items ++ as_list done.entry.reader) }
+{
+    let Ran {
+        mut text,
+        mut readers,
+    } = before;
+    let LineDone { block, reader } = done;
+    text.push(block)?;
+    if let Some(reader) = reader {
+        readers.push(reader)?;
+    }
+    Ok(Ran { text, readers })
+}

@@ -1,0 +1,179 @@
+// Output commands, whose words stand in the job.
+ghost use Rattle.std.specs.Prelude.{◌≡◌, ◌≤◌, ◌++◌, true, length, IfOk, None};
+ghost use Rattle.cm_client.specs.Samples.{munged_plan};
+ghost use Rattle.cm_expand.specs.Items.{items_of};
+ghost use Rattle.cm_expand.specs.PlanView.{plan_text};
+ghost use Rattle.cm_run.specs.Blocks as blocks;
+ghost use Rattle.cm_run.specs.Driving.{IsDrive, IsFeedSide};
+ghost use Rattle.cm_run_core.specs.Streamed.{HasStreamed, IsFresh};
+ghost use Rattle.cm_sample.specs.Rule.{IsRule};
+ghost use Rattle.cm_text.specs.Outputs.{output_texts};
+ghost use Rattle.cm_text.specs.Tails.{tail_text};
+
+use crate::done::LineDone;
+use crate::ending::{count_of, ending};
+use cm_base::gate::Gate;
+use cm_base::transfer::NoMemory;
+use cm_client::feeding::feed;
+use cm_expand::board::Board;
+use cm_expand::plan::Plan;
+use cm_expand::rule::rule_of;
+use cm_ring::open::open;
+use cm_ring::writer::Writer;
+use cm_run_core::client::{ClientSide, Streamed, run_client};
+use cm_run_core::starting::Started;
+use cm_run_core::streaming::BASE;
+use cm_sample::rule::MungeRule;
+use cm_test::test::Accepted;
+use cm_text::output::put_output;
+use cm_text::tail::{Tail, put_tail};
+use std::alloc::Global;
+use std::sync::Wait;
+use std::thread::{Threads, join};
+
+/// A `drive` line: an output command with its plan, and the client's words.
+#[derive(Clone, Copy)]
+pub struct Drive<'a> {
+    pub plan: Plan<'a>,
+    pub cmd: &'a Accepted,
+    pub values: &'a [u32],
+}
+
+// What the client's thread, which feeds the ring, owns.
+#[derive(Drop)]
+struct FeedSide<'a> {
+    writer: Writer<&'a [u32]>,
+    words: &'a [u32],
+}
+
+// The client's thread.
+fn run_feed<R: Wait + Sync>(rt: &R, side: FeedSide<'_>)
+    requires { IsFeedSide side }
+{
+    let FeedSide { writer, words } = side;
+    let _closed = feed(rt, writer, words);
+}
+
+// Moves words through a new paced ring, and gives what comes out of it.
+fn move_words<R: Threads + Wait + Sync, G: Gate + Sync>(
+    rt: &R,
+    alloc: Global,
+    words: &[u32],
+    size: u32,
+    rule: MungeRule,
+    gate: &G,
+    who: u32,
+) -> Result<Vec<u32>, NoMemory>
+    requires size { (1 ≤ size) × (size ≤ 65536) }
+    requires rule { IsRule rule }
+    requires few { length words.now ≤ 1024 }
+    ensures { IfOk result (λ v. v.items ≡ munged_plan (record { size = size; rule = rule; samples = words.now; paced = true; base = 4294967290 })) }
+{
+    let (writer, munger, reader) = open(alloc, size, rule, true, BASE, words)?;
+    let feeder = FeedSide { writer, words };
+    let client = ClientSide { munger, reader };
+    let started = Started::new();
+    let writing = &started;
+    let (_, streamed) = join(
+        rt,
+        move ||
+            requires { IsFeedSide feeder }
+        {
+            writing.tell();
+            run_feed(rt, feeder)
+        },
+        move || -> Result<Streamed<&[u32]>, NoMemory>
+            requires { IsFresh client.reader }
+            ensures { IfOk result (λ s. HasStreamed client.entry.reader.ring None s.words.items s.end s.reader) }
+        { run_client(rt, alloc, client, writing, false, None, gate, who) },
+    );
+    let Streamed {
+        words,
+        end: _,
+        reader: _,
+    } = streamed?;
+    Ok(words)
+}
+
+// The munged words of a line, by way of a ring of the size of its subdevice's buffer.
+fn drive_words<R: Threads + Wait + Sync, G: Gate + Sync>(
+    rt: &R,
+    alloc: Global,
+    drive: Drive<'_>,
+    gate: &G,
+    who: u32,
+) -> Result<Vec<u32>, NoMemory>
+    requires { IsDrive (plan_text drive.plan) drive.cmd.now drive.values.now }
+    ensures { IfOk result (λ v. v.items ≡ blocks.munged_words (plan_text drive.entry.plan) drive.entry.values.now) }
+{
+    let sub = drive.plan.sub();
+    let rule = rule_of(alloc, sub, drive.cmd)?;
+    move_words(rt, alloc, drive.values, sub.buffer, rule, gate, who)
+}
+
+// Appends the outputs of the conversions that have a word, at their times.
+fn put_outputs(text: &mut Vec<u8>, sub: u32, plan: Plan<'_>, words: &[u32]) -> Result<(), NoMemory>
+    ensures { IfOk result (λ _. text.new.items ≡ text.old.items ++ output_texts (blocks.outputs_of sub (items_of (plan_text plan.entry)) words.now)) }
+{
+    let mut board = Board::new(plan);
+    for i in 0..words.len() {
+        let Some(conversion) = board.next() else {
+            return Ok(());
+        };
+        put_output(text, sub, &conversion, words[i])?;
+    }
+    Ok(())
+}
+
+// The end line of an output command for which so many values were given.
+fn values_tail(plan: Plan<'_>, values: u64) -> Tail
+    requires { blocks.count_of (plan_text plan) ≤ 4000000 }
+    ensures { result ≡ blocks.values_tail (plan_text plan.entry) values }
+{
+    let count = count_of(&plan);
+    if values < count {
+        Tail::Underrun(values)
+    } else {
+        ending(plan, count)
+    }
+}
+
+/// The block of an output command: these words at the times of its conversions, and the end line where
+/// so many values were given. `sub` is its subdevice's number.
+pub fn outputs_block(
+    alloc: Global,
+    sub: u32,
+    plan: Plan<'_>,
+    words: &[u32],
+    values: u64,
+) -> Result<Vec<u8>, NoMemory>
+    requires { blocks.count_of (plan_text plan) ≤ 4000000 }
+    ensures { IfOk result (λ v. v.items ≡ output_texts (blocks.outputs_of sub (items_of (plan_text plan.entry)) words.now) ++ tail_text (blocks.values_tail (plan_text plan.entry) values)) }
+{
+    let mut block = Vec::new(alloc);
+    put_outputs(&mut block, sub, plan, words)?;
+    put_tail(&mut block, values_tail(plan, values))?;
+    Ok(block)
+}
+
+/// Moves the line's words through its ring, and makes its block. `sub` is its subdevice's number.
+pub(crate) fn drive_line<'a, R: Threads + Wait + Sync, G: Gate + Sync>(
+    rt: &R,
+    alloc: Global,
+    sub: u32,
+    drive: Drive<'a>,
+    gate: &G,
+    who: u32,
+) -> Result<LineDone<'a>, NoMemory>
+    requires drive { IsDrive (plan_text drive.plan) drive.cmd.now drive.values.now }
+    requires sub { (plan_text drive.plan).index ≡ sub }
+    ensures { IfOk result (λ d. (d.block.items ≡ blocks.drive_block (plan_text drive.entry.plan) drive.entry.values.now) × (d.reader ≡ None)) }
+{
+    let words = drive_words(rt, alloc, drive, gate, who)?;
+    let values = drive.values.len() as u64;
+    let block = outputs_block(alloc, sub, drive.plan, &words, values)?;
+    Ok(LineDone {
+        block,
+        reader: None,
+    })
+}

@@ -1,0 +1,14 @@
+// Runs with threads: the lines of a job, each streamed through a ring of its own, beside each other.
+#![tactic(auto)]
+
+pub mod blocks;
+pub mod claiming;
+pub mod done;
+pub mod driving;
+pub mod ending;
+pub mod going;
+pub mod law;
+pub mod lines;
+pub mod opening;
+pub mod running;
+pub mod whole;

@@ -1,0 +1,8 @@
+use Rattle.std.proofs.Common.{refl, ap, ◌∙◌, arith}
+use Rattle.cm_run_core.proofs.Sources.{filled}
+use Rattle.cm_run_core.proofs.words.from_start.Goals as goal
+
+pub invariant_of-result : goal.invariant_of-result
+invariant_of-result c =
+    let got = c.fill-count.ensures in
+    filled (record { board = c.fill-count.new.board; horizon = c.args.horizon; piece = c.fill-count.new.piece; count = c.fill-count.result; given = 0 }) c.args.board got.board refl c.requires.horizon got.few got.kept got.within got.some

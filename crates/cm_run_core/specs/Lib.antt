@@ -1,0 +1,4 @@
+pub mod Paced
+pub mod Source
+pub mod SourceView
+pub mod Streamed

@@ -1,0 +1,94 @@
+// The board's worker.
+ghost use Rattle.std.specs.Prelude.{◌≡◌, ◌+◌, ◌<◌, ◌≤◌, length, slice_index, MatchOption};
+ghost use Rattle.cm_expand.specs.PlanView.{plan_words};
+ghost use Rattle.cm_ring_core.specs.Lawful.{first_writer};
+ghost use Rattle.cm_run_core.specs.Streamed.{EndsTruly};
+
+use crate::words::{WordSource, Words};
+use cm_base::gate::Gate;
+use cm_expand::plan::Plan;
+use cm_ring::writer::{Closed, Writer};
+use cm_ring_core::view::EndKind;
+use cm_sample::planned::Planned;
+use crossbeam_utils::Backoff;
+use std::sync::Wait;
+
+// How many words a paced ring's writer puts before it publishes them.
+const PIECE: u32 = 64;
+
+/// Puts all words in order. Where the ring isn't paced each is published before the next one is tried;
+/// else they are published in pieces, and before the writer waits. Where the ring is full it
+/// ends with `Cancelled` if a look found the stop asked for, and else waits if the ring is paced, and
+/// ends with `Overrun` if it isn't. After all words it ends with `Done`.
+pub fn put_words<R: Wait + Sync, P: Planned, W: Words, G: Gate>(
+    rt: &R,
+    mut writer: Writer<P>,
+    mut words: W,
+    paced: bool,
+    gate: &G,
+    who: u32,
+) -> Closed<P>
+    requires fresh { writer.part ≡ first_writer }
+    requires plan { (writer.ring.samples ≡ W.all words) × (W.place words ≡ 0) }
+    requires paced { writer.ring.paced ≡ paced }
+    ensures of { (result.table ≡ writer.table) × (result.ring ≡ writer.ring) }
+    ensures end { EndsTruly result }
+{
+    let size = writer.size();
+    let backoff = Backoff::new();
+    let most = if paced { PIECE } else { 1 };
+    // How many words are put before the next place that is a multiple of the ring's size.
+    let mut left = 0;
+    // How many were put and aren't published yet.
+    let mut fresh = 0;
+    for _ in rt.forever() {
+        let Some(word) = words.next_word() else {
+            break;
+        };
+        if left == 0 {
+            gate.pass(who, 1);
+        }
+        if writer.put(word).is_ok() {
+            words.step();
+            left = if left == 0 { size - 1 } else { left - 1 };
+            fresh += 1;
+            if fresh >= most || left == 0 {
+                writer.publish();
+                fresh = 0;
+            }
+        } else {
+            if fresh > 0 {
+                writer.publish();
+                fresh = 0;
+            }
+            gate.pass(who, 2);
+            if writer.stop_asked() {
+                return writer.end(EndKind::Cancelled);
+            }
+            if !paced {
+                return writer.end(EndKind::Overrun);
+            }
+            backoff.snooze();
+        }
+    }
+    writer.publish();
+    writer.end(EndKind::Done)
+}
+
+/// Puts the expansion of a plan into its ring, as `put_words` does.
+pub fn board_work<'a, R: Wait + Sync, G: Gate>(
+    rt: &R,
+    writer: Writer<Plan<'a>>,
+    plan: Plan<'a>,
+    paced: bool,
+    gate: &G,
+    who: u32,
+) -> Closed<Plan<'a>>
+    requires fresh { writer.part ≡ first_writer }
+    requires plan { writer.ring.samples ≡ plan_words plan }
+    requires paced { writer.ring.paced ≡ paced }
+    ensures of { (result.table ≡ writer.entry.table) × (result.ring ≡ writer.entry.ring) }
+    ensures end { EndsTruly result }
+{
+    put_words(rt, writer, WordSource::new(plan), paced, gate, who)
+}

@@ -1,0 +1,48 @@
+// The board of a paced ring.
+ghost use Rattle.std.specs.Prelude.{◌≡◌, true};
+ghost use Rattle.cm_ring_core.specs.Lawful.{first_writer};
+
+use crate::boarding::put_words;
+use crate::words::Words;
+use cm_base::gate::Gate;
+use cm_ring::writer::Writer;
+use cm_sample::planned::Planned;
+use std::marker::Model;
+use std::sync::Wait;
+
+/// A board that waits for room: the writer of a paced ring, and all words of that ring's plan.
+/// Contracts see of it the ring.
+#[derive(Drop)]
+pub struct PacedBoard<P: Planned, W: Words> {
+    writer: Writer<P>,
+    words: W,
+}
+
+impl<P: Planned, W: Words> Model for PacedBoard<P, W> {
+    ghost use Rattle.cm_ring_core.specs.declared.view.RingConstants.{RingConstants};
+    ghost use Rattle.cm_run_core.specs.Paced.{IsPacedBoard};
+
+    ghost Value = { RingConstants };
+
+    ghost view = { λ b. b.writer.ring };
+
+    ghost invariant = { λ b. IsPacedBoard b.writer (W.all b.words) (W.place b.words) };
+}
+
+impl<P: Planned, W: Words> PacedBoard<P, W> {
+    /// Of a fresh writer, and of words of which none was given yet.
+    pub fn new(writer: Writer<P>, words: W) -> PacedBoard<P, W>
+        requires fresh { writer.part ≡ first_writer }
+        requires paced { writer.ring.paced ≡ true }
+        requires plan { (writer.ring.samples ≡ W.all words) × (W.place words ≡ 0) }
+        ensures { result ≡ writer.ring }
+    {
+        PacedBoard { writer, words }
+    }
+
+    /// Puts all words and ends with `Done`, or ends with `Cancelled` where the stop was asked for.
+    pub fn put_all<R: Wait + Sync, G: Gate>(self, rt: &R, gate: &G, who: u32) {
+        let PacedBoard { writer, words } = self;
+        let _closed = put_words(rt, writer, words, true, gate, who);
+    }
+}

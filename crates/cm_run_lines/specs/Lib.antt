@@ -1,0 +1,9 @@
+pub mod Calls
+pub mod Forms
+pub mod Job
+pub mod JobView
+pub mod RunLines
+pub mod RunPart
+pub mod Sessions
+pub mod Totals
+pub mod WatchLines

@@ -1,0 +1,4 @@
+pub mod Accepted
+pub mod Jobs
+pub mod Texts
+pub mod Totals

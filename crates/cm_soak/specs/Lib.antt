@@ -1,0 +1,4 @@
+pub mod Job
+pub mod Soak
+pub mod Sums
+pub mod Text

@@ -1,0 +1,12 @@
+// A large job made from a number, whose samples are streamed beside each other and summed.
+#![tactic(auto)]
+
+pub mod job;
+pub mod lines;
+pub mod part;
+pub mod soaking;
+pub mod summing;
+#[cfg(test)]
+mod tests;
+pub mod text;
+pub mod whole;

@@ -1,0 +1,5 @@
+pub mod Cuts
+pub mod Streams
+pub mod Coming
+pub mod Rounds
+pub mod Merged

@@ -1,0 +1,172 @@
+// A stream of scans over a ring's reader.
+ghost use Rattle.std.specs.Prelude.{◌≡◌, ◌+◌, ◌-◌, ◌≤◌, min, length, IfOk, IfSome, IfNone, IsTrue, true, Some, None};
+ghost use Rattle.cm_ring_core.specs.declared.view.End.{End};
+ghost use Rattle.cm_ring_core.specs.Lawful.{IsFoundEnd};
+ghost use Rattle.cm_client.specs.Samples.{piece};
+ghost use Rattle.cm_stream.specs.Stream.{want_of, asked_stream, is_over, IsOver};
+ghost use Rattle.cm_stream.specs.Step.{IsGiven, HasStepped};
+
+use crate::scan::Scan;
+use crate::step::StreamStep;
+use cm_ring::reader::Reader;
+use cm_ring_core::view::End;
+use cm_sample::planned::Planned;
+use std::alloc::{AllocError, Global};
+use std::marker::Model;
+
+// The first samples that are mapped.
+#[tactic(auto, using(cm_client::proofs::Pieces::piece_more))]
+fn mapped_words<P: Planned>(
+    alloc: Global,
+    reader: &mut Reader<P>,
+    count: u32,
+) -> Result<Vec<u32>, AllocError>
+    requires mapped { count ≤ reader.old.mapped }
+    requires within { reader.old.part.released + count ≤ length reader.old.ring.samples }
+    ensures same { reader.new ≡ reader.old }
+    ensures words { IfOk result (λ words. words.items ≡ piece reader.old.ring reader.old.part.released count) }
+{
+    let mut words = Vec::new(alloc);
+    for i in 0..count {
+        words.push(reader.word(i))?;
+    }
+    Ok(words)
+}
+
+/// The samples of a ring in scans of `n`, each of which is released when it is given. Contracts see
+/// of it `n` and its reader.
+#[derive(Drop)]
+pub struct ScanStream<P: Planned> {
+    alloc: Global,
+    reader: Reader<P>,
+    n: u32,
+    found: Option<End>,
+}
+
+impl<P: Planned> Model for ScanStream<P> {
+    ghost use Rattle.cm_stream.specs.Stream.{Streaming, streaming, IsStream};
+
+    ghost Value = { Streaming };
+
+    ghost view = { λ s. streaming s.n s.reader };
+
+    ghost invariant = { λ s. IsStream (streaming s.n s.reader) s.found };
+}
+
+impl<P: Planned> ScanStream<P> {
+    /// A stream over a reader of which nothing is read or mapped and no end is found. A scan has `n`
+    /// samples, at most as many as the ring has cells. It takes no memory.
+    pub fn new(alloc: Global, reader: Reader<P>, n: u32) -> ScanStream<P>
+        requires fresh { (reader.part.released ≡ 0) × (reader.part.found ≡ None) × (reader.mapped ≡ 0) }
+        requires n { (1 ≤ n) × (n ≤ reader.ring.size) }
+        ensures { result ≡ record { n = n; reader = reader } }
+    {
+        // It says in contracts where the reader's places are.
+        let _ = reader.mapped();
+        ScanStream {
+            alloc,
+            reader,
+            n,
+            found: None,
+        }
+    }
+
+    // A look at the end, where none was found.
+    fn look_for_end(&mut self)
+        ensures kept { self.new ≡ record self.old { reader = record self.old.reader { part = record self.old.reader.part { found = self.new.reader.part.found; end_looks = self.new.reader.part.end_looks } } } }
+        ensures looked { self.old.reader.part.found ≡ None → self.new.reader.part.end_looks ≡ self.old.reader.part.end_looks + 1 }
+        ensures stays { (e : End) → self.old.reader.part.found ≡ Some e → self.new.reader.part ≡ self.old.reader.part }
+        ensures says { (e : End) → self.new.reader.part.found ≡ Some e → IsFoundEnd self.new.reader.ring self.new.reader.part e.kind e.count }
+    {
+        if self.found.is_none() {
+            self.found = self.reader.ended();
+        }
+    }
+
+    // How many samples the next scan has.
+    fn want(&self) -> u32
+        ensures want { result ≡ want_of self.now }
+        ensures mapped { self.now.reader.mapped ≤ result }
+        ensures over { result ≡ 0 → IsOver self.now }
+    {
+        match self.found {
+            None => self.n,
+            Some(end) => (end.count - self.reader.released()).min(self.n as u64) as u32,
+        }
+    }
+
+    // Maps up to what is wanted, by a look at the munged count.
+    fn map_wanted(&mut self, want: u32)
+        requires { want ≡ want_of self.old }
+        ensures kept { self.new ≡ record self.old { reader = record self.old.reader { part = record self.old.reader.part { known = self.new.reader.part.known; munged_looks = self.old.reader.part.munged_looks + 1 }; mapped = self.new.reader.mapped } } }
+        ensures mapped { self.new.reader.mapped ≡ min want (self.new.reader.part.known - self.old.reader.part.released) }
+        ensures later { self.old.reader.part.known ≤ self.new.reader.part.known }
+    {
+        let more = want - self.reader.mapped();
+        self.reader.map(more);
+    }
+
+    // The scan that is mapped, or none where there is no memory for it.
+    fn give(&mut self, want: u32) -> Option<Scan>
+        requires want { (want ≡ want_of self.old) × (1 ≤ want) }
+        requires mapped { self.old.reader.mapped ≡ want }
+        ensures none { IfNone result (self.new ≡ self.old) }
+        ensures given { IfSome result (λ scan. IsGiven scan want self.old self.new) }
+        ensures kept { IfSome result (λ scan. self.new ≡ record self.old { reader = record self.old.reader { part = record self.old.reader.part { released = self.old.reader.part.released + want }; mapped = 0 } }) }
+    {
+        let first = self.reader.released();
+        let words = mapped_words(self.alloc, &mut self.reader, want).ok()?;
+        self.reader.release(want);
+        // It says in contracts where the reader's places are.
+        let _ = self.reader.mapped();
+        Some(Scan { first, words })
+    }
+
+    /// The next scan, where looks in this call find all of it: at the end where none was found, and
+    /// at the munged count. A scan that an end cuts has what is left up to the end's count. What is
+    /// given is released, and nothing else is.
+    pub fn step(&mut self) -> StreamStep
+        ensures { HasStepped result self.old self.new }
+    {
+        self.look_for_end();
+        let want = self.want();
+        self.map_wanted(want);
+        if want == 0 {
+            return StreamStep::Ended;
+        }
+        if self.reader.mapped() < want {
+            return StreamStep::Waiting;
+        }
+        match self.give(want) {
+            Some(scan) => StreamStep::Given(scan),
+            None => StreamStep::NoMemory,
+        }
+    }
+
+    /// Asks the ring's writer to stop. It takes no memory.
+    pub fn ask_stop(&mut self)
+        ensures { self.new ≡ asked_stream self.old }
+    {
+        self.reader.ask_stop();
+    }
+
+    /// The end that was found.
+    pub fn end(&self) -> Option<End>
+        ensures end { result ≡ self.now.reader.part.found }
+        ensures says { IfSome result (λ e. IsFoundEnd self.now.reader.ring self.now.reader.part e.kind e.count) }
+        ensures above { IfSome result (λ e. self.now.reader.part.released ≤ e.count) }
+    {
+        self.found
+    }
+
+    // Whether an end was found and all samples up to its count are released.
+    pub(crate) fn is_over(&self) -> bool
+        ensures is { result ≡ is_over self.now }
+        ensures over { IsTrue result → IsOver self.now }
+    {
+        match self.found {
+            None => false,
+            Some(end) => end.count == self.reader.released(),
+        }
+    }
+}

@@ -1,0 +1,9 @@
+// The lines of samples and of outputs, and of how a block of them ends.
+#![tactic(auto)]
+
+mod line;
+pub mod output;
+pub mod samples;
+pub mod tail;
+#[cfg(test)]
+mod tests;

@@ -1,0 +1,159 @@
+// The threads of the watched lines.
+ghost use Rattle.std.specs.Prelude.{◌≡◌, ◌+◌, ◌<◌, ◌^◌, [], length, IfOk, IsErr, MatchOption};
+ghost use Rattle.std.specs.List.{All};
+ghost use Rattle.std.specs.Thread.{IsSync};
+ghost use Rattle.cm_run.specs.Idle.{IsIdle};
+ghost use Rattle.cm_watch.specs.Watched.{HaveRead, HasWatched};
+
+use crate::client::{Watched, read_scans};
+use crate::side::BoardSide;
+use cm_base::gate::Gate;
+use cm_base::transfer::NoMemory;
+use cm_client::munging::munge_work;
+use cm_ring::munger::Munger;
+use cm_run::claiming::claim_waiting;
+use cm_run::lines::another_seat;
+use cm_run_core::paced::PacedBoard;
+use cm_run_core::starting::Started;
+use cm_run_core::words::Words;
+use cm_sample::planned::Planned;
+use cm_sub::owners::{OwnerSeat, Owners};
+use std::sync::Wait;
+use std::thread::{Threads, join};
+
+// A board's thread: it has its subdevice while it puts its words.
+fn board_thread<R: Wait + Sync, P: Planned, W: Words, G: Gate>(
+    rt: &R,
+    owners: &Owners,
+    mut seat: OwnerSeat,
+    sub: u32,
+    board: PacedBoard<P, W>,
+    gate: &G,
+    who: u32,
+)
+    requires idle { IsIdle owners.now seat }
+    requires place { sub < length owners.now.channels }
+{
+    let state = claim_waiting(rt, owners, &mut seat, sub);
+    board.put_all(rt, gate, who);
+    owners.give_back(&mut seat, sub, state);
+}
+
+// Takes the last side.
+fn last_side<P: Planned, W: Words>(
+    owners: &Owners,
+    sides: &mut Vec<BoardSide<P, W>>,
+) -> Option<BoardSide<P, W>>
+    requires { All (λ side. side.sub < length owners.now.channels) sides.old.items }
+    ensures { MatchOption result (sides.old.items ≡ []) (λ side.
+        (side.sub < length owners.now.channels)
+        × All (λ side. side.sub < length owners.now.channels) sides.new.items
+        × (length sides.old.items ≡ length sides.new.items + 1)) }
+{
+    // It is here for the contract alone: the owners have each side's place.
+    let _ = owners;
+    sides.pop()
+}
+
+/// Starts a board's thread and a munger's for each side, and reads all streams to their ends in this
+/// one. All threads have ended when it returns. It gives NoMemory, too, where a thread can't be made,
+/// and has asked every ring for the stop then.
+#[cycle(sides)]
+pub(crate) fn watch_sides<
+    R: Threads + Wait + Sync,
+    P: Planned + Send + Sync,
+    W: Words + Send,
+    G: Gate + Sync,
+>(
+    rt: &R,
+    owners: &Owners,
+    mut seat: OwnerSeat,
+    mut sides: Vec<BoardSide<P, W>>,
+    client: Watched<P>,
+    gate: &G,
+) -> Result<Watched<P>, NoMemory>
+    requires idle { IsIdle owners.now seat }
+    requires sides { All (λ side. side.sub < length owners.now.channels) sides.items }
+    requires few { length sides.items < 2 ^ 32 }
+    requires fresh { HaveRead client.merge.streams client.merge.streams client.words.items }
+    ensures { IfOk result (λ w. HasWatched client.merge.streams w.merge.streams w.words.items) }
+{
+    let Some(side) = last_side(owners, &mut sides) else {
+        return read_scans(rt, client, gate);
+    };
+    let theirs = another_seat(owners, &mut seat);
+    let who = sides.len() as u32;
+    let BoardSide { board, munger, sub } = side;
+    let started = Started::new();
+    let writing = &started;
+    let (_, watched) = join(
+        rt,
+        move ||
+            requires { IsIdle owners.now theirs × (sub < length owners.now.channels) }
+        {
+            writing.tell();
+            board_thread(rt, owners, theirs, sub, board, gate, who)
+        },
+        move || -> Result<Watched<P>, NoMemory>
+            requires { IsSync R.row × IsSync G.row × IsIdle owners.now seat × All (λ side. side.sub < length owners.now.channels) sides.items × (length sides.items < 2 ^ 32) × HaveRead client.merge.streams client.merge.streams client.words.items }
+            ensures { IfOk result (λ w. HasWatched client.merge.streams w.merge.streams w.words.items) }
+        { munge_beside(rt, owners, seat, sides, munger, writing, client, gate) },
+    );
+    watched
+}
+
+// Starts the munger's thread of a line whose board's thread has started, and goes on to the others.
+#[cycle(sides)]
+fn munge_beside<
+    R: Threads + Wait + Sync,
+    P: Planned + Send + Sync,
+    W: Words + Send,
+    G: Gate + Sync,
+>(
+    rt: &R,
+    owners: &Owners,
+    seat: OwnerSeat,
+    sides: Vec<BoardSide<P, W>>,
+    munger: Munger<P>,
+    writing: &Started,
+    client: Watched<P>,
+    gate: &G,
+) -> Result<Watched<P>, NoMemory>
+    requires idle { IsIdle owners.now seat }
+    requires sides { All (λ side. side.sub < length owners.now.channels) sides.items }
+    requires few { length sides.items < 2 ^ 32 }
+    requires fresh { HaveRead client.merge.streams client.merge.streams client.words.items }
+    ensures { IfOk result (λ w. HasWatched client.merge.streams w.merge.streams w.words.items) }
+{
+    if !writing.wait() {
+        return stopped(client);
+    }
+    let started = Started::new();
+    let munging = &started;
+    let (_, watched) = join(
+        rt,
+        move || {
+            munging.tell();
+            let _munger = munge_work(rt, munger);
+        },
+        move || -> Result<Watched<P>, NoMemory>
+            requires { IsSync R.row × IsSync G.row × IsIdle owners.now seat × All (λ side. side.sub < length owners.now.channels) sides.items × (length sides.items < 2 ^ 32) × HaveRead client.merge.streams client.merge.streams client.words.items }
+            ensures { IfOk result (λ w. HasWatched client.merge.streams w.merge.streams w.words.items) }
+        {
+            if !munging.wait() {
+                return stopped(client);
+            }
+            watch_sides(rt, owners, seat, sides, client, gate)
+        },
+    );
+    watched
+}
+
+// Asks every ring for the stop, since a thread can't be made.
+fn stopped<P: Planned>(client: Watched<P>) -> Result<Watched<P>, NoMemory>
+    ensures { IsErr result }
+{
+    let mut client = client;
+    client.merge.stop_all();
+    Err(NoMemory)
+}
