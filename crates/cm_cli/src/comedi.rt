@@ -8,7 +8,6 @@ ghost use Rattle.cm_cli.specs.Tasks.{task_of};
 
 use crate::answer::answer;
 use crate::call::{Call, call_of};
-
 use crate::soaking::perform_soak;
 use crate::status::Status;
 use crate::threaded::perform_threaded;

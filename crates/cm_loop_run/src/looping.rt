@@ -29,7 +29,11 @@ use std::thread::Threads;
 fn take_of(samples: u64, outputs: u64) -> Option<u64>
     ensures { result ≡ spec.take_of samples outputs }
 {
-    if outputs < samples { Some(outputs) } else { None }
+    if outputs < samples {
+        Some(outputs)
+    } else {
+        None
+    }
 }
 
 // What comes out of the output's ring.
@@ -54,8 +58,14 @@ fn loop_words<R: Threads + Wait + Sync, G: Gate + Sync>(
         munger,
         reader,
     } = open_paced(alloc, input, &job.input)?;
-    let (writer, out_munger, out_reader) =
-        open(alloc, output.sub().buffer, rule, true, BASE, looped)?;
+    let (writer, out_munger, out_reader) = open(
+        alloc,
+        output.sub().buffer,
+        rule,
+        true,
+        BASE,
+        looped,
+    )?;
     let side = LoopSide {
         munger,
         filter: FilterSide::new(reader, writer, filter, state),

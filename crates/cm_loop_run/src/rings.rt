@@ -18,6 +18,7 @@ use std::thread::{Threads, join};
 
 /// The number of the input's board in the gate's points, and that of the output's client.
 const BOARD: u32 = 0;
+
 const CLIENT: u32 = 1;
 
 /// What the threads of a loop own, but for the input's board: its munger, the filter, and the two ends

@@ -7,7 +7,7 @@ pub returns-in_err-write_all-clause-prefix : goal.returns-in_err-write_all-claus
 returns-in_err-write_all-clause-prefix g c =
     on_err c.from_residual.result
     (block_failed (g.K.Sink.text c.args.sink.now) (g.K.Sink.text c.loop-i.sink) (g.K.Sink.text c.write_all.new.sink) c.args.blocks.now c.loop-i.i c.index-blocks-i.result c.deref.result.now
-        c.loop-i-test.true (cc) (cc) c.in_err-write_all.ensures.prefix c.loop-i.invariant.way)
+    c.loop-i-test.true (cc) (cc) c.in_err-write_all.ensures.prefix c.loop-i.invariant.way)
 
 pub loop-i-preserved : goal.loop-i-preserved
 loop-i-preserved g c = record {
