@@ -77,7 +77,7 @@ module _ (s : Streaming) (found : Option End) (h : IsStream s found) where
       let here : P (record s.reader { part = record s.reader.part { asked = true } }) = record {
         some = h.some;
         fits = h.fits;
-        places = record { mapped_known = at.mapped_known; known_room = at.known_room; known_end = at.known_end; few_cells = at.few_cells };
+        places = record { mapped_known = at.mapped_known; known_room = at.known_room; known_end = at.known_end; few_cells = at.few_cells; finite = at.finite };
         found_is = h.found_is;
         mapped = h.mapped;
         known = h.known;

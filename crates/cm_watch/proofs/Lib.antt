@@ -1,2 +1,4 @@
 pub mod Followed
 pub mod Openings
+pub mod Starts
+pub mod Wholes

@@ -1,0 +1,103 @@
+-- That the words which were read of a line's stream are the whole line.
+use Rattle.std.proofs.Common.{◌≡◌, ℕ, zero, suc, ◌+◌, ◌<◌, ◌≤◌, List, [], ◌∷◌, ◌++◌, length, map, take, get_or, refl, sym, ap, ◌∙◌, subst, Option, Some, None, append_assoc, append-nil, arith}
+use Rattle.std.specs.Prelude.{slice_get}
+use Rattle.std.specs.List.{All}
+use Rattle.std.proofs.lemmas.List.{take_more}
+use Rattle.std.proofs.lemmas.Option.{slice_get_within, get_or_from_slice_get}
+use Rattle.cm_board.specs.Board.{BoardText}
+use Rattle.cm_client.specs.Samples.{munged_plan}
+use Rattle.cm_client.proofs.Whole.{whole_plan}
+use Rattle.cm_expand.specs.Items.{samples_of}
+use Rattle.cm_expand.specs.Plan.{PlanText}
+use Rattle.cm_ring_core.specs.declared.view.End.{End}
+use Rattle.cm_ring_core.specs.declared.view.EndKind.{EndKind}
+use Rattle.cm_ring_core.specs.declared.view.EndKind.TheVariants as ends
+use Rattle.cm_ring_core.specs.declared.view.RingConstants.{RingConstants}
+use Rattle.cm_ring_core.specs.Lawful.{IsFoundEnd}
+use Rattle.cm_run.specs.Blocks.{line_block, munged_samples, run_text}
+use Rattle.cm_run.specs.Ran.{ring_of}
+use Rattle.cm_run.specs.Whole.{IsWhole}
+use Rattle.cm_run.proofs.Ends.{length-samples}
+use Rattle.cm_run.proofs.Reported.{length-munged, munged_by_rule}
+use Rattle.cm_run_lines.specs.Calls.{plan_of}
+use Rattle.cm_run_lines.specs.WatchLines.{IsWatched}
+use Rattle.cm_run_lines.specs.declared.line.Mode.TheVariants.{Paced}
+use Rattle.cm_run_lines.specs.declared.line.RunLine.{RunLine}
+use Rattle.cm_run_lines.specs.declared.line.RunLine.TheVariants.{Go, Drive}
+use Rattle.cm_signal.specs.Signals.{SignalsText}
+use Rattle.cm_stream.specs.Stream.{Streaming, IsOver}
+use Rattle.cm_stream.specs.Merging.{Fixed, IsEndOf, IsPacedOn, fixed, plan_of as whole_of}
+use Rattle.cm_watch.specs.Opened.{Start, line_start, stream_start}
+use Rattle.cm_watch.specs.Watched.{HasWatched, Words, lists_of}
+use Rattle.cm_watch.proofs.Openings.{scan_of}
+use Rattle.cm_watch.proofs.Starts.{Start_for}
+
+-- a text of one line more
+run_text_snoc : (board : BoardText) (signals : SignalsText) (lines : List RunLine) (line : RunLine) → run_text board signals (lines ++ line ∷ []) ≡ run_text board signals lines ++ line_block board signals line
+run_text_snoc board signals [] line = append-nil (line_block board signals line)
+run_text_snoc board signals (first ∷ lines) line =
+    ap (λ (l : List ℕ). line_block board signals first ++ l) (run_text_snoc board signals lines line)
+    ∙ sym (append_assoc (line_block board signals first) (run_text board signals lines) (line_block board signals line))
+
+pub run_text_more : (board : BoardText) (signals : SignalsText) (lines : List RunLine) (i : ℕ) (d : RunLine) → i < length lines → run_text board signals (take (i + 1) lines) ≡ run_text board signals (take i lines) ++ line_block board signals (get_or lines i d)
+run_text_more board signals lines i d within = ap (run_text board signals) (take_more lines i d within) ∙ run_text_snoc board signals (take i lines) (get_or lines i d)
+
+-- what a place of one list has of a list that is the same under two functions
+same_at : {A B X : Type 0} (f : A → X) (g : B → X) (xs : List A) (ys : List B) (i : ℕ) (y : B) → map f xs ≡ map g ys → slice_get ys i ≡ Some y → (x : A) × (slice_get xs i ≡ Some x) × (f x ≡ g y)
+same_at f g [] [] i y same has = absurd cc
+same_at f g [] (b ∷ ys) i y same has = absurd cc
+same_at f g (a ∷ xs) [] i y same has = absurd cc
+same_at f g (a ∷ xs) (b ∷ ys) zero y same has = let head : f a ≡ g b = cc in let is : b ≡ y = cc in (a, refl, head ∙ ap g is)
+same_at f g (a ∷ xs) (b ∷ ys) (suc i) y same has = let tail : map f xs ≡ map g ys = cc in same_at f g xs ys i y tail has
+
+-- the munged plan of a line's ring is its munged expansion
+plan_is : (p : PlanText) → 1 ≤ length p.cmd.list → munged_plan (ring_of p Paced) ≡ munged_samples p
+plan_is p some = munged_by_rule p (samples_of p) some
+
+-- a line that is watched and whose words are all there is whole
+whole_line : (board : BoardText) (signals : SignalsText) (line : RunLine) (words : List ℕ) (e : End) → IsWatched board line → words ≡ munged_samples (plan_of board signals line) → e.kind ≡ ends.Done → e.count ≡ length words
+    → IsWhole board signals line words e
+whole_line board signals (Go mode access t0 None cmd) words e watched all done count = (all, done, count)
+whole_line board signals (Go mode access t0 (Some most) cmd) words e watched all done count = absurd (let none = watched.1 in cc)
+whole_line board signals (Drive t0 values cmd) words e watched all done count = absurd watched
+
+module _ (board : BoardText) (signals : SignalsText) (lines : List RunLine) (first now : List Streaming) (lists : List Words)
+    (watched : All (IsWatched board) lines) (start : Start_for board signals first lines) (read : HasWatched first now lists) (i : ℕ) (line : RunLine) (has : slice_get lines i ≡ Some line) where
+  -- the streams count as many as the lines
+  now_at : (x : Streaming) × (slice_get now i ≡ Some x) × (fixed x ≡ fixed (same_at stream_start (line_start board signals) first lines i line start has).0)
+  now_at = let f = same_at stream_start (line_start board signals) first lines i line start has in same_at fixed fixed now first i f.0 read.same f.1
+
+  pub within : i < length now
+  within = slice_get_within now i now_at.0 now_at.1
+
+  -- a stream that is over isn't without an end
+  pub has_end : (found : Option End) → IsEndOf now i found → found ≡ None → ⊥
+  has_end found end none =
+      let same : end.0 ≡ now_at.0 = let a = end.1 in let b = now_at.1 in cc in
+      let here : get_or now i end.0 ≡ end.0 = get_or_from_slice_get now i end.0 end.0 end.1 in
+      let over : IsOver end.0 = subst IsOver here (read.over i end.0 within) in
+      let found_is = over.found in
+      let is = end.2 in
+      cc
+
+  -- the words and the end of a line's stream are those of the whole line
+  pub whole_at : (w : Words) (words : List ℕ) (e : End) → slice_get lists i ≡ Some w → words ≡ w.items → IsEndOf now i (Some e) → IsWhole board signals line words e
+  whole_at w words e mine are end =
+      let p = plan_of board signals line in
+      let f = same_at stream_start (line_start board signals) first lines i line start has in
+      let ring_first : f.0.reader.ring ≡ ring_of p Paced = ap (λ (x : Start). x.ring) f.2 in
+      let here : get_or now i end.0 ≡ end.0 = get_or_from_slice_get now i end.0 end.0 end.1 in
+      let paced : IsPacedOn end.0 = subst IsPacedOn here (read.paced i end.0 within) in
+      let says = end.3 e refl in
+      let done = (whole_plan end.0.reader.ring end.0.reader.part e.kind e.count paced.0 paced.1 says).0 in
+      let fixed_is : fixed end.0 ≡ fixed f.0 = (let a = end.1 in let b = now_at.1 in let same : end.0 ≡ now_at.0 = cc in ap fixed same) ∙ now_at.2 in
+      let ring_now : end.0.reader.ring ≡ ring_of p Paced = ap (λ (x : Fixed). x.ring) fixed_is ∙ ring_first in
+      let source = same_at (λ (x : Words). x.items) whole_of lists first i f.0 read.words f.1 in
+      let same : source.0 ≡ w = let a = source.1 in cc in
+      let watched_line : IsWatched board line = subst (IsWatched board) (get_or_from_slice_get lines i line line has) (watched i line (slice_get_within lines i line has)) in
+      let some = (scan_of board signals line watched_line).0 in
+      let all : words ≡ munged_samples p = are ∙ (ap (λ (x : Words). x.items) (sym same) ∙ (source.2 ∙ (ap munged_plan ring_first ∙ plan_is p some))) in
+      let count : e.count ≡ length end.0.reader.ring.samples = subst (λ (k : EndKind). IsFoundEnd end.0.reader.ring end.0.reader.part k e.count) done says in
+      let many : length end.0.reader.ring.samples ≡ length words =
+          ap (λ (r : RingConstants). length r.samples) ring_now ∙ (length-samples p ∙ (sym (length-munged p) ∙ ap (λ (l : List ℕ). length l) (sym all))) in
+      whole_line board signals line words e watched_line all done (count ∙ many)
