@@ -63,8 +63,8 @@ fn loops_put_out_their_means(rt: HostRuntime) -> Result<(), Fail> {
     check_rows(&rt, rt.alloc(), "loop", &ROWS)
 }
 
-// The input's board comes to its thirteenth sample only where twelve have room in both rings, and
-// meets the output's client there. So no thread does both parts.
+// The input's board, which has come to the end of its ring, meets the output's client, which has read
+// some words. So they are two threads.
 #[test]
 fn an_input_meets_its_output(rt: HostRuntime) -> Result<(), Fail> {
     let board = Pass {
