@@ -16,6 +16,8 @@ mod gates;
 #[cfg(test)]
 mod job;
 #[cfg(test)]
+mod loop_tests;
+#[cfg(test)]
 mod output_tests;
 #[cfg(test)]
 mod real_boards;
@@ -34,4 +36,8 @@ mod tests;
 #[cfg(test)]
 mod text;
 #[cfg(test)]
+mod threaded;
+#[cfg(test)]
 mod turns;
+#[cfg(test)]
+mod watch_tests;

@@ -2,6 +2,7 @@
 use crate::boards;
 use crate::gates::{HoldGate, MeetGate, Pass};
 use crate::job::word;
+use crate::threaded::{Row, check_rows, streamed};
 use cm_base::gate::{Gate, OpenGate};
 use cm_base::memory::{MemSink, MemSource};
 use cm_base::transfer::NoMemory;
@@ -36,29 +37,11 @@ const FOUR: &str = "0 -153\n0 999923\n0 2000000\n0 2999771\n";
 
 const FIVE: &str = "0 -153\n0 999923\n0 2000000\n0 2999771\n0 3999847\ndone\n";
 
-// What a run gives under a gate: its status, and what was written.
-fn run<R: Threads + Wait + Sync, G: Gate + Sync>(
-    rt: &R,
-    alloc: Global,
-    signals: &str,
-    lines: &str,
-    gate: &G,
-) -> Result<(Status, Vec<u8>), NoMemory> {
-    let words = word(alloc, "run")?;
-    let mut text = boards::DEMO.as_bytes().to_vec(alloc)?;
-    text.extend_from_slice(signals.as_bytes())?;
-    text.extend_from_slice(lines.as_bytes())?;
-    let mut source = MemSource::new(text, 700, Vec::new(alloc));
-    let mut sink = MemSink::new(alloc, 4096, 300, Vec::new(alloc))?;
-    let status = comedi(rt, alloc, &words, &mut source, &mut sink, gate);
-    Ok((status, sink.text().to_vec(alloc)?))
-}
-
 // Whole jobs: two lines of one subdevice, a free line that has room for all, one that takes two
 // samples, an output, and a refusal.
 #[test]
 fn runs_give_their_blocks(rt: HostRuntime) -> Result<(), Fail> {
-    let rows: [(&str, &str, &str, Status); 5] = [
+    let rows: [Row; 5] = [
         (
             boards::TABLE,
             TWO_LINES,
@@ -90,12 +73,7 @@ fn runs_give_their_blocks(rt: HostRuntime) -> Result<(), Fail> {
             Status::Refused,
         ),
     ];
-    for (signals, lines, wanted, status) in rows {
-        let (ended, text) = run(&rt, rt.alloc(), signals, lines, &OpenGate)?;
-        assert_eq!(&rt; ended, status);
-        assert!(&rt; text.as_slice() == wanted.as_bytes(), "at {lines}");
-    }
-    Ok(())
+    check_rows(&rt, rt.alloc(), "run", &rows)
 }
 
 // A client that is held until the board has found the ring full: a free line loses the fifth sample,
@@ -117,7 +95,7 @@ fn a_held_client_makes_the_ring_full(rt: HostRuntime) -> Result<(), Fail> {
             count: 1,
         };
         let gate = HoldGate::new(held, until);
-        let (ended, text) = run(&rt, rt.alloc(), boards::TABLE, lines, &gate)?;
+        let (ended, text) = streamed(&rt, rt.alloc(), "run", boards::TABLE, lines, &gate)?;
         assert!(&rt; gate.kept());
         assert_eq!(&rt; ended, Status::Done);
         assert!(&rt; text.as_slice().starts_with(FOUR.as_bytes()));
@@ -141,7 +119,7 @@ fn a_held_board_loses_nothing(rt: HostRuntime) -> Result<(), Fail> {
         count: 1,
     };
     let gate = HoldGate::new(held, until);
-    let (ended, text) = run(&rt, rt.alloc(), boards::TABLE, FREE_FIVE, &gate)?;
+    let (ended, text) = streamed(&rt, rt.alloc(), "run", boards::TABLE, FREE_FIVE, &gate)?;
     assert!(&rt; gate.kept());
     assert_eq!(&rt; ended, Status::Done);
     assert!(&rt; text.as_slice() == FIVE.as_bytes());
@@ -152,7 +130,7 @@ fn a_held_board_loses_nothing(rt: HostRuntime) -> Result<(), Fail> {
 #[test]
 fn a_board_meets_its_client(rt: HostRuntime) -> Result<(), Fail> {
     let gate = meeting();
-    let (ended, text) = run(&rt, rt.alloc(), boards::TABLE, PACED_FIVE, &gate)?;
+    let (ended, text) = streamed(&rt, rt.alloc(), "run", boards::TABLE, PACED_FIVE, &gate)?;
     assert!(&rt; gate.kept());
     assert_eq!(&rt; ended, Status::Done);
     assert!(&rt; text.as_slice() == FIVE.as_bytes());
