@@ -29,10 +29,10 @@ module _ (board : BoardText) (signals : SignalsText) where
   pub starts_more : (streams : List Streaming) (s : Streaming) (lines : List RunLine) (i : ℕ) (d : RunLine) → i < length lines → Start_for streams (take i lines) → stream_start s ≡ line_start board signals (get_or lines i d)
       → Start_for (streams ++ s ∷ []) (take (i + 1) lines)
   starts_more streams s lines i d within before one =
-      map-append streams (s ∷ []) stream_start
+      map-append stream_start streams (s ∷ [])
       ∙ (ap (λ (l : List Start). l ++ stream_start s ∷ []) before
       ∙ (ap (λ (x : Start). map (line_start board signals) (take i lines) ++ x ∷ []) one
-      ∙ (sym (map-append (take i lines) (get_or lines i d ∷ []) (line_start board signals))
+      ∙ (sym (map-append (line_start board signals) (take i lines) (get_or lines i d ∷ []))
       ∙ ap (map (line_start board signals)) (sym (take_more lines i d within)))))
 
   -- a stream that starts for a line has a paced ring, of which nothing was read
