@@ -1,13 +1,18 @@
 // Lines of runs as they are read.
+ghost use Rattle.std.specs.Prelude.{IfOk};
+ghost use Rattle.cm_run_lines.specs.RunLines.{AreRunLines};
+
 use crate::asked::Session;
 use crate::job::RunJob;
 use crate::line::{Access, Mode, RunLine};
 use crate::reading::{read_run, read_watch};
 use cm_base::faults::{Fault, ReadStop};
-use cm_base::lines::split_lines;
+use cm_base::lines::{Lines, split_lines};
 use cm_base::transfer::NoMemory;
+use cm_board::board::BoardDesc;
 use cm_board::reading::read_board;
 use cm_signal::reading::read_signals;
+use cm_signal::signals::Signals;
 use std::alloc::Global;
 use std::test::Fail;
 
@@ -270,15 +275,29 @@ fn run_job(
     let lines = split_lines(alloc, &text)?;
     let (board, at) = read_board(alloc, &lines)?;
     let (signals, at) = read_signals(alloc, &board, &lines, at)?;
-    let lines = match session {
-        Session::Run => read_run(alloc, &board, &signals, &lines, at)?,
-        Session::Watch => read_watch(alloc, &board, &signals, &lines, at)?,
-    };
+    let lines = session_lines(alloc, session, &board, &signals, &lines, at)?;
     Ok(RunJob {
         board,
         signals,
         lines,
     })
+}
+
+// Its lines.
+fn session_lines(
+    alloc: Global,
+    session: Session,
+    board: &BoardDesc,
+    signals: &Signals,
+    lines: &Lines<'_>,
+    at: usize,
+) -> Result<Vec<RunLine>, ReadStop>
+    ensures { IfOk result (λ all. AreRunLines board.now signals.now all.items) }
+{
+    match session {
+        Session::Run => read_run(alloc, board, signals, lines, at),
+        Session::Watch => read_watch(alloc, board, signals, lines, at),
+    }
 }
 
 // Its text.

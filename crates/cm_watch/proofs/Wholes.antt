@@ -1,9 +1,10 @@
 -- That the words which were read of a line's stream are the whole line.
 use Rattle.std.proofs.Common.{◌≡◌, ℕ, zero, suc, ◌+◌, ◌<◌, ◌≤◌, List, [], ◌∷◌, ◌++◌, length, map, take, get_or, refl, sym, ap, ◌∙◌, subst, Option, Some, None, append_assoc, append-nil, arith}
-use Rattle.std.specs.Prelude.{slice_get}
+use Rattle.std.specs.Prelude.{slice_get, IfSome}
 use Rattle.std.specs.List.{All}
+use Rattle.std.proofs.Math.ListN.{length-map}
 use Rattle.std.proofs.lemmas.List.{take_more}
-use Rattle.std.proofs.lemmas.Option.{slice_get_within, get_or_from_slice_get}
+use Rattle.std.proofs.lemmas.Option.{slice_get_within, slice_get-get_or, get_or_from_slice_get}
 use Rattle.cm_board.specs.Board.{BoardText}
 use Rattle.cm_client.specs.Samples.{munged_plan}
 use Rattle.cm_client.proofs.Whole.{whole_plan}
@@ -27,10 +28,10 @@ use Rattle.cm_run_lines.specs.declared.line.RunLine.TheVariants.{Go, Drive}
 use Rattle.cm_signal.specs.Signals.{SignalsText}
 use Rattle.cm_stream.specs.Stream.{Streaming, IsOver}
 use Rattle.cm_stream.specs.Merging.{Fixed, IsEndOf, IsPacedOn, fixed, plan_of as whole_of}
-use Rattle.cm_watch.specs.Opened.{Start, line_start, stream_start}
+use Rattle.cm_watch.specs.Opened.{HaveWatched, Start, line_start, stream_start}
 use Rattle.cm_watch.specs.Watched.{HasWatched, Words, lists_of}
 use Rattle.cm_watch.proofs.Openings.{scan_of}
-use Rattle.cm_watch.proofs.Starts.{Start_for}
+use Rattle.cm_watch.proofs.Starts.{Start_for, counted}
 
 -- a text of one line more
 run_text_snoc : (board : BoardText) (signals : SignalsText) (lines : List RunLine) (line : RunLine) → run_text board signals (lines ++ line ∷ []) ≡ run_text board signals lines ++ line_block board signals line
@@ -70,16 +71,6 @@ module _ (board : BoardText) (signals : SignalsText) (lines : List RunLine) (fir
   pub within : i < length now
   within = slice_get_within now i now_at.0 now_at.1
 
-  -- a stream that is over isn't without an end
-  pub has_end : (found : Option End) → IsEndOf now i found → found ≡ None → ⊥
-  has_end found end none =
-      let same : end.0 ≡ now_at.0 = let a = end.1 in let b = now_at.1 in cc in
-      let here : get_or now i end.0 ≡ end.0 = get_or_from_slice_get now i end.0 end.0 end.1 in
-      let over : IsOver end.0 = subst IsOver here (read.over i end.0 within) in
-      let found_is = over.found in
-      let is = end.2 in
-      cc
-
   -- the words and the end of a line's stream are those of the whole line
   pub whole_at : (w : Words) (words : List ℕ) (e : End) → slice_get lists i ≡ Some w → words ≡ w.items → IsEndOf now i (Some e) → IsWhole board signals line words e
   whole_at w words e mine are end =
@@ -99,5 +90,40 @@ module _ (board : BoardText) (signals : SignalsText) (lines : List RunLine) (fir
       let all : words ≡ munged_samples p = are ∙ (ap (λ (x : Words). x.items) (sym same) ∙ (source.2 ∙ (ap munged_plan ring_first ∙ plan_is p some))) in
       let count : e.count ≡ length end.0.reader.ring.samples = subst (λ (k : EndKind). IsFoundEnd end.0.reader.ring end.0.reader.part k e.count) done says in
       let many : length end.0.reader.ring.samples ≡ length words =
-          ap (λ (r : RingConstants). length r.samples) ring_now ∙ (length-samples p ∙ (sym (length-munged p) ∙ ap (λ (l : List ℕ). length l) (sym all))) in
+      ap (λ (r : RingConstants). length r.samples) ring_now ∙ (length-samples p ∙ (sym (length-munged p) ∙ ap (λ (l : List ℕ). length l) (sym all))) in
       whole_line board signals line words e watched_line all done (count ∙ many)
+
+-- what holds of the item at a place, where there is one
+pub if_some : {X : Type 0} (o : Option X) (P : X → Type 0) → ((x : X) → o ≡ Some x → P x) → IfSome o P
+if_some None P each = tt
+if_some (Some x) P each = each x refl
+
+none_within : {X : Type 0} (xs : List X) (i : ℕ) → i < length xs → slice_get xs i ≡ None → ⊥
+none_within [] i within none = omega arith
+none_within (x ∷ xs) zero within none = cc
+none_within (x ∷ xs) (suc i) within none = none_within xs i (omega arith) none
+
+module _ (board : BoardText) (signals : SignalsText) (lines : List RunLine) where
+  text_by : (i : ℕ) (text block : List ℕ) (o : Option RunLine) → slice_get lines i ≡ o → i < length lines → IfSome o (λ line. block ≡ line_block board signals line) → text ≡ run_text board signals (take i lines)
+      → text ++ block ≡ run_text board signals (take (i + 1) lines)
+  text_by i text block None has within is text_is = absurd (none_within lines i within has)
+  text_by i text block (Some line) has within is text_is =
+      ap (λ (l : List ℕ). l ++ block) text_is
+      ∙ (ap (λ (l : List ℕ). run_text board signals (take i lines) ++ l) (is ∙ ap (line_block board signals) (sym (get_or_from_slice_get lines i line line has)))
+      ∙ sym (run_text_more board signals lines i line within))
+
+  -- the text with one block more
+  pub text_more : (i : ℕ) (text block : List ℕ) → i < length lines → IfSome (slice_get lines i) (λ line. block ≡ line_block board signals line) → text ≡ run_text board signals (take i lines)
+      → text ++ block ≡ run_text board signals (take (i + 1) lines)
+  text_more i text block within is text_is = text_by i text block (slice_get lines i) refl within is text_is
+
+  -- the words and the end of each line's stream are those of the whole line
+  pub line_whole : (now : List Streaming) (lists : List Words) → All (IsWatched board) lines → HaveWatched board signals lines now lists → (i : ℕ) (w : Words) (words : List ℕ) (e : End)
+      → i < length lines → w ≡ get_or lists i w → words ≡ w.items → IsEndOf now i (Some e) → IfSome (slice_get lines i) (λ line. IsWhole board signals line words e)
+  line_whole now lists watched have i w words e within mine are end =
+      let read = have.read in
+      let count : length lists ≡ length lines =
+      sym (length-map lists (λ (x : Words). x.items)) ∙ (ap (length {A = List ℕ}) read.words ∙ (length-map have.first whole_of ∙ counted board signals have.first lines have.start)) in
+      let has : slice_get lists i ≡ Some w = slice_get-get_or lists i w (omega arith) ∙ sym (ap (λ (x : Words). Some x) mine) in
+      if_some (slice_get lines i) (λ line. IsWhole board signals line words e)
+      (λ line at. whole_at board signals lines have.first now lists watched have.start read i line at w words e has are end)

@@ -1,5 +1,5 @@
 -- The streams of watched lines before anything was read.
-use Rattle.std.specs.Prelude.{ℕ, length}
+use Rattle.std.specs.Prelude.{◌≡◌, ℕ, List, length, map}
 use Rattle.cm_board.specs.Board.{BoardText}
 use Rattle.cm_signal.specs.Signals.{SignalsText}
 use Rattle.cm_ring_core.specs.declared.view.ReaderPart.{ReaderPart}
@@ -10,6 +10,7 @@ use Rattle.cm_run_lines.specs.declared.line.Mode.TheVariants.{Paced}
 use Rattle.cm_run_lines.specs.declared.line.RunLine.{RunLine}
 use Rattle.cm_run.specs.Ran.{ring_of}
 use Rattle.cm_stream.specs.Stream.{Streaming}
+use Rattle.cm_watch.specs.Watched.{HasWatched, Words}
 
 -- a stream, whichever table its ring has: the length of its scans, its ring, and its reader
 pub record Start : Type 0 where
@@ -25,3 +26,9 @@ stream_start s = record { scan = s.n; ring = s.reader.ring; part = s.reader.part
 -- how a line's stream starts: with scans as long as the channel list, over a paced ring for the line's expansion
 abbrev pub line_start : BoardText → SignalsText → RunLine → Start
 line_start board signals line = record { scan = length (cmd_of line).list; ring = ring_of (plan_of board signals line) Paced; part = first_reader; mapped = 0 }
+
+-- streams that started for the lines have been read to their ends, and the words are those of each
+pub record HaveWatched (board : BoardText) (signals : SignalsText) (lines : List RunLine) (now : List Streaming) (lists : List Words) : Type 0 where
+  pub first : List Streaming
+  pub start : map stream_start first ≡ map (line_start board signals) lines
+  pub read : HasWatched first now lists

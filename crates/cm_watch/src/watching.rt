@@ -1,11 +1,10 @@
 // A whole watch.
-ghost use Rattle.std.specs.Prelude.{◌≡◌, List, map, IfOk};
+ghost use Rattle.std.specs.Prelude.{◌≡◌, ◌≤◌, length, IfOk};
 ghost use Rattle.std.specs.List.{All};
 ghost use Rattle.cm_run.specs.Blocks.{run_text};
+ghost use Rattle.cm_run_lines.specs.RunLines.{CanRun};
 ghost use Rattle.cm_run_lines.specs.WatchLines.{IsWatched};
-ghost use Rattle.cm_stream.specs.Stream.{Streaming};
-ghost use Rattle.cm_watch.specs.Opened.{line_start, stream_start};
-ghost use Rattle.cm_watch.specs.Watched.{HasWatched};
+ghost use Rattle.cm_watch.specs.Opened.{HaveWatched};
 
 use crate::beside::watch_sides;
 use crate::client::Watched;
@@ -13,11 +12,14 @@ use crate::job::WatchJob;
 use crate::opening::{Opened, open_lines};
 use cm_base::gate::Gate;
 use cm_base::transfer::NoMemory;
+use cm_board::board::BoardDesc;
 use cm_expand::plan::Plan;
 use cm_run::blocks::Blocks;
 use cm_run::running::states_of;
 use cm_run::whole::block_text;
 use cm_run_lines::job::RunJob;
+use cm_run_lines::line::RunLine;
+use cm_signal::signals::Signals;
 use cm_stream::merge::Merge;
 use cm_sub::owners::Owners;
 use std::alloc::Global;
@@ -36,23 +38,40 @@ pub fn watch_job<R: Threads + Wait + Sync, G: Gate + Sync>(
     ensures { IfOk result (λ text. text ≡ run_text job.now.board job.now.signals job.now.lines) }
 {
     let job = job.job();
-    let states = states_of(alloc, &job.board.subs)?;
+    let watched = watch_lines(rt, alloc, &job.board, &job.signals, &job.lines, gate)?;
+    blocks_of(alloc, job, &watched)
+}
+
+// Reads lines to their ends, each of which has threads of its own for its board and its munger.
+fn watch_lines<'a, R: Threads + Wait + Sync, G: Gate + Sync>(
+    rt: &R,
+    alloc: Global,
+    board: &'a BoardDesc,
+    signals: &'a Signals,
+    lines: &'a [RunLine],
+    gate: &G,
+) -> Result<Watched<Plan<'a>>, NoMemory>
+    requires run { All (CanRun board.now signals.now) lines.now }
+    requires watched { All (IsWatched board.now) lines.now }
+    requires few { length lines.now ≤ 16 }
+    ensures { IfOk result (λ w. HaveWatched board.entry.now signals.entry.now lines.entry.now w.merge.streams w.words.items) }
+{
+    let states = states_of(alloc, &board.subs)?;
     let (owners, seat) = Owners::open(alloc, states)?;
     let Opened {
         sides,
         streams,
         words,
-    } = open_lines(alloc, &job.board, &job.signals, &job.lines)?;
+    } = open_lines(alloc, board, signals, lines)?;
     let merge = Merge::new(alloc, streams)?;
     let client = Watched { words, merge };
-    let watched = watch_sides(rt, &owners, seat, sides, client, gate)?;
-    blocks_of(alloc, job, &watched)
+    watch_sides(rt, &owners, seat, sides, client, gate)
 }
 
 // The blocks of lines that were read to their ends.
 fn blocks_of(alloc: Global, job: &RunJob, watched: &Watched<Plan<'_>>) -> Result<Blocks, NoMemory>
     requires watched { All (IsWatched job.now.board) job.now.lines }
-    requires read { (first : List Streaming) × HasWatched first watched.now.merge.streams watched.now.words.items × (map stream_start first ≡ map (line_start job.now.board job.now.signals) job.now.lines) }
+    requires read { HaveWatched job.now.board job.now.signals job.now.lines watched.now.merge.streams watched.now.words.items }
     ensures { IfOk result (λ text. text ≡ run_text job.now.board job.now.signals job.now.lines) }
 {
     let mut text = Blocks::new(alloc);
