@@ -1,0 +1,73 @@
+-- What comes out of a loop's output ring.
+use Rattle.std.proofs.Common.{◌≡◌, ℕ, zero, suc, ◌<◌, ◌≤◌, min, Bool, true, false, cond, ltb, List, [], ◌∷◌, length, take, refl, sym, ap, ◌∙◌, subst, inl, inr, Option, Some, None, arith}
+use Rattle.std.proofs.lemmas.Bool.{cases_lt, lt-ltb, le-ltb, true≢false}
+use Rattle.std.proofs.lemmas.List.{take_all}
+use Rattle.cm_sample.proofs.Mapped.{length-map_from}
+use Rattle.cm_sample.specs.Rule.{RuleText, map_from, munged_word}
+use Rattle.cm_client.specs.Progress.{up_to, IsTaken}
+use Rattle.cm_client.specs.Samples.{munged_plan}
+use Rattle.cm_expand.specs.Items.{items_of, samples_of}
+use Rattle.cm_expand.specs.Plan.{PlanText}
+use Rattle.cm_expand.specs.Rule.{rule_of}
+use Rattle.cm_expand.specs.declared.conv.Conv.{Conv}
+use Rattle.cm_loop.proofs.Outputs.{length_all_filtered}
+use Rattle.cm_loop_lines.specs.Job.{LoopJobText, input_of}
+use Rattle.cm_ring.specs.Roles.{Reading}
+use Rattle.cm_ring_core.specs.Lawful.{IsFoundEnd}
+use Rattle.cm_ring_core.specs.declared.view.End.{End}
+use Rattle.cm_ring_core.specs.declared.view.EndKind.{EndKind}
+use Rattle.cm_ring_core.specs.declared.view.EndKind.TheVariants.{Done, Overrun, Cancelled}
+use Rattle.cm_ring_core.specs.declared.view.ReaderPart.{ReaderPart}
+use Rattle.cm_ring_core.specs.declared.view.RingConstants.{RingConstants}
+use Rattle.cm_run.specs.Blocks.{count_of, munged_samples, munged_words, outputs_of}
+use Rattle.cm_run.specs.Ran.{ring_of}
+use Rattle.cm_run.proofs.Reported.{length-munged, munged_by_rule}
+use Rattle.cm_run_core.specs.Streamed.{HasStreamed}
+use Rattle.cm_run_lines.specs.declared.line.Mode.TheVariants.{Paced}
+use Rattle.cm_text.specs.Outputs.{Output}
+use Rattle.cm_loop_run.specs.LoopText.{filter_of, loop_words, take_of}
+
+-- as many words as samples of the input
+pub length-loop_words : (job : LoopJobText) → length (loop_words job) ≡ count_of (input_of job)
+length-loop_words job = length_all_filtered (filter_of job) (munged_samples (input_of job)) ∙ length-munged (input_of job)
+
+-- the words past the last conversion are not put out
+pub outputs_first : (sub : ℕ) (convs : List Conv) (words : List ℕ) → outputs_of sub convs (take (length convs) words) ≡ outputs_of sub convs words
+outputs_first sub [] words = refl
+outputs_first sub (conv ∷ convs) [] = refl
+outputs_first sub (conv ∷ convs) (word ∷ words) = ap (λ (l : List Output). record { sub = sub; time = conv.time; index = conv.list_index; word = word } ∷ l) (outputs_first sub convs words)
+
+-- the munged samples of an input's paced ring
+pub munged_ring : (p : PlanText) → 1 ≤ length p.cmd.list → munged_plan (ring_of p Paced) ≡ munged_samples p
+munged_ring p some = munged_by_rule p (samples_of p) some
+
+-- where a client takes fewer samples than a paced ring has, it has as many as it takes
+taken_by : (ring : RingConstants) (r : ReaderPart) (kind : EndKind) (count outputs : ℕ) → ring.paced ≡ true → outputs < length ring.samples → IsFoundEnd ring r kind count → (kind ≡ Cancelled → IsTaken (Some outputs) count) → outputs ≤ count
+taken_by ring r Done count outputs paced fewer says cancelled = omega arith
+taken_by ring r Overrun count outputs paced fewer says cancelled = absurd (true≢false (sym paced ∙ says.3))
+taken_by ring r Cancelled count outputs paced fewer says cancelled = cancelled refl
+
+module _ (ring : RingConstants) (samples outputs : ℕ) (words : List ℕ) (e : End) (r : Reading) (paced : ring.paced ≡ true) (many : length ring.samples ≡ samples) where
+  Streams : Bool → Type 0
+  Streams fewer = HasStreamed ring (cond fewer (Some outputs) None) words e r
+
+  -- the words are the first ones of the ring, as many as there are conversions of the output
+  pub first_words : HasStreamed ring (take_of samples outputs) words e r → words ≡ take outputs (munged_plan ring)
+  unfolding Streams
+  first_words streamed = elim (cases_lt outputs samples) [
+    | inl fewer ↦
+        let s : HasStreamed ring (Some outputs) words e r = subst Streams (lt-ltb outputs samples fewer) streamed in
+        let says : IsFoundEnd ring r.part e.kind e.count = subst (λ (x : RingConstants). IsFoundEnd x r.part e.kind e.count) s.of s.says in
+        let enough = taken_by ring r.part e.kind e.count outputs paced (omega arith) says s.cancelled in
+        let count : min e.count outputs ≡ outputs = omega arith in
+        s.are ∙ ap (λ (n : ℕ). take n (munged_plan ring)) count
+    | inr all ↦
+        let s : HasStreamed ring None words e r = subst Streams (le-ltb outputs samples all) streamed in
+        let munged = length-map_from (munged_word ring.rule) 0 ring.samples in
+        (s.whole paced refl).1 ∙ sym (take_all outputs (munged_plan ring) (omega arith))
+  ]
+
+-- the words of a ring with a command's rule are munged as that command's
+pub munged_as : (p : PlanText) (ring : RingConstants) (words : List ℕ) → 1 ≤ length p.cmd.list → ring.rule ≡ rule_of p.sub p.cmd → ring.samples ≡ words → munged_plan ring ≡ munged_words p words
+munged_as p ring words some rule samples =
+    ap (λ (x : RuleText). map_from (munged_word x) 0 ring.samples) rule ∙ ap (λ (l : List ℕ). map_from (munged_word (rule_of p.sub p.cmd)) 0 l) samples ∙ munged_by_rule p words some
