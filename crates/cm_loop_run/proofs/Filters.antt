@@ -6,7 +6,7 @@ use Rattle.std.proofs.lemmas.Option.{slice_get_within}
 use Rattle.cm_board.specs.Board.{SubText, IsSoundSub, maxdata_of}
 use Rattle.cm_board.proofs.ChannelNumbers.{channel}
 use Rattle.cm_cmd.specs.Entry.{chan}
-use Rattle.cm_expand.specs.Fit.{IsExpansion}
+use Rattle.cm_expand.specs.Fit.{IsExpansion, IsFit}
 use Rattle.cm_expand.specs.Plan.{PlanText}
 use Rattle.cm_loop.specs.Filter.{FilterText, filter_text, IsFilter, IsItem, AreWithin}
 use Rattle.cm_loop.specs.declared.rule.LoopItem.{LoopItem}
@@ -61,6 +61,30 @@ module _ (input output : SubText) where
             subst IsItem (sym (item_at froms tos i item at)) (x.low, omega arith, y.low, omega arith);
         window = is_window;
       }
+
+-- each entry of a plan's list has a channel
+pub channels_at : (p : PlanText) (sub : SubText) (list : List ℕ) → IsFit p → sub ≡ p.sub → list ≡ p.cmd.list → (i : ℕ) → i < length list → chan (get_or list i 0) < sub.channels
+channels_at p sub list fits sub_is list_is i below =
+    let count = ap (length {A = ℕ}) list_is in
+    let has : chan (get_or p.cmd.list i 0) < p.sub.channels = fits.channels i (omega arith) in
+    subst (λ (l : List ℕ). chan (get_or l i 0) < sub.channels) (sym list_is) (subst (λ (s : SubText). chan (get_or p.cmd.list i 0) < s.channels) (sym sub_is) has)
+
+-- the filter of two plans' lists
+module _ (p q : PlanText) (a b : SubText) (froms tos : List ℕ) (items : List LoopItem) (window : ℕ) (a_is : a ≡ p.sub) (b_is : b ≡ q.sub) (froms_are : froms ≡ p.cmd.list) (tos_are : tos ≡ q.cmd.list) (made : items ≡ items_of a b froms tos) where
+  pub filter_made : IsFit p → IsFit q → IsSoundSub a → IsSoundSub b → length froms ≡ length tos → (1 ≤ window) × (window ≤ 16) → IsFilter (filter_text items window)
+  filter_made p_fits q_fits a_sound b_sound same is_window =
+      let count = ap (length {A = ℕ}) froms_are in
+      let some = p_fits.some in
+      subst (λ (l : List LoopItem). IsFilter (filter_text l window)) (sym made)
+      (is_filter a b froms tos window a_sound b_sound same (omega arith) (channels_at p a froms p_fits a_is froms_are) (channels_at q b tos q_fits b_is tos_are) is_window)
+
+  pub filter_is : (job : LoopJobText) → p ≡ input_of job → q ≡ output_of job → window ≡ job.window → filter_text items window ≡ filter_of job
+  filter_is job p_is q_is window_is =
+      let x = a_is ∙ ap (λ (t : PlanText). t.sub) p_is in
+      let y = b_is ∙ ap (λ (t : PlanText). t.sub) q_is in
+      let f = froms_are ∙ ap (λ (t : PlanText). t.cmd.list) p_is in
+      let t = tos_are ∙ ap (λ (t : PlanText). t.cmd.list) q_is in
+      ap (λ (l : List LoopItem). filter_text l window) made ∙ λ i. filter_text (items_of (x i) (y i) (f i) (t i)) (window_is i)
 
 -- no munged sample of the input is above its entry's greatest code
 pub are_within : (job : LoopJobText) → IsLoopJob job → IsExpansion (input_of job) → 1 ≤ length job.input.list → AreWithin (filter_of job) (munged_samples (input_of job))

@@ -11,7 +11,9 @@ use Rattle.cm_expand.specs.Plan.{PlanText}
 use Rattle.cm_expand.specs.Rule.{rule_of}
 use Rattle.cm_expand.specs.declared.conv.Conv.{Conv}
 use Rattle.cm_loop.proofs.Outputs.{length_all_filtered}
-use Rattle.cm_loop_lines.specs.Job.{LoopJobText, input_of}
+use Rattle.cm_loop.specs.Filter.{FilterText, AreWithin, all_filtered}
+use Rattle.cm_loop.specs.Looped.{looped_samples}
+use Rattle.cm_loop_lines.specs.Job.{LoopJobText, input_of, output_of}
 use Rattle.cm_ring.specs.Roles.{Reading}
 use Rattle.cm_ring_core.specs.Lawful.{IsFoundEnd}
 use Rattle.cm_ring_core.specs.declared.view.End.{End}
@@ -40,6 +42,22 @@ outputs_first sub (conv ∷ convs) (word ∷ words) = ap (λ (l : List Output). 
 -- the munged samples of an input's paced ring
 pub munged_ring : (p : PlanText) → 1 ≤ length p.cmd.list → munged_plan (ring_of p Paced) ≡ munged_samples p
 munged_ring p some = munged_by_rule p (samples_of p) some
+
+pub ring_samples : (p q : PlanText) (ring : RingConstants) → ring ≡ ring_of p Paced → p ≡ q → 1 ≤ length q.cmd.list → munged_plan ring ≡ munged_samples q
+ring_samples p q ring is same some = ap munged_plan is ∙ ap (λ (x : PlanText). munged_plan (ring_of x Paced)) same ∙ munged_ring q some
+
+-- the filtered samples of such a ring are a loop's words
+pub filtered_ring : (job : LoopJobText) (ring : RingConstants) (filter : FilterText) → filter ≡ filter_of job → munged_plan ring ≡ munged_samples (input_of job) → all_filtered filter (munged_plan ring) ≡ loop_words job
+filtered_ring job ring filter is munged = ap (λ (f : FilterText). all_filtered f (munged_plan ring)) is ∙ ap (all_filtered (filter_of job)) munged
+
+pub within_ring : (job : LoopJobText) (ring : RingConstants) (filter : FilterText) → filter ≡ filter_of job → munged_plan ring ≡ munged_samples (input_of job) → AreWithin (filter_of job) (munged_samples (input_of job)) → AreWithin filter (munged_plan ring)
+within_ring job ring filter is munged within = subst (λ (f : FilterText). AreWithin f (munged_plan ring)) (sym is) (subst (AreWithin (filter_of job)) (sym munged) within)
+
+-- and so are those of a plan that takes no memory
+pub looped_is : (job : LoopJobText) (p : PlanText) (raw : List ℕ) (rule : RuleText) (filter : FilterText) → p ≡ input_of job → raw ≡ samples_of p → rule ≡ rule_of p.sub p.cmd → filter ≡ filter_of job → 1 ≤ length p.cmd.list → looped_samples raw rule filter ≡ loop_words job
+looped_is job p raw rule filter plan samples munge is some =
+    let munged : map_from (munged_word rule) 0 raw ≡ munged_samples p = ap (λ (l : List ℕ). map_from (munged_word rule) 0 l) samples ∙ ap (λ (x : RuleText). map_from (munged_word x) 0 (samples_of p)) munge ∙ munged_by_rule p (samples_of p) some in
+    ap (λ (f : FilterText). all_filtered f (map_from (munged_word rule) 0 raw)) is ∙ ap (all_filtered (filter_of job)) (munged ∙ ap munged_samples plan)
 
 -- where a client takes fewer samples than a paced ring has, it has as many as it takes
 taken_by : (ring : RingConstants) (r : ReaderPart) (kind : EndKind) (count outputs : ℕ) → ring.paced ≡ true → outputs < length ring.samples → IsFoundEnd ring r kind count → (kind ≡ Cancelled → IsTaken (Some outputs) count) → outputs ≤ count
@@ -71,3 +89,11 @@ module _ (ring : RingConstants) (samples outputs : ℕ) (words : List ℕ) (e : 
 pub munged_as : (p : PlanText) (ring : RingConstants) (words : List ℕ) → 1 ≤ length p.cmd.list → ring.rule ≡ rule_of p.sub p.cmd → ring.samples ≡ words → munged_plan ring ≡ munged_words p words
 munged_as p ring words some rule samples =
     ap (λ (x : RuleText). map_from (munged_word x) 0 ring.samples) rule ∙ ap (λ (l : List ℕ). map_from (munged_word (rule_of p.sub p.cmd)) 0 l) samples ∙ munged_by_rule p words some
+
+-- what comes out of a loop's output ring
+pub loop_out : (job : LoopJobText) (ring : RingConstants) (most : Option ℕ) (words : List ℕ) (e : End) (r : Reading) → 1 ≤ length (output_of job).cmd.list → ring.paced ≡ true → ring.rule ≡ rule_of (output_of job).sub (output_of job).cmd → ring.samples ≡ loop_words job
+    → most ≡ take_of (count_of (input_of job)) (count_of (output_of job)) → HasStreamed ring most words e r → words ≡ take (count_of (output_of job)) (munged_words (output_of job) (loop_words job))
+loop_out job ring most words e r some paced rule samples takes streamed =
+    let s = subst (λ (o : Option ℕ). HasStreamed ring o words e r) takes streamed in
+    let many : length ring.samples ≡ count_of (input_of job) = ap (length {A = ℕ}) samples ∙ length-loop_words job in
+    first_words ring (count_of (input_of job)) (count_of (output_of job)) words e r paced many s ∙ ap (take (count_of (output_of job))) (munged_as (output_of job) ring (loop_words job) some rule samples)
