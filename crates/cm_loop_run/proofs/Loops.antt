@@ -1,5 +1,5 @@
 -- What comes out of a loop's output ring.
-use Rattle.std.proofs.Common.{◌≡◌, ℕ, zero, suc, ◌<◌, ◌≤◌, min, Bool, true, false, cond, ltb, List, [], ◌∷◌, length, take, refl, sym, ap, ◌∙◌, subst, inl, inr, Option, Some, None, arith}
+use Rattle.std.proofs.Common.{◌≡◌, ℕ, zero, suc, ◌<◌, ◌≤◌, min, Bool, true, false, cond, ltb, List, [], ◌∷◌, ◌++◌, length, take, refl, sym, ap, ◌∙◌, subst, inl, inr, Option, Some, None, arith}
 use Rattle.std.proofs.lemmas.Bool.{cases_lt, lt-ltb, le-ltb, true≢false}
 use Rattle.std.proofs.lemmas.List.{take_all}
 use Rattle.cm_sample.proofs.Mapped.{length-map_from}
@@ -21,13 +21,14 @@ use Rattle.cm_ring_core.specs.declared.view.EndKind.{EndKind}
 use Rattle.cm_ring_core.specs.declared.view.EndKind.TheVariants.{Done, Overrun, Cancelled}
 use Rattle.cm_ring_core.specs.declared.view.ReaderPart.{ReaderPart}
 use Rattle.cm_ring_core.specs.declared.view.RingConstants.{RingConstants}
-use Rattle.cm_run.specs.Blocks.{count_of, munged_samples, munged_words, outputs_of}
+use Rattle.cm_run.specs.Blocks.{count_of, munged_samples, munged_words, outputs_of, values_tail}
 use Rattle.cm_run.specs.Ran.{ring_of}
 use Rattle.cm_run.proofs.Reported.{length-munged, munged_by_rule}
 use Rattle.cm_run_core.specs.Streamed.{HasStreamed}
 use Rattle.cm_run_lines.specs.declared.line.Mode.TheVariants.{Paced}
-use Rattle.cm_text.specs.Outputs.{Output}
-use Rattle.cm_loop_run.specs.LoopText.{filter_of, loop_words, take_of}
+use Rattle.cm_text.specs.Outputs.{Output, output_texts}
+use Rattle.cm_text.specs.Tails.{tail_text}
+use Rattle.cm_loop_run.specs.LoopText.{filter_of, loop_text, loop_words, take_of}
 
 -- as many words as samples of the input
 pub length-loop_words : (job : LoopJobText) → length (loop_words job) ≡ count_of (input_of job)
@@ -54,10 +55,12 @@ pub within_ring : (job : LoopJobText) (ring : RingConstants) (filter : FilterTex
 within_ring job ring filter is munged within = subst (λ (f : FilterText). AreWithin f (munged_plan ring)) (sym is) (subst (AreWithin (filter_of job)) (sym munged) within)
 
 -- and so are those of a plan that takes no memory
-pub looped_is : (job : LoopJobText) (p : PlanText) (raw : List ℕ) (rule : RuleText) (filter : FilterText) → p ≡ input_of job → raw ≡ samples_of p → rule ≡ rule_of p.sub p.cmd → filter ≡ filter_of job → 1 ≤ length p.cmd.list → looped_samples raw rule filter ≡ loop_words job
-looped_is job p raw rule filter plan samples munge is some =
+pub looped_is : (job : LoopJobText) (raw : List ℕ) (rule : RuleText) (filter : FilterText) → raw ≡ samples_of (input_of job) → rule ≡ rule_of (input_of job).sub (input_of job).cmd → filter ≡ filter_of job → 1 ≤ length (input_of job).cmd.list
+    → looped_samples raw rule filter ≡ loop_words job
+looped_is job raw rule filter samples munge is some =
+    let p : PlanText = input_of job in
     let munged : map_from (munged_word rule) 0 raw ≡ munged_samples p = ap (λ (l : List ℕ). map_from (munged_word rule) 0 l) samples ∙ ap (λ (x : RuleText). map_from (munged_word x) 0 (samples_of p)) munge ∙ munged_by_rule p (samples_of p) some in
-    ap (λ (f : FilterText). all_filtered f (map_from (munged_word rule) 0 raw)) is ∙ ap (all_filtered (filter_of job)) (munged ∙ ap munged_samples plan)
+    ap (λ (f : FilterText). all_filtered f (map_from (munged_word rule) 0 raw)) is ∙ ap (all_filtered (filter_of job)) munged
 
 -- where a client takes fewer samples than a paced ring has, it has as many as it takes
 taken_by : (ring : RingConstants) (r : ReaderPart) (kind : EndKind) (count outputs : ℕ) → ring.paced ≡ true → outputs < length ring.samples → IsFoundEnd ring r kind count → (kind ≡ Cancelled → IsTaken (Some outputs) count) → outputs ≤ count
@@ -97,3 +100,11 @@ loop_out job ring most words e r some paced rule samples takes streamed =
     let s = subst (λ (o : Option ℕ). HasStreamed ring o words e r) takes streamed in
     let many : length ring.samples ≡ count_of (input_of job) = ap (length {A = ℕ}) samples ∙ length-loop_words job in
     first_words ring (count_of (input_of job)) (count_of (output_of job)) words e r paced many s ∙ ap (take (count_of (output_of job))) (munged_as (output_of job) ring (loop_words job) some rule samples)
+
+-- the text of a loop, of which the words past the last conversion are no part
+pub text_is : (job : LoopJobText) (sub : ℕ) (p : PlanText) (words : List ℕ) (values : ℕ) → sub ≡ (output_of job).index → p ≡ output_of job → words ≡ take (count_of (output_of job)) (munged_words (output_of job) (loop_words job)) → values ≡ length (loop_words job)
+    → output_texts (outputs_of sub (items_of p) words) ++ tail_text (values_tail p values) ≡ loop_text job
+text_is job sub p words values sub_is plan words_are values_are =
+    let q : PlanText = output_of job in
+    (λ j. output_texts (outputs_of (sub_is j) (items_of (plan j)) (words_are j)) ++ tail_text (values_tail (plan j) (values_are j)))
+    ∙ ap (λ (l : List Output). output_texts l ++ tail_text (values_tail q (length (loop_words job)))) (outputs_first q.index (items_of q) (munged_words q (loop_words job)))
