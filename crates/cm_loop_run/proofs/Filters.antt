@@ -8,7 +8,7 @@ use Rattle.cm_board.proofs.ChannelNumbers.{channel}
 use Rattle.cm_cmd.specs.Entry.{chan}
 use Rattle.cm_expand.specs.Fit.{IsExpansion, IsFit}
 use Rattle.cm_expand.specs.Plan.{PlanText}
-use Rattle.cm_loop.specs.Filter.{FilterText, filter_text, IsFilter, IsItem, AreWithin}
+use Rattle.cm_loop.specs.Filter.{filter_text, IsFilter, IsItem, AreWithin}
 use Rattle.cm_loop.specs.declared.rule.LoopItem.{LoopItem}
 use Rattle.cm_loop_lines.specs.Job.{LoopJobText, IsLoopJob, input_of, output_of}
 use Rattle.cm_run.specs.Blocks.{munged_samples}

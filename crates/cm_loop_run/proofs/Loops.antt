@@ -1,10 +1,10 @@
 -- What comes out of a loop's output ring.
-use Rattle.std.proofs.Common.{◌≡◌, ℕ, zero, suc, ◌<◌, ◌≤◌, min, Bool, true, false, cond, ltb, List, [], ◌∷◌, ◌++◌, length, take, refl, sym, ap, ◌∙◌, subst, inl, inr, Option, Some, None, arith}
+use Rattle.std.proofs.Common.{◌≡◌, ℕ, ◌<◌, ◌≤◌, min, Bool, true, cond, List, [], ◌∷◌, ◌++◌, length, take, refl, sym, ap, ◌∙◌, subst, inl, inr, Option, Some, None, arith}
 use Rattle.std.proofs.lemmas.Bool.{cases_lt, lt-ltb, le-ltb, true≢false}
 use Rattle.std.proofs.lemmas.List.{take_all}
 use Rattle.cm_sample.proofs.Mapped.{length-map_from}
 use Rattle.cm_sample.specs.Rule.{RuleText, map_from, munged_word}
-use Rattle.cm_client.specs.Progress.{up_to, IsTaken}
+use Rattle.cm_client.specs.Progress.{IsTaken}
 use Rattle.cm_client.specs.Samples.{munged_plan}
 use Rattle.cm_expand.specs.Items.{items_of, samples_of}
 use Rattle.cm_expand.specs.Plan.{PlanText}

@@ -1,10 +1,10 @@
 -- What a loop's plans bring to their rings.
-use Rattle.std.proofs.Common.{◌≡◌, ℕ, ◌≤◌, false, List, length, refl, sym, ap, ◌∙◌, subst, arith}
+use Rattle.std.proofs.Common.{◌≡◌, ◌≤◌, refl, sym, ap, ◌∙◌, subst, arith}
 use Rattle.cm_board.specs.Board.{SubText, IsSoundSub}
 use Rattle.cm_cmd.specs.Command.{CmdText}
 use Rattle.cm_expand.specs.Plan.{PlanText}
-use Rattle.cm_expand.specs.Rule.{is_output, rule_of}
-use Rattle.cm_loop_lines.specs.Job.{LoopJobText, IsLoopJob, input_of, output_of}
+use Rattle.cm_expand.specs.Rule.{rule_of}
+use Rattle.cm_loop_lines.specs.Job.{LoopJobText, IsLoopJob, input_of}
 use Rattle.cm_run.specs.Blocks.{count_of}
 use Rattle.cm_run.specs.Going.{IsGo}
 use Rattle.cm_run.proofs.Streams.{rule_sound}

@@ -1,5 +1,5 @@
-use Rattle.std.proofs.Common.{◌≡◌, ℕ, ◌≤◌, List, length, sym, ap, ◌∙◌, subst, arith}
-use Rattle.cm_board.specs.Board.{SubText, IsSoundSub}
+use Rattle.std.proofs.Common.{ℕ, ◌≤◌, length, sym, ap, ◌∙◌, subst, arith}
+use Rattle.cm_board.specs.Board.{IsSoundSub}
 use Rattle.cm_expand.specs.Board.{BoardState}
 use Rattle.cm_expand.specs.Fit.{IsExpansion}
 use Rattle.cm_expand.specs.Items.{samples_of}
