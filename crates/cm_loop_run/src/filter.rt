@@ -16,9 +16,13 @@ pub(crate) fn filter_of(alloc: Global, job: &LoopJob) -> Result<LoopRule, NoMemo
 {
     let input = job.input_plan();
     let output = job.output_plan();
-    let from = &input.command().list;
-    let to = &output.command().list;
-    let items = items_of(alloc, input.sub(), output.sub(), from, to)?;
+    let from = input.command();
+    let to = output.command();
+    let from_sub = input.sub();
+    let to_sub = output.sub();
+    // These reads show what holds of each subdevice.
+    let _ticks = (from_sub.tick, to_sub.tick);
+    let items = items_of(alloc, from_sub, to_sub, &from.list, &to.list)?;
     Ok(LoopRule {
         items,
         window: job.window,

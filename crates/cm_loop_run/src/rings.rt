@@ -103,7 +103,7 @@ fn munge_beside<
         },
         move || -> Result<Streamed<Q>, NoMemory>
             requires { IsFresh client.reader }
-            ensures { IfOk result (λ s. HasStreamed client.entry.reader.ring take s.words.items s.end s.reader) }
+            ensures { IfOk result (λ s. HasStreamed client.reader.ring take s.words.items s.end s.reader) }
         { filter_beside(rt, alloc, filter, client, munging, take, gate) },
     );
     streamed
@@ -125,7 +125,7 @@ fn filter_beside<
     gate: &G,
 ) -> Result<Streamed<Q>, NoMemory>
     requires { IsFresh client.reader }
-    ensures { IfOk result (λ s. HasStreamed client.entry.reader.ring take s.words.items s.end s.reader) }
+    ensures { IfOk result (λ s. HasStreamed client.reader.ring take s.words.items s.end s.reader) }
 {
     if !munging.wait() {
         filter.stop();
@@ -141,7 +141,7 @@ fn filter_beside<
         },
         move || -> Result<Streamed<Q>, NoMemory>
             requires { IsFresh client.reader }
-            ensures { IfOk result (λ s. HasStreamed client.entry.reader.ring take s.words.items s.end s.reader) }
+            ensures { IfOk result (λ s. HasStreamed client.reader.ring take s.words.items s.end s.reader) }
         { run_client(rt, alloc, client, filtering, false, take, gate, CLIENT) },
     );
     streamed
