@@ -45,24 +45,17 @@ module _ (board : BoardText) (signals : SignalsText) where
   none_given : (s : Streaming) (line : RunLine) → stream_start s ≡ line_start board signals line → given_words s ≡ []
   none_given s line e = ap (λ (n : ℕ). first_munged s.reader.ring n) (fresh_one s line e)
 
-  paced_each : (streams : List Streaming) (lines : List RunLine) → Start_for streams lines → AllByRecursion IsPacedOn streams
-  paced_each [] lines start = tt
-  paced_each (s ∷ streams) [] start = absurd cc
-  paced_each (s ∷ streams) (line ∷ lines) start =
+  -- what holds of each such stream
+  each_by : (P : Streaming → Type 0) → ((s : Streaming) (line : RunLine) → stream_start s ≡ line_start board signals line → P s) → (streams : List Streaming) (lines : List RunLine) → Start_for streams lines → AllByRecursion P streams
+  each_by P one [] lines start = tt
+  each_by P one (s ∷ streams) [] start = absurd cc
+  each_by P one (s ∷ streams) (line ∷ lines) start =
       let head : stream_start s ≡ line_start board signals line = cc in
       let tail : Start_for streams lines = cc in
-      (paced_one s line head, paced_each streams lines tail)
-
-  fresh_each : (streams : List Streaming) (lines : List RunLine) → Start_for streams lines → AllByRecursion IsFresh streams
-  fresh_each [] lines start = tt
-  fresh_each (s ∷ streams) [] start = absurd cc
-  fresh_each (s ∷ streams) (line ∷ lines) start =
-      let head : stream_start s ≡ line_start board signals line = cc in
-      let tail : Start_for streams lines = cc in
-      (fresh_one s line head, fresh_each streams lines tail)
+      (one s line head, each_by P one streams lines tail)
 
   pub all_fresh : (streams : List Streaming) (lines : List RunLine) → Start_for streams lines → All IsFresh streams
-  all_fresh streams lines start = All-from_recursion IsFresh streams (fresh_each streams lines start)
+  all_fresh streams lines start = All-from_recursion IsFresh streams (each_by IsFresh fresh_one streams lines start)
 
   pub counted : (streams : List Streaming) (lines : List RunLine) → Start_for streams lines → length streams ≡ length lines
   counted streams lines start = sym (length-map streams stream_start) ∙ (ap (length {A = Start}) start ∙ length-map lines (line_start board signals))
@@ -86,5 +79,5 @@ module _ (board : BoardText) (signals : SignalsText) where
   pub none_read : (streams : List Streaming) (lines : List RunLine) (lists : List Words) → Start_for streams lines → length lists ≡ length lines → All (λ (w : Words). w.items ≡ []) lists
       → HaveRead streams streams lists
   none_read streams lines lists start count empty =
-      fresh_read streams lists (All-from_recursion IsPacedOn streams (paced_each streams lines start))
+      fresh_read streams lists (All-from_recursion IsPacedOn streams (each_by IsPacedOn paced_one streams lines start))
       (empty_lists streams lines lists start count (recursion_from_All (λ (w : Words). w.items ≡ []) lists empty))

@@ -86,7 +86,7 @@ module _ (board : BoardText) (signals : SignalsText) (lines : List RunLine) (fir
       let source = same_at (λ (x : Words). x.items) whole_of lists first i f.0 read.words f.1 in
       let same : source.0 ≡ w = let a = source.1 in cc in
       let watched_line : IsWatched board line = subst (IsWatched board) (get_or_from_slice_get lines i line line has) (watched i line (slice_get_within lines i line has)) in
-      let some = (scan_of board signals line watched_line).0 in
+      let some = (scan_of board line watched_line).0 in
       let all : words ≡ munged_samples p = are ∙ (ap (λ (x : Words). x.items) (sym same) ∙ (source.2 ∙ (ap munged_plan ring_first ∙ plan_is p some))) in
       let count : e.count ≡ length end.0.reader.ring.samples = subst (λ (k : EndKind). IsFoundEnd end.0.reader.ring end.0.reader.part k e.count) done says in
       let many : length end.0.reader.ring.samples ≡ length words =

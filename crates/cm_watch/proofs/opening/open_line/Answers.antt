@@ -8,7 +8,7 @@ use Rattle.cm_watch.proofs.opening.open_line.Goals as goal
 
 pub new-stream-requires-clause-n : goal.new-stream-requires-clause-n
 new-stream-requires-clause-n c =
-    let scan = scan_of c.args.board.now c.args.signals.now c.args.line.now c.requires.watch in
+    let scan = scan_of c.args.board.now c.args.line.now c.requires.watch in
     let many : c.len-scan.result ≡ length (cmd_of c.args.line.now).list = c.len-scan.ensures ∙ c.behind-cmd.inside.list.ok.0 ∙ ap (λ (x : CmdText). length x.list) (c.behind-cmd.view_is ∙ c.cmd.ensures ∙ c.cmd-cmd.ensures) in
     let room : c.in_ok-board.field-0.reader.ring.size ≡ (sub_at c.args.board.now (cmd_of c.args.line.now).sub).buffer =
     ap (λ (r : RingConstants). r.size) c.in_ok-board.ensures.ring ∙ ap (λ (p : PlanText). p.sub.buffer) c.plan_of-plan.ensures in
