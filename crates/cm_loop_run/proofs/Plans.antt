@@ -1,12 +1,10 @@
 -- What a loop's plans bring to their rings.
-use Rattle.std.proofs.Common.{◌≡◌, ◌≤◌, refl, sym, ap, ◌∙◌, subst, arith}
+use Rattle.std.proofs.Common.{◌≡◌, ◌≤◌, sym, ap, ◌∙◌, subst, arith}
 use Rattle.cm_board.specs.Board.{SubText, IsSoundSub}
 use Rattle.cm_cmd.specs.Command.{CmdText}
 use Rattle.cm_expand.specs.Plan.{PlanText}
 use Rattle.cm_expand.specs.Rule.{rule_of}
-use Rattle.cm_loop_lines.specs.Job.{LoopJobText, IsLoopJob, input_of}
 use Rattle.cm_run.specs.Blocks.{count_of}
-use Rattle.cm_run.specs.Going.{IsGo}
 use Rattle.cm_run.proofs.Streams.{rule_sound}
 use Rattle.cm_sample.specs.Rule.{IsRule, RuleText}
 use Rattle.cm_test.specs.Questions.{tested}
@@ -16,7 +14,7 @@ module _ (t p : PlanText) (sub : SubText) (cmd : CmdText) (plan : p ≡ t) (sub_
   sub_there : sub ≡ t.sub
   sub_there = sub_is ∙ ap (λ (x : PlanText). x.sub) plan
 
-  pub passes : (tested t.sub t.cmd).0 ≡ 0 → (tested sub cmd).0 ≡ 0
+  passes : (tested t.sub t.cmd).0 ≡ 0 → (tested sub cmd).0 ≡ 0
   passes ok = (λ i. (tested (sub_there i) (cmd_is i)).0) ∙ ok
 
   pub rule_there : (rule : RuleText) → rule ≡ rule_of sub cmd → rule ≡ rule_of t.sub t.cmd
@@ -24,13 +22,6 @@ module _ (t p : PlanText) (sub : SubText) (cmd : CmdText) (plan : p ≡ t) (sub_
 
   pub sound_rule : (rule : RuleText) → rule ≡ rule_of sub cmd → IsSoundSub sub → (tested t.sub t.cmd).0 ≡ 0 → IsRule rule
   sound_rule rule is sound ok = subst IsRule (sym is) (rule_sound sub cmd sound (passes ok))
-
--- the input of a loop can be streamed
-pub go_of : (job : LoopJobText) (p : PlanText) (cmd : CmdText) → p ≡ input_of job → cmd ≡ job.input → IsLoopJob job → IsGo p cmd
-go_of job p cmd plan cmd_is is =
-    let few = is.input.few in
-    let here : IsGo (input_of job) job.input = record { cmd = refl; passed = is.input.call.passes; input = is.input.call.directed; few = omega arith } in
-    subst (λ (c : CmdText). IsGo p c) (sym cmd_is) (subst (λ (x : PlanText). IsGo x job.input) (sym plan) here)
 
 -- both commands have few conversions
 pub few_of : (p t : PlanText) → p ≡ t → count_of t ≤ 1000000 → count_of p ≤ 4000000
