@@ -1,0 +1,96 @@
+#!/usr/bin/env python3
+"""Prints what board texts say, a line for each subdevice.
+
+    scripts/boards.py [-s] [FILE..]
+
+FILE is a board text, or a job; without one it is each text in examples/boards. With -s the lines have
+the sources of the subdevices that take commands, and else their numbers:
+
+    bits     of its codes                  ns a scan, ns a conversion     the least times of a command
+    tick     of its clock, in ns           samples a second               of one channel after another
+    list     the longest channel list      lines                          external ones
+
+A `+` after the ranges says that some channels have ranges of their own.
+"""
+import glob
+import os
+import sys
+
+TOP = os.path.dirname(os.path.dirname(os.path.abspath(__file__)))
+UNITS = {"0": "V", "1": "mA", "2": ""}
+
+
+def subdevices(path):
+    """The blocks of a board text, each as its first line's words and its other lines by their first words."""
+    blocks = []
+    with open(path) as file:
+        for line in file:
+            words = line.split()
+            if not words or words[0].startswith("#"):
+                continue
+            if words[0] == "signals":
+                break
+            if words[0] == "subdevice":
+                blocks.append((words[1], words[2], {}))
+            elif blocks:
+                blocks[-1][2].setdefault(words[0], []).append(words[1:])
+    return blocks
+
+
+def millionths(text):
+    """A number of millionths, in whole units and decimals."""
+    number = int(text) / 1000000
+    return "%g" % number
+
+
+def ranges(lines):
+    """The ranges of a subdevice in their order, each as +-10 or 0..5, with the unit."""
+    made, units = [], []
+    for low, high, unit in lines.get("range", []):
+        both = int(low) == -int(high)
+        made.append("+-" + millionths(high) if both else millionths(low) + ".." + millionths(high))
+        units.append(UNITS[unit])
+    own = "+" if any(words[1] == "range" for words in lines.get("chan", [])) else ""
+    return " ".join(made + sorted(set(units))) + own
+
+
+def one(lines, name, place=0, none="-"):
+    """A word of a line that stands once."""
+    return lines[name][0][place] if name in lines else none
+
+
+def rate(lines):
+    """Samples a second of a command that goes as fast as it can."""
+    if "sources" not in lines:
+        return "-"
+    timed = "timer" in one(lines, "sources", 2).split("|")
+    return str(1000000000 // int(one(lines, "convert" if timed else "scan")))
+
+
+def numbers(name, at, kind, channels, lines):
+    return [name, str(at), kind, channels, one(lines, "bits"), one(lines, "tick"), one(lines, "scan"),
+            one(lines, "convert"), rate(lines), one(lines, "list"), one(lines, "lines", none="0"), ranges(lines)]
+
+
+def sources(name, at, kind, channels, lines):
+    return [name, str(at), kind] + lines["sources"][0] + [str(len(lines.get("forbid", []))) + " pairs"]
+
+
+def main(arguments):
+    asks = arguments[:1] == ["-s"]
+    files = arguments[1:] if asks else arguments
+    rows = [["board", "sub", "kind", "START", "SCAN_BEGIN", "CONVERT", "SCAN_END", "STOP", "forbidden"] if asks else
+            ["board", "sub", "kind", "ch", "bits", "tick", "scan", "convert", "samples/s", "list", "lines", "ranges"]]
+    for path in files or sorted(glob.glob(os.path.join(TOP, "examples", "boards", "*.txt"))):
+        name = os.path.basename(path).rsplit(".", 1)[0]
+        for at, (kind, channels, lines) in enumerate(subdevices(path)):
+            if not asks:
+                rows.append(numbers(name, at, kind, channels, lines))
+            elif "sources" in lines:
+                rows.append(sources(name, at, kind, channels, lines))
+    wide = [max(len(row[at]) for row in rows) for at in range(len(rows[0]))]
+    for row in rows:
+        print("  ".join(word.ljust(width) for word, width in zip(row, wide)).rstrip())
+
+
+main(sys.argv[1:])
