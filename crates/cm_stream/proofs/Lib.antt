@@ -1,5 +1,6 @@
-pub mod Cuts
-pub mod Streams
+pub mod Appends
 pub mod Coming
-pub mod Rounds
+pub mod Cuts
 pub mod Merged
+pub mod Rounds
+pub mod Streams

@@ -29,7 +29,7 @@ alike f (x ∷ old) (y ∷ new) same each =
     let head : f y ≡ f x = each 0 x y refl refl in
     let tail : map f new ≡ map f old = alike f old new (omega arith) (λ j a b had has. each (suc j) a b had has) in cc
 
-set_alike : {X : Type 0} (f : Streaming → X) (xs : List Streaming) (i : ℕ) (a b : Streaming) → slice_get xs i ≡ Some a → f b ≡ f a → map f (set xs i b) ≡ map f xs
+pub set_alike : {X : Type 0} (f : Streaming → X) (xs : List Streaming) (i : ℕ) (a b : Streaming) → slice_get xs i ≡ Some a → f b ≡ f a → map f (set xs i b) ≡ map f xs
 set_alike f [] i a b had same = refl
 set_alike f (x ∷ xs) zero a b had same = let e : x ≡ a = cc had in ap (λ (y : _). y ∷ map f xs) (same ∙ sym (ap f e))
 set_alike f (x ∷ xs) (suc i) a b had same = ap (λ (ys : List _). f x ∷ ys) (set_alike f xs i a b had same)
@@ -80,7 +80,7 @@ module _ {X : Type 0} (f : Streaming → X) (add : X → ScanText → X) (given 
     lacks = λ a b step. kept a b step.same step.answers.0;
   }
 
-fixed_same : (a b : Streaming) → IsSameStream a b → fixed b ≡ fixed a
+pub fixed_same : (a b : Streaming) → IsSameStream a b → fixed b ≡ fixed a
 fixed_same a b same = let n = same.n in let table = same.table in let ring = same.ring in let asked = same.asked in cc
 
 words_same : (a b : Streaming) → IsSameStream a b → b.reader.part.released ≡ a.reader.part.released → given_words b ≡ given_words a

@@ -1,6 +1,6 @@
 -- What a stream keeps, and what a scan of it says.
-use Rattle.std.proofs.Common.{◌≡◌, ℕ, ◌+◌, ◌-◌, ◌%◌, ◌≤◌, true, inl, inr, List, [], ◌∷◌, ◌++◌, length, refl, sym, ap, ◌∙◌, subst, Option, Some, None, arith}
-use Rattle.std.proofs.Math.Nat.{add-mod_right}
+use Rattle.std.proofs.Common.{◌≡◌, ℕ, ◌+◌, ◌-◌, ◌*◌, ◌%◌, ◌≤◌, true, inl, inr, List, [], ◌∷◌, ◌++◌, length, refl, sym, ap, ◌∙◌, subst, Option, Some, None, arith}
+use Rattle.std.proofs.Math.Nat.{add-mod_right, add-mul-mod_self_right}
 use Rattle.std.proofs.lemmas.Bool.{cases_lt}
 use Rattle.cm_ring_core.specs.declared.view.EndKind.{EndKind}
 use Rattle.cm_ring_core.specs.declared.view.EndKind.TheVariants.{Done, Overrun, Cancelled}
@@ -54,16 +54,15 @@ looked_says ring r known looks Cancelled count h = h
 
 module _ (s : Streaming) (found : Option End) (h : IsStream s found) where
   -- a look leaves what a stream keeps
-  pub mapped_ok : (r : Reading) (known looks mapped : ℕ) → r ≡ record s.reader { part = record s.reader.part { known = known; munged_looks = looks }; mapped = mapped } → IsReading r → mapped ≤ want_of s
+  pub mapped_ok : (r : Reading) (known looks mapped : ℕ) → r ≡ record s.reader { part = record s.reader.part { known = known; munged_looks = looks }; mapped = mapped } → IsReading r
       → ((e : End) → s.reader.part.found ≡ Some e → known ≤ e.count) → IsStream (streaming s.n r) found
-  mapped_ok r known looks mapped e places few ended =
+  mapped_ok r known looks mapped e places ended =
       let P : Reading → Type 0 = λ x. IsReading x → IsStream (streaming s.n x) found in
       let here : P (record s.reader { part = record s.reader.part { known = known; munged_looks = looks }; mapped = mapped }) = λ at. record {
         some = h.some;
         fits = h.fits;
         places = at;
         found_is = h.found_is;
-        mapped = few;
         known = ended;
         cut = h.cut;
         says = λ x is. looked_says s.reader.ring s.reader.part known looks x.kind x.count (h.says x is);
@@ -79,21 +78,23 @@ module _ (s : Streaming) (found : Option End) (h : IsStream s found) where
         fits = h.fits;
         places = record { mapped_known = at.mapped_known; known_room = at.known_room; known_end = at.known_end; few_cells = at.few_cells; finite = at.finite };
         found_is = h.found_is;
-        mapped = h.mapped;
         known = h.known;
         cut = h.cut;
         says = λ x is. asked_says s.reader.ring s.reader.part x.kind x.count (h.says x is);
       } in subst P (sym e) here
 
--- the reader after a release of all that is mapped
+-- the reader after a release
 abbrev pub released_by : Reading → ℕ → Reading
-released_by r want = record r { part = record r.part { released = r.part.released + want }; mapped = 0 }
+released_by r want = record r { part = record r.part { released = r.part.released + want }; mapped = r.mapped - want }
 
-pub all_released : (r s t : Reading) (want : ℕ) → t ≡ record s { part = record s.part { released = s.part.released + want }; mapped = s.mapped - want } → s ≡ r → r.mapped ≡ want → t ≡ released_by r want
-all_released r s t want e same mapped =
-    let z : r.mapped - want ≡ 0 = omega arith in
-    e ∙ (ap (λ (x : Reading). record x { part = record x.part { released = x.part.released + want }; mapped = x.mapped - want }) same
-    ∙ ap (λ (m : ℕ). record r { part = record r.part { released = r.part.released + want }; mapped = m }) z)
+pub released_same : (r s t : Reading) (want : ℕ) → t ≡ released_by s want → s ≡ r → t ≡ released_by r want
+released_same r s t want e same = e ∙ ap (λ (x : Reading). released_by x want) same
+
+-- whole scans more
+scans_cut : (n released scans most : ℕ) (found : Option End) → released + scans * n ≤ most → ((e : End) → found ≡ Some e → most ≤ e.count) → IsCut n released found → IsCut n (released + scans * n) found
+scans_cut n released scans most found within ended (inl whole) = inl (add-mul-mod_self_right released scans n ∙ whole)
+scans_cut n released scans most found within ended (inr end) =
+    let few = ended end.0 end.1 in let is = end.2 in inr (end.0, end.1, omega arith)
 
 module _ (s : Streaming) (found : Option End) (want : ℕ) (is : want ≡ want_of s) (some : 1 ≤ want) (h : IsStream s found) where
   whole : s.reader.part.released % s.n ≡ 0
@@ -107,13 +108,12 @@ module _ (s : Streaming) (found : Option End) (want : ℕ) (is : want ≡ want_o
         fits = h.fits;
         places = at;
         found_is = h.found_is;
-        mapped = omega arith;
         known = h.known;
         says = λ x end_is. released_says s.reader.ring s.reader.part want x.kind x.count (h.says x end_is);
         cut = cut_after s.n s.reader.part.released want s.reader.part.found is whole;
       } in subst P (sym e) here places
 
-  given_says : (scan : ScanText) (words : List ℕ) → scan ≡ scan_text s.reader.part.released words → words ≡ piece s.reader.ring s.reader.part.released want → s.reader.mapped ≡ want
+  given_says : (scan : ScanText) (words : List ℕ) → scan ≡ scan_text s.reader.part.released words → words ≡ piece s.reader.ring s.reader.part.released want → want ≤ s.reader.mapped
       → IsGiven scan want s (streaming s.n (released_by s.reader want))
   given_says scan words is_scan is_words is_mapped =
       let ring : RingConstants = s.reader.ring in let from : ℕ = s.reader.part.released in let at = h.places in
@@ -133,9 +133,25 @@ module _ (s : Streaming) (found : Option End) (want : ℕ) (is : want ≡ want_o
       }
 
   -- as contracts see it
-  pub given_here : (scan : ScanText) (words : List ℕ) → scan ≡ scan_text s.reader.part.released words → words ≡ piece s.reader.ring s.reader.part.released want → s.reader.mapped ≡ want
+  pub given_here : (scan : ScanText) (words : List ℕ) → scan ≡ scan_text s.reader.part.released words → words ≡ piece s.reader.ring s.reader.part.released want → want ≤ s.reader.mapped
       → (r : Reading) → r ≡ released_by s.reader want → (old : Streaming) → s ≡ old → IsGiven scan want old (streaming s.n r)
   given_here scan words is_scan is_words is_mapped r e old view_is =
       let P : Streaming → Type 0 = λ x. IsGiven scan want x (streaming s.n r) in
       let Q : Reading → Type 0 = λ x. IsGiven scan want s (streaming s.n x) in
       subst P view_is (subst Q (sym e) (given_says scan words is_scan is_words is_mapped))
+
+-- as many whole scans more
+module _ (s : Streaming) (found : Option End) (scans : ℕ) (h : IsStream s found) (mapped : scans * s.n ≤ s.reader.mapped) where
+  pub scans_ok : (r : Reading) → r ≡ released_by s.reader (scans * s.n) → IsReading r → IsStream (streaming s.n r) found
+  scans_ok r e places =
+      let count : ℕ = scans * s.n in let at = h.places in let known = at.mapped_known in
+      let P : Reading → Type 0 = λ x. IsReading x → IsStream (streaming s.n x) found in
+      let here : P (released_by s.reader count) = λ now. record {
+        some = h.some;
+        fits = h.fits;
+        places = now;
+        found_is = h.found_is;
+        known = h.known;
+        says = λ x end_is. released_says s.reader.ring s.reader.part count x.kind x.count (h.says x end_is);
+        cut = scans_cut s.n s.reader.part.released scans s.reader.part.known s.reader.part.found (omega arith) h.known h.cut;
+      } in subst P (sym e) here places

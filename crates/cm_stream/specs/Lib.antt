@@ -1,5 +1,6 @@
-pub mod Scans
-pub mod Stream
-pub mod Step
-pub mod Polled
+pub mod Appended
 pub mod Merging
+pub mod Polled
+pub mod Scans
+pub mod Step
+pub mod Stream

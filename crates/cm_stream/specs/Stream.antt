@@ -29,7 +29,6 @@ pub record IsStream (s : Streaming) (found : Option End) : Type 0 where
   pub fits : s.n ≤ s.reader.ring.size
   pub places : IsReading s.reader
   pub found_is : s.reader.part.found ≡ found
-  pub mapped : s.reader.mapped ≤ want_of s
   pub known : (e : End) → s.reader.part.found ≡ Some e → s.reader.part.known ≤ e.count
   pub cut : IsCut s.n s.reader.part.released s.reader.part.found
   pub says : (e : End) → s.reader.part.found ≡ Some e → IsFoundEnd s.reader.ring s.reader.part e.kind e.count

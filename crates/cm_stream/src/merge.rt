@@ -1,10 +1,11 @@
 // Several streams, served by one client.
 ghost use Rattle.std.specs.Prelude.{◌≡◌, ◌<◌, ◌^◌, length, map, IfOk, IfSome, None};
 ghost use Rattle.std.specs.List.{All};
+ghost use Rattle.cm_stream.specs.Appended.{HasAppendedOf};
 ghost use Rattle.cm_stream.specs.Stream.{asked_stream};
 ghost use Rattle.cm_stream.specs.Merging.{merging, first_after, last_after, HasGoneRound, HasMerged, IsEndOf, IsFresh};
 
-use crate::round::{ask_all, round};
+use crate::round::{append_of, ask_all, round};
 use crate::scan::Scan;
 use crate::stream::ScanStream;
 use cm_base::transfer::NoMemory;
@@ -95,6 +96,22 @@ impl<P: Planned> Merge<P> {
             self.last = Some(*source);
         }
         answer
+    }
+
+    /// Appends the words of the next whole scans of a source, of at most `most` samples in all, as
+    /// `ScanStream::append_scans` does, and reports how many scans they are. The other sources, and the
+    /// one that was given last, stay as they are.
+    pub fn append_scans(
+        &mut self,
+        s: u32,
+        words: &mut Vec<u32>,
+        most: u32,
+    ) -> Result<u32, NoMemory>
+        requires { s < length self.old.streams }
+        ensures appended { IfOk result (λ scans. HasAppendedOf s scans most words.old.items words.new.items self.old.streams self.new.streams) }
+        ensures last { self.new.last ≡ self.old.last }
+    {
+        append_of(&mut self.streams, s as usize, words, most)
     }
 
     /// Asks every ring for the stop. It takes no memory.

@@ -1,11 +1,13 @@
 // Rounds over the streams of a merge.
-ghost use Rattle.std.specs.Prelude.{◌≡◌, ◌<◌, length, map};
+ghost use Rattle.std.specs.Prelude.{◌≡◌, ◌<◌, length, map, IfOk};
+ghost use Rattle.cm_stream.specs.Appended.{HasAppendedOf};
 ghost use Rattle.cm_stream.specs.Stream.{asked_stream};
 ghost use Rattle.cm_stream.specs.Merging.{source_after, HasTurned, HasGoneRound};
 
 use crate::merge::MergeStep;
 use crate::step::StreamStep;
 use crate::stream::ScanStream;
+use cm_base::transfer::NoMemory;
 use cm_sample::planned::Planned;
 
 // The turn of one source: none where it is over.
@@ -52,6 +54,21 @@ pub(crate) fn round<P: Planned>(streams: &mut [ScanStream<P>], first: u32, count
     } else {
         MergeStep::Ended
     }
+}
+
+// Appends the words of the next whole scans of one source.
+pub(crate) fn append_of<P: Planned>(
+    streams: &mut [ScanStream<P>],
+    source: usize,
+    words: &mut Vec<u32>,
+    most: u32,
+) -> Result<u32, NoMemory>
+    requires { source < length streams.old }
+    ensures appended { IfOk result (λ scans. HasAppendedOf source scans most words.old.items words.new.items streams.old streams.new) }
+    ensures count { length streams.new ≡ length streams.old }
+{
+    let stream = &mut streams[source];
+    stream.append_scans(words, most)
 }
 
 // Asks each ring for the stop.

@@ -1,21 +1,40 @@
 // A stream of scans over a ring's reader.
-ghost use Rattle.std.specs.Prelude.{◌≡◌, ◌+◌, ◌-◌, ◌≤◌, min, length, IfOk, IfSome, IfNone, IsTrue, true, Some, None};
+ghost use Rattle.std.specs.Prelude.{◌≡◌, ◌+◌, ◌-◌, ◌*◌, ◌/◌, ◌<◌, ◌≤◌, ◌++◌, min, length, IfOk, IfSome, IfNone, IsTrue, OnErr, true, Some, None};
 ghost use Rattle.cm_ring_core.specs.declared.view.End.{End};
 ghost use Rattle.cm_ring_core.specs.Lawful.{IsFoundEnd};
 ghost use Rattle.cm_client.specs.Samples.{piece};
-ghost use Rattle.cm_stream.specs.Stream.{want_of, asked_stream, is_over, IsOver};
+ghost use Rattle.cm_stream.specs.Appended.{HasAppended};
+ghost use Rattle.cm_stream.specs.Stream.{want_of, asked_stream, is_over, IsOver, IsSameStream};
 ghost use Rattle.cm_stream.specs.Step.{IsGiven, HasStepped};
 
 use crate::scan::Scan;
 use crate::step::StreamStep;
+use cm_base::transfer::NoMemory;
 use cm_ring::reader::Reader;
 use cm_ring_core::view::End;
 use cm_sample::planned::Planned;
 use std::alloc::{AllocError, Global};
 use std::marker::Model;
 
+// Appends the first samples that are mapped.
+#[tactic(auto, using(cm_client::proofs::Pieces::pushed_more))]
+fn append_mapped<P: Planned>(
+    reader: &mut Reader<P>,
+    words: &mut Vec<u32>,
+    count: u32,
+) -> Result<(), AllocError>
+    requires mapped { count ≤ reader.old.mapped }
+    requires within { reader.old.part.released + count ≤ length reader.old.ring.samples }
+    ensures same { reader.new ≡ reader.old }
+    ensures words { IfOk result (λ _. words.new.items ≡ words.old.items ++ piece reader.old.ring reader.old.part.released count) }
+{
+    for i in 0..count {
+        words.push(reader.word(i))?;
+    }
+    Ok(())
+}
+
 // The first samples that are mapped.
-#[tactic(auto, using(cm_client::proofs::Pieces::piece_more))]
 fn mapped_words<P: Planned>(
     alloc: Global,
     reader: &mut Reader<P>,
@@ -27,9 +46,7 @@ fn mapped_words<P: Planned>(
     ensures words { IfOk result (λ words. words.items ≡ piece reader.old.ring reader.old.part.released count) }
 {
     let mut words = Vec::new(alloc);
-    for i in 0..count {
-        words.push(reader.word(i))?;
-    }
+    append_mapped(reader, &mut words, count)?;
     Ok(words)
 }
 
@@ -86,7 +103,6 @@ impl<P: Planned> ScanStream<P> {
     // How many samples the next scan has.
     fn want(&self) -> u32
         ensures want { result ≡ want_of self.now }
-        ensures mapped { self.now.reader.mapped ≤ result }
         ensures over { result ≡ 0 → IsOver self.now }
     {
         match self.found {
@@ -95,24 +111,24 @@ impl<P: Planned> ScanStream<P> {
         }
     }
 
-    // Maps up to what is wanted, by a look at the munged count.
+    // Maps what is wanted, as far as it has come, by a look at the munged count.
     fn map_wanted(&mut self, want: u32)
         requires { want ≡ want_of self.old }
         ensures kept { self.new ≡ record self.old { reader = record self.old.reader { part = record self.old.reader.part { known = self.new.reader.part.known; munged_looks = self.old.reader.part.munged_looks + 1 }; mapped = self.new.reader.mapped } } }
-        ensures mapped { self.new.reader.mapped ≡ min want (self.new.reader.part.known - self.old.reader.part.released) }
+        ensures mapped { self.new.reader.mapped < want → self.new.reader.part.known - self.old.reader.part.released < want }
         ensures later { self.old.reader.part.known ≤ self.new.reader.part.known }
     {
-        let more = want - self.reader.mapped();
+        let more = want.saturating_sub(self.reader.mapped());
         self.reader.map(more);
     }
 
-    // The scan that is mapped, or none where there is no memory for it.
+    // The next scan, which is mapped, or none where there is no memory for it.
     fn give(&mut self, want: u32) -> Option<Scan>
         requires want { (want ≡ want_of self.old) × (1 ≤ want) }
-        requires mapped { self.old.reader.mapped ≡ want }
+        requires mapped { want ≤ self.old.reader.mapped }
         ensures none { IfNone result (self.new ≡ self.old) }
         ensures given { IfSome result (λ scan. IsGiven scan want self.old self.new) }
-        ensures kept { IfSome result (λ scan. self.new ≡ record self.old { reader = record self.old.reader { part = record self.old.reader.part { released = self.old.reader.part.released + want }; mapped = 0 } }) }
+        ensures kept { IfSome result (λ scan. self.new ≡ record self.old { reader = record self.old.reader { part = record self.old.reader.part { released = self.old.reader.part.released + want }; mapped = self.old.reader.mapped - want } }) }
     {
         let first = self.reader.released();
         let words = mapped_words(self.alloc, &mut self.reader, want).ok()?;
@@ -141,6 +157,56 @@ impl<P: Planned> ScanStream<P> {
             Some(scan) => StreamStep::Given(scan),
             None => StreamStep::NoMemory,
         }
+    }
+
+    // Maps up to `most` samples, by a look at the munged count, and reports how many whole scans they
+    // have.
+    fn map_scans(&mut self, most: u32) -> u32
+        ensures kept { self.new ≡ record self.old { reader = record self.old.reader { part = record self.old.reader.part { known = self.new.reader.part.known; munged_looks = self.old.reader.part.munged_looks + 1 }; mapped = self.new.reader.mapped } } }
+        ensures scans { result ≡ min most (self.new.reader.part.known - self.old.reader.part.released) / self.old.n }
+        ensures mapped { result * self.old.n ≤ self.new.reader.mapped }
+        ensures later { self.old.reader.part.known ≤ self.new.reader.part.known }
+    {
+        let more = most.saturating_sub(self.reader.mapped());
+        self.reader.map(more);
+        self.reader.mapped().min(most) / self.n
+    }
+
+    // Appends the words of so many whole scans, which are mapped.
+    fn append_whole(&mut self, words: &mut Vec<u32>, scans: u32) -> Result<(), AllocError>
+        requires mapped { scans * self.old.n ≤ self.old.reader.mapped }
+        ensures same { self.new ≡ self.old }
+        ensures words { IfOk result (λ _. words.new.items ≡ words.old.items ++ piece self.old.reader.ring self.old.reader.part.released (scans * self.old.n)) }
+    {
+        // It says in contracts where the reader's places are.
+        let _ = self.reader.mapped();
+        append_mapped(&mut self.reader, words, scans * self.n)
+    }
+
+    // Releases so many whole scans, which are mapped.
+    fn release_scans(&mut self, scans: u32)
+        requires mapped { scans * self.old.n ≤ self.old.reader.mapped }
+        ensures { self.new ≡ record self.old { reader = record self.old.reader { part = record self.old.reader.part { released = self.old.reader.part.released + scans * self.old.n }; mapped = self.old.reader.mapped - scans * self.old.n } } }
+    {
+        self.reader.release(scans * self.n);
+        // It says in contracts where the reader's places are.
+        let _ = self.reader.mapped();
+    }
+
+    /// Appends the words of the next whole scans, of at most `most` samples in all, as many as a look in
+    /// this call at the munged count finds, and releases them. It reports how many scans they are. A
+    /// scan that an end cuts isn't among them. Where memory runs out nothing is released.
+    pub fn append_scans(&mut self, words: &mut Vec<u32>, most: u32) -> Result<u32, NoMemory>
+        ensures same { IsSameStream self.old self.new }
+        ensures appended { IfOk result (λ scans. HasAppended scans most words.old.items words.new.items self.old self.new) }
+        ensures lack { OnErr result (self.new.reader.part.released ≡ self.old.reader.part.released) }
+    {
+        let scans = self.map_scans(most);
+        if scans > 0 {
+            self.append_whole(words, scans)?;
+            self.release_scans(scans);
+        }
+        Ok(scans)
     }
 
     /// Asks the ring's writer to stop. It takes no memory.

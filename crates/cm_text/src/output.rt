@@ -1,13 +1,14 @@
 // The line of a word that is put out.
-ghost use Rattle.std.specs.Prelude.{◌≡◌, ◌++◌, OnOk};
+ghost use Rattle.std.specs.Prelude.{◌≡◌, ◌+◌, ◌≤◌, ◌++◌, [], codes, length, OnOk};
+ghost use Rattle.std.specs.Fmt.{decimal};
 ghost use Rattle.cm_text.specs.Outputs.{output_text};
 
-use cm_base::numbers::put_u64;
 use cm_base::short::Short;
 use cm_base::transfer::NoMemory;
 use cm_expand::conv::Conv;
 
 /// Appends the line of a word that is put out when its conversion comes.
+#[inline(always)]
 pub fn put_output(
     text: &mut Vec<u8>,
     sub: u32,
@@ -16,16 +17,47 @@ pub fn put_output(
 ) -> Result<(), NoMemory>
     ensures { OnOk result (text.new.items ≡ text.old.items ++ output_text (record { sub = sub; time = conversion.now.time; index = conversion.now.list_index; word = word })) }
 {
-    text.extend_from_slice(b"out ")?;
-    put_u64(text, u64::from(sub))?;
     let mut line = Short::new();
-    line.byte(b'\n');
-    line.number(u64::from(word));
-    line.byte(b' ');
-    line.number(u64::from(conversion.list_index));
+    put_word(&mut line, conversion.list_index, word);
     line.byte(b' ');
     line.number(conversion.time);
+    put_sub(&mut line, sub);
+    line.append_to(text)
+}
+
+// Puts a number of 32 bits before a short text.
+#[inline(always)]
+fn put_small(line: &mut Short, value: u32)
+    requires room { length line.old + 20 ≤ 64 }
+    ensures text { line.new ≡ decimal value ++ line.old }
+    ensures length { length line.new ≤ length line.old + 10 }
+{
+    line.number(u64::from(value));
+}
+
+// The end of the line: the list index and the word.
+#[inline(always)]
+fn put_word(line: &mut Short, index: u32, word: u32)
+    requires { line.old ≡ [] }
+    ensures text { line.new ≡ decimal index ++ codes " " ++ decimal word ++ codes "\n" }
+    ensures length { length line.new ≤ 22 }
+{
+    line.byte(b'\n');
+    put_small(line, word);
     line.byte(b' ');
-    line.append_to(text)?;
-    Ok(())
+    put_small(line, index);
+}
+
+// The start of the line: what is put out, and of which subdevice.
+#[inline(always)]
+fn put_sub(line: &mut Short, sub: u32)
+    requires room { length line.old ≤ 43 }
+    ensures { line.new ≡ codes "out " ++ decimal sub ++ codes " " ++ line.old }
+{
+    line.byte(b' ');
+    put_small(line, sub);
+    line.byte(b' ');
+    line.byte(b't');
+    line.byte(b'u');
+    line.byte(b'o');
 }
