@@ -1,6 +1,6 @@
 -- Conversions of an output beside those of an input, one after another.
-use Rattle.std.proofs.Common.{◌≡◌, ℕ, ◌+◌, ◌<◌, ◌≤◌, Bool, true, false, List, [], ◌∷◌, length, drop, refl, sym, ap, ◌∙◌, Option, Some, None, inl, inr}
-use Rattle.std.specs.Prelude.{◌&&◌, nat_lt, slice_get}
+use Rattle.std.proofs.Common.{◌≡◌, ℕ, ◌+◌, ◌<◌, ◌≤◌, Bool, true, false, List, [], ◌∷◌, length, drop, refl, sym, ap, ◌∙◌, subst, Option, Some, None, inl, inr}
+use Rattle.std.specs.Prelude.{◌&&◌, nat_lt, option_map, slice_get, MatchOption}
 use Rattle.std.proofs.lemmas.Bool.{le-ltb, lt-ltb}
 use Rattle.std.proofs.lemmas.List.{drop_all, drop_more}
 use Rattle.std.proofs.lemmas.Option.{get_or_from_slice_get, none-some, slice_get_cases, slice_get_within}
@@ -20,10 +20,40 @@ no_puts : (samples : List Conv) → are_later samples [] ≡ true
 no_puts [] = refl
 no_puts (s ∷ ss) = refl
 
--- what a board gives next is the conversion of its place
-pub next_is : (p : PlanText) (b : BoardState) (o x : Option Conv) (i : ℕ) → b.plan ≡ p → b.place ≡ i → o ≡ slice_get (items_of b.plan) b.place → o ≡ x → slice_get (items_of p) i ≡ x
-next_is p b o x i plan place next is =
-    sym (next ∙ ap (λ (q : PlanText). slice_get (items_of q) b.place) plan ∙ ap (λ (k : ℕ). slice_get (items_of p) k) place) ∙ is
+-- how a board stands at a place of a plan
+pub record StandsAt (p : PlanText) (b : BoardState) (i : ℕ) : Type 0 where
+  pub plan : b.plan ≡ p
+  pub place : b.place ≡ i
+
+there : (p : PlanText) (b : BoardState) (i : ℕ) → StandsAt p b i → slice_get (items_of b.plan) b.place ≡ slice_get (items_of p) i
+there p b i at = ap (λ (q : PlanText). slice_get (items_of q) b.place) at.plan ∙ ap (slice_get (items_of p)) at.place
+
+-- what there is of a conversion's time
+timed : (o : Option Conv) (t : ℕ) → option_map (λ conv. conv.time) o ≡ Some t → (c : Conv) × (o ≡ Some c) × (c.time ≡ t)
+timed None t is = absurd cc
+timed (Some c) t is = (c, refl, cc)
+
+untimed : (o : Option Conv) → option_map (λ conv. conv.time) o ≡ None → o ≡ None
+untimed None is = refl
+untimed (Some c) is = absurd cc
+
+-- the next conversion of a board, which comes at the time that it tells
+pub next_at : (p : PlanText) (b : BoardState) (i : ℕ) (o : Option ℕ) (t : ℕ) → StandsAt p b i → o ≡ option_map (λ conv. conv.time) (slice_get (items_of b.plan) b.place) → o ≡ Some t
+    → (c : Conv) × (slice_get (items_of p) i ≡ Some c) × (c.time ≡ t)
+next_at p b i o t at next is =
+    let c = timed (slice_get (items_of b.plan) b.place) t (sym next ∙ is) in
+    (c.0, sym (there p b i at) ∙ c.1, c.2)
+
+-- no conversion is left to it
+pub none_at : (p : PlanText) (b : BoardState) (i : ℕ) (o : Option ℕ) → StandsAt p b i → o ≡ option_map (λ conv. conv.time) (slice_get (items_of b.plan) b.place) → o ≡ None → slice_get (items_of p) i ≡ None
+none_at p b i o at next none = sym (there p b i at) ∙ untimed (slice_get (items_of b.plan) b.place) (sym next ∙ none)
+
+-- after a step it stands one place later
+pub passed_at : (p : PlanText) (b new : BoardState) (i : ℕ) (c : Conv) → StandsAt p b i → slice_get (items_of p) i ≡ Some c
+    → MatchOption (slice_get (items_of b.plan) b.place) (new ≡ b) (λ _. new ≡ record b { place = b.place + 1 }) → StandsAt p new (i + 1)
+passed_at p b new i c at here passes =
+    let e = subst (λ (o : Option Conv). MatchOption o (new ≡ b) (λ _. new ≡ record b { place = b.place + 1 })) (there p b i at ∙ here) passes in
+    record { plan = ap (λ (x : BoardState). x.plan) e ∙ at.plan; place = ap (λ (x : BoardState). x.place) e ∙ ap (λ (n : ℕ). n + 1) at.place }
 
 left_of : (items : List Conv) (i : ℕ) (c : Conv) → slice_get items i ≡ Some c → drop i items ≡ c ∷ drop (i + 1) items
 left_of items i c here =

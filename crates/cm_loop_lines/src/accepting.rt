@@ -96,7 +96,7 @@ fn is_matched(line: &LoopLine) -> bool
 fn is_short(plan: &Plan<'_>) -> bool
     ensures { result ≡ spec.is_short (plan_text plan.now) }
 {
-    match plan.count(MOST) {
+    match plan.bound(MOST) {
         Ok(_) => true,
         Err(_) => false,
     }

@@ -11,7 +11,7 @@ use cm_expand::plan::Plan;
 pub(crate) const MOST: u64 = 1_000_000;
 
 /// Whether each conversion of an output comes later than the input's of the same place, as far as
-/// both have one. It walks through both expansions and keeps neither.
+/// both have one. It walks through the times of both expansions and keeps neither.
 pub(crate) fn is_ahead(input: Plan<'_>, output: Plan<'_>) -> bool
     requires { length (items_of (plan_text input)) ≤ 1000000 }
     ensures { result ≡ spec.are_later (items_of (plan_text input.entry)) (items_of (plan_text output.entry)) }
@@ -19,15 +19,17 @@ pub(crate) fn is_ahead(input: Plan<'_>, output: Plan<'_>) -> bool
     let mut inputs = Board::new(input);
     let mut outputs = Board::new(output);
     for _ in 0..MOST {
-        let Some(sample) = inputs.next() else {
+        let Some(sample) = inputs.next_time() else {
             return true;
         };
-        let Some(put) = outputs.next() else {
+        let Some(put) = outputs.next_time() else {
             return true;
         };
-        if put.time <= sample.time {
+        if put <= sample {
             return false;
         }
+        inputs.pass();
+        outputs.pass();
     }
     true
 }

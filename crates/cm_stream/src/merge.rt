@@ -101,12 +101,7 @@ impl<P: Planned> Merge<P> {
     /// Appends the words of the next whole scans of a source, of at most `most` samples in all, as
     /// `ScanStream::append_scans` does, and reports how many scans they are. The other sources, and the
     /// one that was given last, stay as they are.
-    pub fn append_scans(
-        &mut self,
-        s: u32,
-        words: &mut Vec<u32>,
-        most: u32,
-    ) -> Result<u32, NoMemory>
+    pub fn append_scans(&mut self, s: u32, words: &mut Vec<u32>, most: u32) -> Result<u32, NoMemory>
         requires { s < length self.old.streams }
         ensures appended { IfOk result (λ scans. HasAppendedOf s scans most words.old.items words.new.items self.old.streams self.new.streams) }
         ensures last { self.new.last ≡ self.old.last }
