@@ -54,13 +54,15 @@ module _ (ring : RingConstants) (end stop : ℕ) (w : WriterPart) (mf rf : Optio
     reader_found = λ z is. same ∙ e.reader_found z is;
   }
 
-same_order : (ring : RingConstants) (w w' : WriterPart) (m : MungerPart) (r : ReaderPart) → Order ring w m r → w'.next ≡ w.next → w'.written ≡ w.written → w'.freed ≡ w.freed → w'.at ≡ w.at → Order ring w' m r
-same_order ring w w' m r o a b c d = record {
+-- the order is a matter of the places alone
+same_order : (ring : RingConstants) (w w' : WriterPart) (m m' : MungerPart) (r r' : ReaderPart) → Order ring w m r → w'.next ≡ w.next → w'.written ≡ w.written → w'.freed ≡ w.freed → w'.at ≡ w.at
+    → m'.exchanged ≡ m.exchanged → m'.munged ≡ m.munged → m'.avail ≡ m.avail → r'.released ≡ r.released → r'.known ≡ r.known → Order ring w' m' r'
+same_order ring w w' m m' r r' o next written freed at exchanged munged avail released known = record {
   freed_read = omega arith;
-  read_known = o.read_known;
-  known_munged = o.known_munged;
-  munged_exchanged = o.munged_exchanged;
-  exchanged_avail = o.exchanged_avail;
+  read_known = omega arith;
+  known_munged = omega arith;
+  munged_exchanged = omega arith;
+  exchanged_avail = omega arith;
   avail_written = omega arith;
   written_next = omega arith;
   next_room = omega arith;
@@ -249,7 +251,7 @@ module _ (ring : RingConstants) (x : Words) (w : WriterPart) (m : MungerPart) (r
   ends_with e live is = let f = h.ends in record {
     ok = h.ok;
     counts = record { read_is = h.counts.read_is; munged_is = h.counts.munged_is; written_is = h.counts.written_is };
-    order = same_order ring w (record w { closed = Some e }) m r h.order refl refl refl refl;
+    order = same_order ring w _ m m r r h.order refl refl refl refl refl refl refl refl refl;
     cells = h.cells;
     ends = record {
       end_is = refl;
@@ -263,63 +265,30 @@ module _ (ring : RingConstants) (x : Words) (w : WriterPart) (m : MungerPart) (r
 
   -- the reader's load of the end
   pub reader_finds : Core ring x w m (record r { found = w.closed; end_looks = r.end_looks + 1 })
-  reader_finds = let o = h.order in let f = h.ends in record {
+  reader_finds = let f = h.ends in record {
     ok = h.ok;
     counts = h.counts;
-    order = record {
-      freed_read = o.freed_read;
-      read_known = o.read_known;
-      known_munged = o.known_munged;
-      munged_exchanged = o.munged_exchanged;
-      exchanged_avail = o.exchanged_avail;
-      avail_written = o.avail_written;
-      written_next = o.written_next;
-      next_room = o.next_room;
-      next_end = o.next_end;
-      at_next = o.at_next;
-    };
+    order = same_order ring w w m m r _ h.order refl refl refl refl refl refl refl refl refl;
     cells = h.cells;
     ends = record { end_is = f.end_is; end_ok = f.end_ok; stop_is = f.stop_is; saw = f.saw; munger_found = f.munger_found; reader_found = λ _ is. is };
   }
 
   -- the munger's load of the end
   pub munger_finds : Core ring x w (record m { found = w.closed; end_looks = m.end_looks + 1 }) r
-  munger_finds = let o = h.order in let f = h.ends in record {
+  munger_finds = let f = h.ends in record {
     ok = h.ok;
     counts = h.counts;
-    order = record {
-      freed_read = o.freed_read;
-      read_known = o.read_known;
-      known_munged = o.known_munged;
-      munged_exchanged = o.munged_exchanged;
-      exchanged_avail = o.exchanged_avail;
-      avail_written = o.avail_written;
-      written_next = o.written_next;
-      next_room = o.next_room;
-      next_end = o.next_end;
-      at_next = o.at_next;
-    };
+    order = same_order ring w w m _ r r h.order refl refl refl refl refl refl refl refl refl;
     cells = h.cells;
     ends = record { end_is = f.end_is; end_ok = f.end_ok; stop_is = f.stop_is; saw = f.saw; munger_found = λ _ is. is; reader_found = f.reader_found };
   }
 
   -- the store of the stop
   pub asks : Core ring (record x { stop = 1 }) w m (record r { asked = true })
-  asks = let o = h.order in let f = h.ends in record {
+  asks = let f = h.ends in record {
     ok = h.ok;
     counts = record { read_is = h.counts.read_is; munged_is = h.counts.munged_is; written_is = h.counts.written_is };
-    order = record {
-      freed_read = o.freed_read;
-      read_known = o.read_known;
-      known_munged = o.known_munged;
-      munged_exchanged = o.munged_exchanged;
-      exchanged_avail = o.exchanged_avail;
-      avail_written = o.avail_written;
-      written_next = o.written_next;
-      next_room = o.next_room;
-      next_end = o.next_end;
-      at_next = o.at_next;
-    };
+    order = same_order ring w w m m r _ h.order refl refl refl refl refl refl refl refl refl;
     cells = h.cells;
     ends = record { end_is = f.end_is; end_ok = f.end_ok; stop_is = refl; saw = λ _. refl; munger_found = f.munger_found; reader_found = f.reader_found };
   }
@@ -329,7 +298,7 @@ module _ (ring : RingConstants) (x : Words) (w : WriterPart) (m : MungerPart) (r
   sees_stop live = let f = h.ends in record {
     ok = h.ok;
     counts = h.counts;
-    order = same_order ring w (record w { saw_stop = r.asked; stop_looks = w.stop_looks + 1 }) m r h.order refl refl refl refl;
+    order = same_order ring w _ m m r r h.order refl refl refl refl refl refl refl refl refl;
     cells = h.cells;
     ends = record {
       end_is = f.end_is;
