@@ -22,6 +22,7 @@ use cm_run_core::streaming::stream;
 use cm_run_lines::line::{Access, Mode};
 use cm_test::test::Accepted;
 use cm_text::samples::put_samples;
+use cm_text::scales::scales_of;
 use cm_text::tail::put_tail;
 use std::alloc::Global;
 use std::sync::Wait;
@@ -84,12 +85,14 @@ pub(crate) fn go_block(
     // The board tells what holds of each expansion: that the words are codes of their channels.
     let _place = Board::new(plan).place();
     let cmd = plan.command();
+    let scales = scales_of(alloc, plan.sub(), &cmd.list)?;
     let mut block = Vec::new(alloc);
     put_samples(
         &mut block,
         plan.sub(),
         &cmd.list,
         is_raw(cmd.flags),
+        Some(&scales),
         0,
         words,
         &[],

@@ -4,6 +4,7 @@
 mod line;
 pub mod output;
 pub mod samples;
+pub mod scales;
 pub mod tail;
 #[cfg(test)]
 mod tests;

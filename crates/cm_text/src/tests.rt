@@ -5,6 +5,7 @@ ghost use Rattle.cm_cmd.specs.Entry as bits;
 
 use crate::output::put_output;
 use crate::samples::{put_sample, put_samples};
+use crate::scales::scales_of;
 use crate::tail::{Tail, put_tail};
 use cm_base::transfer::NoMemory;
 use cm_board::board::{Kind, Munge, Range, Sub};
@@ -12,14 +13,16 @@ use cm_expand::conv::Conv;
 use std::alloc::{AllocError, Global};
 use std::test::Fail;
 
-// Raw words in two parts, and two levels.
+// Raw words in two parts, and two levels, without scales and with them.
 #[test]
 fn samples_after_each_other(rt: HostRuntime) -> Result<(), Fail> {
     let sub = input(rt.alloc())?;
     assert!(rt; sub.channels == 1 && sub.range_count(0) == 1 && sub.maxdata_of(0) == 65535);
     let text = said(rt.alloc(), &sub)?;
+    let scaled = said_by_scales(rt.alloc(), &sub)?;
     let wanted: &[u8] = b"0 raw 8191\n0 raw 8191\n0 raw 65535\n0 2499885\n0 -10000000\n";
     assert!(rt; text.as_slice() == wanted);
+    assert!(rt; scaled.as_slice() == wanted);
     Ok(())
 }
 
@@ -29,9 +32,39 @@ fn said(alloc: Global, sub: &Sub) -> Result<Vec<u8>, NoMemory>
     requires codes { 65535 ≤ maxdata_of sub.now 0 }
 {
     let mut text = Vec::new(alloc);
-    put_samples(&mut text, sub, &[0], true, 0, &[8191], &[8191, 65535])?;
+    put_samples(&mut text, sub, &[0], true, None, 0, &[8191], &[8191, 65535])?;
     put_sample(&mut text, sub, &[0], false, 0, 40959)?;
     put_sample(&mut text, sub, &[0], false, 1, 0)?;
+    Ok(text)
+}
+
+fn said_by_scales(alloc: Global, sub: &Sub) -> Result<Vec<u8>, NoMemory>
+    requires channels { 0 < sub.now.channels }
+    requires ranges { 0 < range_count sub.now 0 }
+    requires codes { 65535 ≤ maxdata_of sub.now 0 }
+{
+    let scales = scales_of(alloc, sub, &[0])?;
+    let mut text = Vec::new(alloc);
+    put_samples(
+        &mut text,
+        sub,
+        &[0],
+        true,
+        Some(&scales),
+        0,
+        &[8191],
+        &[8191, 65535],
+    )?;
+    put_samples(
+        &mut text,
+        sub,
+        &[0],
+        false,
+        Some(&scales),
+        0,
+        &[40959],
+        &[0],
+    )?;
     Ok(text)
 }
 

@@ -1,7 +1,10 @@
-use Rattle.std.proofs.Common.{◌≡◌, ◌++◌, ◌+◌, ◌%◌, length, take, get_or, sym, ap, ap₂, ◌∙◌, arith, append_assoc, length-append}
-use Rattle.std.specs.Prelude.{ℕ, List}
+use Rattle.std.proofs.Common.{◌≡◌, Bor, None, Some, ◌++◌, ◌+◌, ◌%◌, length, take, get_or, sym, ap, ap₂, ◌∙◌, arith, append_assoc, length-append}
+use Rattle.std.specs.Prelude.{ℕ, List, Option, IfSome, option_and_then, option_map, slice_get, slice_index}
 use Rattle.std.proofs.Math.Nat.{mod-add-mod}
+use Rattle.cm_board.specs.Board.{SubText}
+use Rattle.cm_sample.specs.declared.scale.Scale.{Scale}
 use Rattle.cm_text.specs.Format.{Format, line_text, sample_line, sample_lines}
+use Rattle.cm_text.specs.Scales.{AreScales, IsScaleOf}
 use Rattle.cm_text.proofs.Lines.{sample_lines-next}
 use Rattle.cm_text.proofs.samples.put_samples.Goals as goal
 
@@ -26,3 +29,13 @@ loop-i-preserved c =
       within = c.next_index-index.ensures.within;
       kept = λ h. c.keep_line.ensures;
     }
+
+-- a scale that stands at a place is that of the list entry there
+one_scale : (sub : SubText) (list : List ℕ) (i : ℕ) (scales : Option (Bor (List Scale))) (scale : Option (Bor Scale)) → IfSome scales (λ s. AreScales sub list s.now) →
+    option_map (λ (s : Bor Scale). s.now) scale ≡ option_and_then (λ (s : Bor (List Scale)). slice_get s.now i) scales → IfSome scale (λ s. IsScaleOf sub (slice_index list i) s.now)
+one_scale sub list i scales None are e = tt
+one_scale sub list i None (Some s) are e = absurd (cc)
+one_scale sub list i (Some xs) (Some s) are e = are.each i s.now (sym e)
+
+pub keep_line-requires-clause-scale : goal.keep_line-requires-clause-scale
+keep_line-requires-clause-scale c = one_scale c.args.sub.now c.args.list.now c.loop-i.index c.args.scales c.scale_at-scale.result c.requires.scales c.scale_at-scale.ensures
