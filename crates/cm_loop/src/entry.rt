@@ -5,15 +5,18 @@ ghost use Rattle.cm_loop.specs.Filter.{mean, scaled, IsItem};
 
 use crate::rule::LoopItem;
 use circular_buffer::HeapCircularBuffer;
+use cm_base::divisor::Divisor;
 use std::alloc::{AllocError, Global};
 use std::marker::Model;
 
-/// The last samples of one list entry, with their sum.
+/// The last samples of one list entry, with their sum, and the quotients of the filter made ready.
 #[derive(Drop)]
 pub struct Entry {
     words: HeapCircularBuffer<u32>,
     sum: u64,
     item: LoopItem,
+    in_max: Divisor,
+    window: Divisor,
 }
 
 impl Model for Entry {
@@ -23,7 +26,7 @@ impl Model for Entry {
 
     ghost view = { λ e. entry_text e.words.items e.words.capacity e.item };
 
-    ghost invariant = { λ e. IsEntry e.words.items e.words.capacity e.item e.sum };
+    ghost invariant = { λ e. IsEntry e.words.items e.words.capacity e.item e.sum e.in_max.by e.window.by };
 }
 
 impl Entry {
@@ -40,10 +43,13 @@ impl Entry {
             words,
             sum: 0,
             item,
+            in_max: Divisor::new(u64::from(item.in_max)),
+            window: Divisor::new(u64::from(window)),
         })
     }
 
     // Takes a sample, in place of the oldest one where the window is full.
+    #[inline(always)]
     fn push(&mut self, word: u32)
         requires { word ≤ self.old.item.in_max }
         ensures words { self.new ≡ pushed self.old word }
@@ -54,39 +60,46 @@ impl Entry {
     }
 
     // The floor of the samples' mean.
+    #[inline(always)]
     fn mean(&self) -> u32
         requires { 0 < length self.now.words }
         ensures mean { result ≡ mean self.now.words }
         ensures within { result ≤ self.now.item.in_max }
     {
-        (self.sum / self.words.len() as u64) as u32
+        quotient(self.sum, self.words.len() as u64, &self.window) as u32
     }
 
-    // The item.
-    fn item(&self) -> LoopItem
-        ensures item { result ≡ self.now.item }
-        ensures is_item { IsItem result }
+    // A code of the input's channel on the scale of the output's.
+    #[inline(always)]
+    fn scale(&self, code: u32) -> u32
+        requires { code ≤ self.now.item.in_max }
+        ensures { result ≡ scaled self.now.item code }
     {
-        self.item
+        let product = u64::from(code) * u64::from(self.item.out_max);
+        self.in_max.of(product) as u32
     }
 
     /// Takes a sample, and gives the mean of the last ones on the output's scale.
+    #[inline(always)]
     pub fn next(&mut self, word: u32) -> u32
         requires { word ≤ self.old.item.in_max }
         ensures words { self.new ≡ pushed self.old word }
         ensures value { result ≡ scaled self.old.item (mean self.new.words) }
     {
         self.push(word);
-        let item = self.item();
-        scale(self.mean(), &item)
+        self.scale(self.mean())
     }
 }
 
-// A code of the input's channel on the scale of the output's.
-fn scale(code: u32, item: &LoopItem) -> u32
-    requires code { code ≤ item.now.in_max }
-    requires item { IsItem item.now }
-    ensures { result ≡ scaled item.now code }
+// The quotient of a sum by how many samples it is of: as many as the window has, except at the start.
+#[inline(always)]
+fn quotient(sum: u64, count: u64, window: &Divisor) -> u64
+    requires { 1 ≤ count }
+    ensures { result ≡ sum / count }
 {
-    (u64::from(code) * u64::from(item.out_max) / u64::from(item.in_max)) as u32
+    if count == window.by() {
+        window.of(sum)
+    } else {
+        sum / count
+    }
 }

@@ -48,6 +48,7 @@ impl LoopState {
     }
 
     /// Takes the next sample, and gives the filter's output for it.
+    #[inline(always)]
     pub fn next(&mut self, rule: &LoopRule, word: u32) -> u32
         requires rule { self.old.rule ≡ rule.now }
         requires few { self.old.count < 2 ^ 40 }
@@ -65,6 +66,7 @@ impl LoopState {
 }
 
 // Gives a sample to one entry.
+#[inline(always)]
 fn next_output(entries: &mut Vec<Entry>, i: usize, word: u32) -> u32
     requires within { i < length entries.old.items }
     requires fits { (e : EntryText) → slice_get entries.old.items i ≡ Some e → word ≤ e.item.in_max }

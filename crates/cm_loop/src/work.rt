@@ -133,6 +133,7 @@ fn filter_block<P: Planned, Q: Planned>(
 }
 
 // Filters a mapped sample, and gives its output where that finds no room.
+#[inline(always)]
 fn filter_word<P: Planned, Q: Planned>(
     input: &mut Reader<P>,
     output: &mut Writer<Q>,
@@ -157,6 +158,7 @@ fn filter_word<P: Planned, Q: Planned>(
 
 // Gives a mapped sample to the filter.
 #[tactic(auto, using(crate::proofs::Works::fits_item, crate::proofs::Works::output_is, crate::proofs::Works::stands_after))]
+#[inline(always)]
 fn next_answer<P: Planned>(
     input: &mut Reader<P>,
     rule: &LoopRule,
@@ -179,6 +181,7 @@ fn next_answer<P: Planned>(
 
 // A mapped sample.
 #[tactic(auto, using(crate::proofs::Works::length_munged, crate::proofs::Works::munged_there))]
+#[inline(always)]
 fn mapped_word<P: Planned>(input: &mut Reader<P>, i: u32) -> u32
     requires { i < input.old.mapped }
     ensures word { result ≡ slice_index (munged_plan input.old.ring) (input.old.part.released + i) }
