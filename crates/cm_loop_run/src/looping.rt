@@ -16,9 +16,9 @@ use cm_loop::rule::LoopRule;
 use cm_loop::state::LoopState;
 use cm_loop_lines::job::LoopJob;
 use cm_ring::open::open;
-use cm_run::driving::outputs_block;
 use cm_run::ending::count_of;
 use cm_run::opening::{PacedRing, open_paced};
+use cm_run::outputs::outputs_block;
 use cm_run_core::client::ClientSide;
 use cm_run_core::streaming::BASE;
 use std::alloc::Global;
@@ -37,15 +37,17 @@ fn take_of(samples: u64, outputs: u64) -> Option<u64>
     }
 }
 
-// What comes out of the output's ring.
+// What comes out of the output's ring, where the input has so many samples.
 fn loop_words<R: Threads + Wait + Sync, G: Gate + Sync>(
     rt: &R,
     alloc: Global,
     job: &LoopJob,
     filter: &LoopRule,
+    samples: u64,
     gate: &G,
 ) -> Result<Vec<u32>, NoMemory>
-    requires { filter.now ≡ spec.filter_of job.now }
+    requires filter { filter.now ≡ spec.filter_of job.now }
+    requires samples { samples ≡ blocks.count_of (input_of job.now) }
     ensures { IfOk result (λ v. v.items ≡ take (blocks.count_of (output_of job.now)) (blocks.munged_words (output_of job.now) (spec.loop_words job.now))) }
 {
     let input = job.input_plan();
@@ -77,7 +79,7 @@ fn loop_words<R: Threads + Wait + Sync, G: Gate + Sync>(
             reader: out_reader,
         },
     };
-    let take = take_of(count_of(&input), count_of(&output));
+    let take = take_of(samples, count_of(&output));
     let streamed = stream_loop(rt, alloc, board, side, take, gate)?;
     Ok(streamed.words)
 }
@@ -93,13 +95,13 @@ pub fn loop_job<R: Threads + Wait + Sync, G: Gate + Sync>(
     ensures { IfOk result (λ v. v.items ≡ spec.loop_text job.now) }
 {
     let filter = filter_of(alloc, job)?;
-    let words = loop_words(rt, alloc, job, &filter, gate)?;
-    let input = job.input_plan();
+    let samples = count_of(&job.input_plan());
+    let words = loop_words(rt, alloc, job, &filter, samples, gate)?;
     outputs_block(
         alloc,
         job.output.cmd().sub,
         job.output_plan(),
         &words,
-        count_of(&input),
+        samples,
     )
 }

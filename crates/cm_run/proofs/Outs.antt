@@ -4,6 +4,7 @@ use Rattle.std.specs.Prelude.{slice_get}
 use Rattle.std.proofs.lemmas.Option.{slice_get_cases, slice_get_within, get_or_from_slice_get, none-some}
 use Rattle.std.proofs.lemmas.List.{drop_more, drop_all}
 use Rattle.cm_expand.specs.Board.{BoardState}
+use Rattle.cm_expand.specs.Taking.{left_of}
 use Rattle.cm_expand.specs.Items.{items_of}
 use Rattle.cm_expand.specs.Plan.{PlanText}
 use Rattle.cm_expand.specs.declared.conv.Conv.{Conv}
@@ -27,28 +28,30 @@ outs_none : (sub : ℕ) (items : List Conv) → outs_of sub items [] ≡ []
 outs_none sub [] = refl
 outs_none sub (c ∷ cs) = refl
 
-outs_more : (sub : ℕ) (items : List Conv) (words out : List ℕ) (i : ℕ) (c : Conv) (d : ℕ) → i < length items → i < length words → get_or items i c ≡ c
-    → out ++ outs_of sub (drop i items) (drop i words) ≡ (out ++ line_of sub c (get_or words i d)) ++ outs_of sub (drop (i + 1) items) (drop (i + 1) words)
-outs_more sub items words out i c d within room here =
-    ap (λ (l : List Conv). out ++ outs_of sub l (drop i words)) (drop_more items i c within ∙ ap (λ (x : Conv). x ∷ drop (i + 1) items) here)
-    ∙ ap (λ (l : List ℕ). out ++ outs_of sub (c ∷ drop (i + 1) items) l) (drop_more words i d room)
-    ∙ sym (append_assoc out (line_of sub c (get_or words i d)) (outs_of sub (drop (i + 1) items) (drop (i + 1) words)))
+outs_more : (sub : ℕ) (items : List Conv) (words out : List ℕ) (k i : ℕ) (c : Conv) (d : ℕ) → k < length items → i < length words → get_or items k c ≡ c
+    → out ++ outs_of sub (drop k items) (drop i words) ≡ (out ++ line_of sub c (get_or words i d)) ++ outs_of sub (drop (k + 1) items) (drop (i + 1) words)
+outs_more sub items words out k i c d within room here =
+    ap (λ (l : List Conv). out ++ outs_of sub l (drop i words)) (drop_more items k c within ∙ ap (λ (x : Conv). x ∷ drop (k + 1) items) here)
+    ∙ ap (λ (l : List ℕ). out ++ outs_of sub (c ∷ drop (k + 1) items) l) (drop_more words i d room)
+    ∙ sym (append_assoc out (line_of sub c (get_or words i d)) (outs_of sub (drop (k + 1) items) (drop (i + 1) words)))
 
 -- after the last conversion
-pub ends_items : (sub : ℕ) (plan : PlanText) (words out all : List ℕ) (i : ℕ) (b : BoardState) (o : Option Conv) → b.plan ≡ plan → b.place ≡ i → o ≡ slice_get (items_of b.plan) b.place → o ≡ None
-    → out ++ outs_of sub (drop i (items_of plan)) (drop i words) ≡ all → out ≡ all
-ends_items sub plan words out all i b o plan_is place_is next none rest =
-    let past : length (items_of plan) ≤ i = past_end (items_of plan) i (sym (next ∙ ap (λ (p : PlanText). slice_get (items_of p) b.place) plan_is ∙ ap (λ (k : ℕ). slice_get (items_of plan) k) place_is) ∙ none) in
-    sym (append-nil out) ∙ ap (λ (l : List Conv). out ++ outs_of sub l (drop i words)) (sym (drop_all i (items_of plan) past)) ∙ rest
+pub ends_items : (sub : ℕ) (b : BoardState) (words out all : List ℕ) (i : ℕ) (o : Option Conv) → o ≡ slice_get (items_of b.plan) b.place → o ≡ None
+    → out ++ outs_of sub (left_of b) (drop i words) ≡ all → out ≡ all
+ends_items sub b words out all i o next none rest =
+    let past : length (items_of b.plan) ≤ b.place = past_end (items_of b.plan) b.place (sym next ∙ none) in
+    sym (append-nil out) ∙ ap (λ (l : List Conv). out ++ outs_of sub l (drop i words)) (sym (drop_all b.place (items_of b.plan) past)) ∙ rest
 
 -- after the last word
-pub ends_words : (sub : ℕ) (items : List Conv) (words out all : List ℕ) (i : ℕ) → length words ≤ i → out ++ outs_of sub (drop i items) (drop i words) ≡ all → out ≡ all
+pub ends_words : (sub : ℕ) (items : List Conv) (words out all : List ℕ) (i : ℕ) → length words ≤ i → out ++ outs_of sub items (drop i words) ≡ all → out ≡ all
 ends_words sub items words out all i past rest =
-    sym (append-nil out) ∙ ap (λ (l : List ℕ). out ++ l) (sym (ap (λ (l : List ℕ). outs_of sub (drop i items) l) (drop_all i words past) ∙ outs_none sub (drop i items))) ∙ rest
+    sym (append-nil out) ∙ ap (λ (l : List ℕ). out ++ l) (sym (ap (λ (l : List ℕ). outs_of sub items l) (drop_all i words past) ∙ outs_none sub items)) ∙ rest
 
 -- a conversion with a word
-pub goes_on : (sub : ℕ) (plan : PlanText) (words out all : List ℕ) (i d : ℕ) (b : BoardState) (o : Option Conv) (c : Conv) → b.plan ≡ plan → b.place ≡ i → o ≡ slice_get (items_of b.plan) b.place → o ≡ Some c → i < length words
-    → out ++ outs_of sub (drop i (items_of plan)) (drop i words) ≡ all → (out ++ line_of sub c (get_or words i d)) ++ outs_of sub (drop (i + 1) (items_of plan)) (drop (i + 1) words) ≡ all
-goes_on sub plan words out all i d b o c plan_is place_is next some room rest =
-    let here : slice_get (items_of plan) i ≡ Some c = sym (next ∙ ap (λ (p : PlanText). slice_get (items_of p) b.place) plan_is ∙ ap (λ (k : ℕ). slice_get (items_of plan) k) place_is) ∙ some in
-    sym (outs_more sub (items_of plan) words out i c d (slice_get_within (items_of plan) i c here) room (get_or_from_slice_get (items_of plan) i c c here)) ∙ rest
+pub goes_on : (sub : ℕ) (b new : BoardState) (words out all : List ℕ) (i d : ℕ) (o : Option Conv) (c : Conv) → o ≡ slice_get (items_of b.plan) b.place → o ≡ Some c → new ≡ record b { place = b.place + 1 } → i < length words
+    → out ++ outs_of sub (left_of b) (drop i words) ≡ all → (out ++ line_of sub c (get_or words i d)) ++ outs_of sub (left_of new) (drop (i + 1) words) ≡ all
+goes_on sub b new words out all i d o c next some after room rest =
+    let items : List Conv = items_of b.plan in
+    let here : slice_get items b.place ≡ Some c = sym next ∙ some in
+    ap (λ (x : BoardState). (out ++ line_of sub c (get_or words i d)) ++ outs_of sub (left_of x) (drop (i + 1) words)) after
+    ∙ (sym (outs_more sub items words out b.place i c d (slice_get_within items b.place c here) room (get_or_from_slice_get items b.place c c here)) ∙ rest)

@@ -11,11 +11,10 @@ ghost use Rattle.cm_text.specs.Outputs.{output_texts};
 ghost use Rattle.cm_text.specs.Tails.{tail_text};
 
 use crate::done::LineDone;
-use crate::ending::{count_of, ending};
+use crate::outputs::outputs_block;
 use cm_base::gate::Gate;
 use cm_base::transfer::NoMemory;
 use cm_client::feeding::feed;
-use cm_expand::board::Board;
 use cm_expand::plan::Plan;
 use cm_expand::rule::rule_of;
 use cm_ring::open::open;
@@ -25,8 +24,6 @@ use cm_run_core::starting::Started;
 use cm_run_core::streaming::BASE;
 use cm_sample::rule::MungeRule;
 use cm_test::test::Accepted;
-use cm_text::output::put_output;
-use cm_text::tail::{Tail, put_tail};
 use std::alloc::Global;
 use std::sync::Wait;
 use std::thread::{Threads, join};
@@ -109,51 +106,6 @@ fn drive_words<R: Threads + Wait + Sync, G: Gate + Sync>(
     let sub = drive.plan.sub();
     let rule = rule_of(alloc, sub, drive.cmd)?;
     move_words(rt, alloc, drive.values, sub.buffer, rule, gate, who)
-}
-
-// Appends the outputs of the conversions that have a word, at their times.
-fn put_outputs(text: &mut Vec<u8>, sub: u32, plan: Plan<'_>, words: &[u32]) -> Result<(), NoMemory>
-    ensures { IfOk result (λ _. text.new.items ≡ text.old.items ++ output_texts (blocks.outputs_of sub (items_of (plan_text plan.entry)) words.now)) }
-{
-    let mut board = Board::new(plan);
-    for i in 0..words.len() {
-        let Some(conversion) = board.next() else {
-            return Ok(());
-        };
-        put_output(text, sub, &conversion, words[i])?;
-    }
-    Ok(())
-}
-
-// The end line of an output command for which so many values were given.
-fn values_tail(plan: Plan<'_>, values: u64) -> Tail
-    requires { blocks.count_of (plan_text plan) ≤ 4000000 }
-    ensures { result ≡ blocks.values_tail (plan_text plan.entry) values }
-{
-    let count = count_of(&plan);
-    if values < count {
-        Tail::Underrun(values)
-    } else {
-        ending(plan, count)
-    }
-}
-
-/// The block of an output command: these words at the times of its conversions, and the end line where
-/// so many values were given. `sub` is its subdevice's number.
-pub fn outputs_block(
-    alloc: Global,
-    sub: u32,
-    plan: Plan<'_>,
-    words: &[u32],
-    values: u64,
-) -> Result<Vec<u8>, NoMemory>
-    requires { blocks.count_of (plan_text plan) ≤ 4000000 }
-    ensures { IfOk result (λ v. v.items ≡ output_texts (blocks.outputs_of sub (items_of (plan_text plan.entry)) words.now) ++ tail_text (blocks.values_tail (plan_text plan.entry) values)) }
-{
-    let mut block = Vec::new(alloc);
-    put_outputs(&mut block, sub, plan, words)?;
-    put_tail(&mut block, values_tail(plan, values))?;
-    Ok(block)
 }
 
 /// Moves the line's words through its ring, and makes its block. `sub` is its subdevice's number.

@@ -1,5 +1,5 @@
 // How the block of a line ends.
-ghost use Rattle.std.specs.Prelude.{◌≡◌, ◌≤◌, length};
+ghost use Rattle.std.specs.Prelude.{◌≡◌, ◌≤◌, min, length};
 ghost use Rattle.cm_expand.specs.PlanView.{plan_text};
 ghost use Rattle.cm_expand.specs.Plan as plans;
 ghost use Rattle.cm_run.specs.Blocks as blocks;
@@ -25,15 +25,14 @@ pub fn count_of(plan: &Plan<'_>) -> u64
     }
 }
 
-// A board that has given all conversions of a plan, which are so many.
-fn at_end<'a>(plan: Plan<'a>, count: u64) -> Board<'a>
-    requires { count ≡ blocks.count_of (plan_text plan) }
+// A board that has passed so many conversions of a plan, or all where there are fewer.
+fn board_after<'a>(plan: Plan<'a>, count: u64) -> Board<'a>
     ensures plan { result.plan ≡ plan_text plan.entry }
-    ensures place { result.place ≡ count }
+    ensures place { result.place ≡ min count (blocks.count_of (plan_text plan.entry)) }
 {
     let mut board = Board::new(plan);
     for _ in 0..count {
-        board.next();
+        board.pass();
     }
     board
 }
@@ -59,7 +58,7 @@ fn is_complete(plan: Plan<'_>, count: u64) -> bool
 {
     match plan.whole_count() {
         Some(whole) => count == whole,
-        None => at_end(plan, count).complete(),
+        None => board_after(plan, count).complete(),
     }
 }
 

@@ -1,18 +1,19 @@
 // Input commands, whose samples a client reads.
-ghost use Rattle.std.specs.Prelude.{◌≡◌, ◌≤◌, ◌++◌, ℕ, length, take, IfOk};
+ghost use Rattle.std.specs.Prelude.{◌≡◌, ◌<◌, ◌≤◌, ◌++◌, ℕ, length, slice_index, take, IfOk};
 ghost use Rattle.cm_expand.specs.PlanView.{plan_text};
 ghost use Rattle.cm_run.specs.Blocks as blocks;
 ghost use Rattle.cm_run.specs.Going.{IsGo};
 ghost use Rattle.cm_run.specs.Ran as ran;
 ghost use Rattle.cm_run.specs.Limits.{FitsCount};
 ghost use Rattle.cm_run_core.specs.Streamed.{HasStreamed};
-ghost use Rattle.cm_text.specs.Format.{format_of, sample_lines};
+ghost use Rattle.cm_text.specs.Format.{IsFormat, IsSample, format_of, sample_lines};
 ghost use Rattle.cm_text.specs.Tails.{tail_text};
 
 use crate::done::LineDone;
 use crate::ending::tail_after;
 use cm_base::gate::Gate;
 use cm_base::transfer::NoMemory;
+use cm_board::board::Sub;
 use cm_expand::board::Board;
 use cm_expand::plan::Plan;
 use cm_expand::rule::{is_raw, rule_of};
@@ -69,6 +70,23 @@ pub fn stream_go<'a, R: Threads + Wait + Sync, G: Gate + Sync>(
     )
 }
 
+// Appends the lines of a command's samples from its first one on.
+fn put_words(
+    alloc: Global,
+    text: &mut Vec<u8>,
+    sub: &Sub,
+    list: &[u32],
+    raw: bool,
+    words: &[u32],
+) -> Result<(), NoMemory>
+    requires format { IsFormat (record { sub = sub.now; list = list.now; raw = raw }) }
+    requires codes { (i : ℕ) → i < length words.now → IsSample (record { sub = sub.now; list = list.now; raw = raw }) i (slice_index words.now i) }
+    ensures { IfOk result (λ _. text.new.items ≡ text.old.items ++ sample_lines (record { sub = sub.now; list = list.now; raw = raw }) 0 words.now) }
+{
+    let scales = scales_of(alloc, sub, list)?;
+    put_samples(text, sub, list, raw, Some(&scales), 0, words, &[])
+}
+
 /// The block of a line whose words were read up to an end.
 pub(crate) fn go_block(
     alloc: Global,
@@ -85,17 +103,14 @@ pub(crate) fn go_block(
     // The board tells what holds of each expansion: that the words are codes of their channels.
     let _place = Board::new(plan).place();
     let cmd = plan.command();
-    let scales = scales_of(alloc, plan.sub(), &cmd.list)?;
     let mut block = Vec::new(alloc);
-    put_samples(
+    put_words(
+        alloc,
         &mut block,
         plan.sub(),
         &cmd.list,
         is_raw(cmd.flags),
-        Some(&scales),
-        0,
         words,
-        &[],
     )?;
     put_tail(&mut block, tail_after(plan, go.take, end))?;
     Ok(block)

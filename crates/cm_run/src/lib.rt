@@ -10,5 +10,6 @@ pub mod going;
 pub mod law;
 pub mod lines;
 pub mod opening;
+pub mod outputs;
 pub mod running;
 pub mod whole;

@@ -3,13 +3,14 @@ use Rattle.std.proofs.Common.{◌≡◌, ℕ, ◌<◌, Bool, List, [], ◌∷◌
 use Rattle.std.specs.Prelude.{slice_get, option_map}
 use Rattle.std.specs.List.{All}
 use Rattle.std.proofs.Math.ListN.{get_or-map, length-map}
-use Rattle.std.proofs.lemmas.List.{map-set}
+use Rattle.std.proofs.lemmas.List.{length-set, map-set}
 use Rattle.std.proofs.lemmas.Option.{slice_get-map, slice_get_within}
 use Rattle.std.specs.declared.alloc.Global.{Global}
 use Rattle.cm_ring_core.specs.declared.view.RingConstants.{RingConstants}
 use Rattle.cm_client.specs.Samples.{munged_plan}
 use Rattle.cm_stream.specs.Scans.{ScanText}
 use Rattle.cm_stream.specs.Stream.{Streaming, IsOver}
+use Rattle.cm_stream.specs.Appended.{HasAppendedOf}
 use Rattle.cm_stream.specs.Merging.{AddsScan, HasMerged, IsPacedOn, Fixed, fixed, given_words, plan_of}
 use Rattle.cm_stream.specs.declared.merge.MergeStep.{MergeStep}
 use Rattle.cm_stream.specs.declared.merge.MergeStep.TheVariants as merged
@@ -61,6 +62,34 @@ given_read source scan at first old new lists more read step added =
       paced = paced_on old new step.fixed read.paced;
       same = step.fixed ∙ read.same;
       words = ap (map items) added.set ∙ (map-set items lists source added.after ∙ (ap (λ (l : List (List ℕ)). set l source added.after.items) read.words ∙ (ap (set (map given_words old) source) after ∙ sym step.words.2)));
+    }
+
+-- such a scan's source is one of the streams
+pub has_stream : (source : ℕ) (scan : ScanText) (at : ℕ) (old new : List Streaming) → HasMerged (merged.Given source scan) at old new → source < length new
+has_stream source scan at old new step =
+    let within = slice_get_within (map given_words old) source step.words.0 step.words.1 in
+    let count = step.count in omega (arith, length-map old given_words)
+
+-- and still has words after it
+pub still_source : (source : ℕ) (words : List ℕ) (lists more : List Words) → HasAdded source words lists more → source < length lists → source < length more
+still_source source words lists more added within =
+    let same : length more ≡ length lists = ap (length {A = Words}) added.set ∙ length-set lists source added.after in omega arith
+
+-- whole scans that a source appends are added to its words
+pub more_read : (source count most : ℕ) (before after : List ℕ) (first old new : List Streaming) (lists : List Words) (had has : Words) → HaveRead first old lists → HasAppendedOf source count most before after old new
+    → slice_get lists source ≡ Some had → had.items ≡ before → has.items ≡ after → HaveRead first new (set lists source has)
+more_read source count most before after first old new lists had has read step there before_is after_is =
+    let items : Words → List ℕ = λ w. w.items in
+    let mine : Some had.items ≡ Some (given_words step.stream) =
+    sym (slice_get-map items lists source ∙ ap (option_map items) there)
+    ∙ (ap (λ (l : List (List ℕ)). slice_get l source) read.words
+    ∙ (slice_get-map given_words old source ∙ ap (option_map given_words) step.had)) in
+    let was : had.items ≡ given_words step.stream = cc mine in
+    let now : has.items ≡ given_words step.stream ++ step.more = after_is ∙ (step.words ∙ ap (λ (l : List ℕ). l ++ step.more) (sym before_is ∙ was)) in
+    record {
+      paced = paced_on old new step.fixed read.paced;
+      same = step.fixed ∙ read.same;
+      words = map-set items lists source has ∙ (ap (λ (l : List (List ℕ)). set l source has.items) read.words ∙ (ap (set (map given_words old) source) now ∙ sym step.given));
     }
 
 -- a step that waits gives nothing

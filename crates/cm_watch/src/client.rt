@@ -1,5 +1,6 @@
 // The one client of all watched lines.
-ghost use Rattle.std.specs.Prelude.{◌<◌, length, IfOk};
+ghost use Rattle.std.specs.Prelude.{◌<◌, List, length, IfOk};
+ghost use Rattle.cm_stream.specs.Stream.{Streaming};
 ghost use Rattle.cm_watch.specs.Watched.{HasAdded, HasWatched, HaveRead};
 
 use cm_base::gate::Gate;
@@ -28,6 +29,28 @@ fn add_scan(words: &mut Vec<Vec<u32>>, source: u32, scan: &Scan) -> Result<(), A
     Ok(())
 }
 
+// How many samples of further scans are added at once.
+const PIECE: u32 = 256;
+
+// Adds the words of a source's further whole scans that have come, a piece at most.
+fn add_more<P: Planned, G: Gate>(
+    merge: &mut Merge<P>,
+    words: &mut Vec<Vec<u32>>,
+    source: u32,
+    gate: &G,
+) -> Result<(), NoMemory>
+    requires words { source < length words.old.items }
+    requires source { source < length merge.old.streams }
+    ensures { IfOk result (λ _. (first : List Streaming) → HaveRead first merge.old.streams words.old.items → HaveRead first merge.new.streams words.new.items) }
+{
+    let list = &mut words[source as usize];
+    let scans = merge.append_scans(source, list, PIECE)?;
+    for _ in 0..scans {
+        gate.pass(source, 4);
+    }
+    Ok(())
+}
+
 // Reads all streams to their ends.
 fn read_all<R: Wait + Sync, P: Planned, G: Gate>(
     rt: &R,
@@ -44,6 +67,7 @@ fn read_all<R: Wait + Sync, P: Planned, G: Gate>(
             MergeStep::Given(source, scan) => {
                 add_scan(words, source, &scan)?;
                 gate.pass(source, 4);
+                add_more(merge, words, source, gate)?;
             }
             MergeStep::Ended => return Ok(()),
             MergeStep::Waiting => backoff.snooze(),
@@ -53,7 +77,7 @@ fn read_all<R: Wait + Sync, P: Planned, G: Gate>(
     unreachable!()
 }
 
-/// Reads all streams to their ends, a scan of one at a time. Where memory runs out, it asks every ring
+/// Reads all streams to their ends, in turn: a scan of one, and those that stand after it. Where memory runs out, it asks every ring
 /// for the stop.
 pub(crate) fn read_scans<R: Wait + Sync, P: Planned, G: Gate>(
     rt: &R,

@@ -20,7 +20,7 @@ pub new-looped-requires-clause-length : goal.new-looped-requires-clause-length
 new-looped-requires-clause-length g c =
     let job = c.args.job.now in
     let is = c.input_plan-input.ensures.job in
-    ap (λ (f : FilterText). length f.items) c.requires ∙ length-items (input_of job).sub (output_of job).sub job.input.list job.output.list is.lists
+    ap (λ (f : FilterText). length f.items) c.requires.filter ∙ length-items (input_of job).sub (output_of job).sub job.input.list job.output.list is.lists
     ∙ sym (ap (λ (t : PlanText). length t.cmd.list) c.input_plan-input.ensures.plan)
 
 pub open-requires-clause-rule : goal.open-requires-clause-rule
@@ -36,7 +36,7 @@ open-requires-clause-plan g c =
     let few = c.input_plan-input.ensures.job.input.few in
     let some = subst (λ (t : PlanText). 1 ≤ length t.cmd.list) plan c.input_plan-input.result.fits.some in
     let munge = rule_there (input_of job) (plan_text c.input_plan-input.result) c.sub.result.now _ plan c.sub.ensures (ap (λ (j : LoopJobText). j.input) c.job.view_is) c.in_ok-munge.munge c.in_ok-munge.ensures.rule in
-    let words = c.new-looped.ensures ∙ looped_is job (plan_words c.input_plan-input.result) c.in_ok-munge.munge c.args.filter.now (plan_samples c.input_plan-input.result ∙ ap samples_of plan) munge c.requires some in
+    let words = c.new-looped.ensures ∙ looped_is job (plan_words c.input_plan-input.result) c.in_ok-munge.munge c.args.filter.now (plan_samples c.input_plan-input.result ∙ ap samples_of plan) munge c.requires.filter some in
     let count = ap (length {A = ℕ}) words ∙ length-loop_words job in
     omega arith
 
@@ -48,7 +48,7 @@ new-requires-3-clause-within g c =
     let ring = c.in_ok-board.field-0.reader.ring in
     let expansion = subst IsExpansion plan (subst (λ (b : BoardState). IsExpansion b.plan) c.new.ensures c.place-place.ensures.expansion) in
     let munged = ring_samples (plan_text c.input_plan-input.result) (input_of job) ring c.in_ok-board.ensures.ring plan some in
-    within_ring job ring c.args.filter.now c.requires munged (are_within job c.input_plan-input.ensures.job expansion some)
+    within_ring job ring c.args.filter.now c.requires.filter munged (are_within job c.input_plan-input.ensures.job expansion some)
 
 pub new-requires-3-clause-plan : goal.new-requires-3-clause-plan
 new-requires-3-clause-plan g c =
@@ -56,16 +56,13 @@ new-requires-3-clause-plan g c =
     let plan = c.input_plan-input.ensures.plan in
     let some = subst (λ (t : PlanText). 1 ≤ length t.cmd.list) plan c.input_plan-input.result.fits.some in
     let munge = rule_there (input_of job) (plan_text c.input_plan-input.result) c.sub.result.now _ plan c.sub.ensures (ap (λ (j : LoopJobText). j.input) c.job.view_is) c.in_ok-munge.munge c.in_ok-munge.ensures.rule in
-    let words = c.new-looped.ensures ∙ looped_is job (plan_words c.input_plan-input.result) c.in_ok-munge.munge c.args.filter.now (plan_samples c.input_plan-input.result ∙ ap samples_of plan) munge c.requires some in
+    let words = c.new-looped.ensures ∙ looped_is job (plan_words c.input_plan-input.result) c.in_ok-munge.munge c.args.filter.now (plan_samples c.input_plan-input.result ∙ ap samples_of plan) munge c.requires.filter some in
     let ring = c.in_ok-board.field-0.reader.ring in
     let munged = ring_samples (plan_text c.input_plan-input.result) (input_of job) ring c.in_ok-board.ensures.ring plan some in
-    ap (λ (x : RingConstants). x.samples) c.in_ok-writer.ensures.ring ∙ words ∙ sym (filtered_ring job ring c.args.filter.now c.requires munged)
+    ap (λ (x : RingConstants). x.samples) c.in_ok-writer.ensures.ring ∙ words ∙ sym (filtered_ring job ring c.args.filter.now c.requires.filter munged)
 
 pub count_of-requires : goal.count_of-requires
-count_of-requires g c = few_of (plan_text c.input_plan-input.result) (input_of c.args.job.now) c.input_plan-input.ensures.plan c.input_plan-input.ensures.job.input.few
-
-pub count_of-requires-2 : goal.count_of-requires-2
-count_of-requires-2 g c = few_of (plan_text c.output_plan-output.result) (output_of c.args.job.now) c.output_plan-output.ensures.plan c.output_plan-output.ensures.job.output.few
+count_of-requires g c = few_of (plan_text c.output_plan-output.result) (output_of c.args.job.now) c.output_plan-output.ensures.plan c.output_plan-output.ensures.job.output.few
 
 pub returns : goal.returns
 returns g c =
@@ -76,9 +73,9 @@ returns g c =
     let some_out = subst (λ (t : PlanText). 1 ≤ length t.cmd.list) out c.output_plan-output.result.fits.some in
     let munge = rule_there (input_of job) (plan_text c.input_plan-input.result) c.sub.result.now _ plan c.sub.ensures (ap (λ (j : LoopJobText). j.input) c.job.view_is) c.in_ok-munge.munge c.in_ok-munge.ensures.rule in
     let rule = rule_there (output_of job) (plan_text c.output_plan-output.result) c.sub-2.result.now _ out c.sub-2.ensures (ap (λ (j : LoopJobText). j.output) c.job.view_is) c.in_ok-rule.rule c.in_ok-rule.ensures.rule in
-    let words = c.new-looped.ensures ∙ looped_is job (plan_words c.input_plan-input.result) c.in_ok-munge.munge c.args.filter.now (plan_samples c.input_plan-input.result ∙ ap samples_of plan) munge c.requires some in
+    let words = c.new-looped.ensures ∙ looped_is job (plan_words c.input_plan-input.result) c.in_ok-munge.munge c.args.filter.now (plan_samples c.input_plan-input.result ∙ ap samples_of plan) munge c.requires.filter some in
     let ring = c.in_ok-writer.ensures.one.3 ∙ c.in_ok-writer.ensures.ring in
-    let samples = c.count_of.ensures ∙ ap count_of plan in
-    let outputs = c.count_of-2.ensures ∙ ap count_of out in
+    let samples = c.requires.samples in
+    let outputs = c.count_of.ensures ∙ ap count_of out in
     loop_out job c.in_ok-writer.out_reader.ring _ _ c.in_ok-streamed.streamed.end _ some_out (ap (λ (x : RingConstants). x.paced) ring) (ap (λ (x : RingConstants). x.rule) ring ∙ rule) (ap (λ (x : RingConstants). x.samples) ring ∙ words)
     (c.take_of-take.ensures ∙ λ j. take_of (samples j) (outputs j)) c.in_ok-streamed.ensures
