@@ -45,10 +45,15 @@ fn add_more<P: Planned, G: Gate>(
 {
     let list = &mut words[source as usize];
     let scans = merge.append_scans(source, list, PIECE)?;
+    pass_each(gate, source, scans);
+    Ok(())
+}
+
+// Passes the gate's point once for each of so many scans.
+fn pass_each<G: Gate>(gate: &G, source: u32, scans: u32) {
     for _ in 0..scans {
         gate.pass(source, 4);
     }
-    Ok(())
 }
 
 // Reads all streams to their ends.
