@@ -119,11 +119,7 @@ fn stream_text<R: Threads + Wait + Sync, G: Gate + Sync>(
     match job {
         ThreadJob::Run(job) => Ok(run_job(rt, alloc, job, gate)?.text),
         ThreadJob::Watch(job) => watch_job(rt, alloc, job, gate),
-        ThreadJob::Loop(job) => {
-            let mut text = Blocks::new(alloc);
-            text.push(loop_job(rt, alloc, job, gate)?)?;
-            Ok(text)
-        }
+        ThreadJob::Loop(job) => loop_job(rt, alloc, job, gate),
     }
 }
 

@@ -11,7 +11,7 @@ const PIECE: u32 = 256;
 
 // After fewer samples the munger steps back, so that the writer gets ahead of it: else each sample
 // is fetched by itself from the writer's processor.
-const SMALL: u32 = 16;
+const SMALL: u32 = 64;
 
 /// Munges in pieces until it has found the ring's end and munged all samples up to the end's count.
 pub fn munge_work<R: Wait + Sync, P: Planned>(rt: &R, mut munger: Munger<P>) -> Munger<P>

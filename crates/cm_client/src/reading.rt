@@ -18,9 +18,6 @@ use std::sync::Wait;
 
 const PIECE: usize = 64;
 
-// After fewer samples the client steps back, so that the munger gets ahead.
-const SMALL: u32 = 16;
-
 // Reads a piece by copying, by way of `room`.
 #[tactic(auto, using(crate::proofs::Pieces::copied_piece))]
 fn copy_piece<P: Planned>(
@@ -130,7 +127,8 @@ fn is_enough(most: Option<u64>, count: u64) -> bool
     }
 }
 
-// Reads one piece more, and says whether it is a large one.
+// Reads one piece more, and says whether it is a full one. After one that isn't the client steps back,
+// so that the munger gets ahead of it.
 fn read_more<P: Planned, G: Gate>(
     reader: &mut Reader<P>,
     words: &mut Vec<u32>,
@@ -154,7 +152,7 @@ fn read_more<P: Planned, G: Gate>(
         return Ok(false);
     }
     gate.pass(who, 4);
-    Ok(SMALL <= count)
+    Ok(count == piece)
 }
 
 // The end, where it is found and so many samples are all.

@@ -61,6 +61,7 @@ pub fn loop_work<R: Wait + Sync, P: Planned, Q: Planned>(
                 let count = map_block(input);
                 if count > 0 {
                     waiting = move_block(input, &mut output, rule, &mut state, count);
+                    step_back(&backoff, count);
                 } else if all_came(input) {
                     return output.end(EndKind::Done);
                 } else {
@@ -70,6 +71,13 @@ pub fn loop_work<R: Wait + Sync, P: Planned, Q: Planned>(
         }
     }
     unreachable!()
+}
+
+// Lets the munger get ahead after a block that wasn't full.
+fn step_back(backoff: &Backoff, count: u32) {
+    if count < BLOCK {
+        backoff.snooze();
+    }
 }
 
 // Maps a block of samples, and reports how many are mapped of it.

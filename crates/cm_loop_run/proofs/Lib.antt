@@ -1,3 +1,4 @@
 pub mod Filters
 pub mod Loops
 pub mod Plans
+pub mod Parts

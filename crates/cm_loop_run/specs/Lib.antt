@@ -1,2 +1,3 @@
 pub mod LoopText
+pub mod Parts
 pub mod Side

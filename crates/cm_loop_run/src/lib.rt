@@ -5,3 +5,4 @@ mod filter;
 pub mod looping;
 mod rings;
 pub mod side;
+mod text;

@@ -7,6 +7,7 @@ ghost use Rattle.cm_loop_run.specs.LoopText as spec;
 use crate::filter::filter_of;
 use crate::rings::{LoopSide, stream_loop};
 use crate::side::FilterSide;
+use crate::text::text_of;
 use cm_base::gate::Gate;
 use cm_base::transfer::NoMemory;
 use cm_expand::board::Board;
@@ -16,9 +17,9 @@ use cm_loop::rule::LoopRule;
 use cm_loop::state::LoopState;
 use cm_loop_lines::job::LoopJob;
 use cm_ring::open::open;
+use cm_run::blocks::Blocks;
 use cm_run::ending::count_of;
 use cm_run::opening::{PacedRing, open_paced};
-use cm_run::outputs::outputs_block;
 use cm_run_core::client::ClientSide;
 use cm_run_core::streaming::BASE;
 use std::alloc::Global;
@@ -91,17 +92,11 @@ pub fn loop_job<R: Threads + Wait + Sync, G: Gate + Sync>(
     alloc: Global,
     job: &LoopJob,
     gate: &G,
-) -> Result<Vec<u8>, NoMemory>
-    ensures { IfOk result (λ v. v.items ≡ spec.loop_text job.now) }
+) -> Result<Blocks, NoMemory>
+    ensures { IfOk result (λ text. text ≡ spec.loop_text job.now) }
 {
     let filter = filter_of(alloc, job)?;
     let samples = count_of(&job.input_plan());
     let words = loop_words(rt, alloc, job, &filter, samples, gate)?;
-    outputs_block(
-        alloc,
-        job.output.cmd().sub,
-        job.output_plan(),
-        &words,
-        samples,
-    )
+    text_of(rt, alloc, job, &words, samples)
 }

@@ -1,8 +1,8 @@
 -- The outputs that are left.
-use Rattle.std.proofs.Common.{◌≡◌, ℕ, ◌+◌, ◌<◌, ◌≤◌, List, [], ◌∷◌, ◌++◌, length, get_or, drop, refl, sym, ap, ◌∙◌, append_assoc, append-nil, Option, Some, None, inl, inr}
+use Rattle.std.proofs.Common.{◌≡◌, ℕ, min, ◌+◌, ◌<◌, ◌≤◌, List, [], ◌∷◌, ◌++◌, length, get_or, drop, refl, sym, ap, ◌∙◌, append_assoc, append-nil, Option, Some, None, inl, inr}
 use Rattle.std.specs.Prelude.{slice_get}
 use Rattle.std.proofs.lemmas.Option.{slice_get_cases, slice_get_within, get_or_from_slice_get, none-some}
-use Rattle.std.proofs.lemmas.List.{drop_more, drop_all}
+use Rattle.std.proofs.lemmas.List.{drop_more, drop_all, drop_min}
 use Rattle.cm_expand.specs.Board.{BoardState}
 use Rattle.cm_expand.specs.Taking.{left_of}
 use Rattle.cm_expand.specs.Items.{items_of}
@@ -55,3 +55,19 @@ goes_on sub b new words out all i d o c next some after room rest =
     let here : slice_get items b.place ≡ Some c = sym next ∙ some in
     ap (λ (x : BoardState). (out ++ line_of sub c (get_or words i d)) ++ outs_of sub (left_of x) (drop (i + 1) words)) after
     ∙ (sym (outs_more sub items words out b.place i c d (slice_get_within items b.place c here) room (get_or_from_slice_get items b.place c c here)) ∙ rest)
+
+-- no words, no lines
+pub outs_empty : (sub : ℕ) (items : List Conv) (words : List ℕ) → words ≡ [] → [] ≡ outs_of sub items words
+outs_empty sub items words none = sym (ap (outs_of sub items) none ∙ outs_none sub items)
+
+-- the words of the first conversions, and those after them
+pub outs_append : (sub : ℕ) (items : List Conv) (first rest : List ℕ) → outs_of sub items (first ++ rest) ≡ outs_of sub items first ++ outs_of sub (drop (length first) items) rest
+outs_append sub items [] rest = ap (λ (l : List ℕ). l ++ outs_of sub items rest) (sym (outs_none sub items))
+outs_append sub [] (w ∷ first) rest = refl
+outs_append sub (c ∷ items) (w ∷ first) rest =
+    ap (λ (l : List ℕ). line_of sub c w ++ l) (outs_append sub items first rest) ∙ sym (append_assoc (line_of sub c w) (outs_of sub items first) (outs_of sub (drop (length first) items) rest))
+
+-- what a board has left that has passed so many conversions
+pub left_after : (b : BoardState) (p : PlanText) (count : ℕ) → b.plan ≡ p → b.place ≡ min count (length (items_of p)) → left_of b ≡ drop count (items_of p)
+left_after b p count plan place =
+    ap (λ (q : PlanText). drop b.place (items_of q)) plan ∙ (ap (λ (k : ℕ). drop k (items_of p)) place ∙ drop_min count (items_of p))

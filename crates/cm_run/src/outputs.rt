@@ -1,5 +1,5 @@
 // The text of an output command's words.
-ghost use Rattle.std.specs.Prelude.{◌≡◌, ◌≤◌, ◌++◌, IfOk};
+ghost use Rattle.std.specs.Prelude.{◌≡◌, ◌≤◌, ◌++◌, drop, IfOk};
 ghost use Rattle.cm_expand.specs.Items.{items_of};
 ghost use Rattle.cm_expand.specs.PlanView.{plan_text};
 ghost use Rattle.cm_expand.specs.Taking.{left_of};
@@ -7,7 +7,7 @@ ghost use Rattle.cm_run.specs.Blocks as blocks;
 ghost use Rattle.cm_text.specs.Outputs.{output_texts};
 ghost use Rattle.cm_text.specs.Tails.{tail_text};
 
-use crate::ending::{count_of, ending};
+use crate::ending::{board_after, count_of, ending};
 use cm_base::transfer::NoMemory;
 use cm_expand::board::Board;
 use cm_expand::plan::Plan;
@@ -49,7 +49,7 @@ fn values_tail(plan: Plan<'_>, values: u64) -> Tail
 
 /// The block of an output command: these words at the times of its conversions, and the end line where
 /// so many values were given. `sub` is its subdevice's number.
-pub fn outputs_block(
+pub(crate) fn outputs_block(
     alloc: Global,
     sub: u32,
     plan: Plan<'_>,
@@ -61,6 +61,32 @@ pub fn outputs_block(
 {
     let mut block = Vec::new(alloc);
     put_outputs(&mut block, sub, Board::new(plan), words)?;
+    put_tail(&mut block, values_tail(plan, values))?;
+    Ok(block)
+}
+
+/// The lines of the outputs of the conversions from a place on that have a word. `sub` is the command's
+/// subdevice.
+pub fn part_block(
+    alloc: Global,
+    sub: u32,
+    plan: Plan<'_>,
+    from: u64,
+    words: &[u32],
+) -> Result<Vec<u8>, NoMemory>
+    ensures { IfOk result (λ v. v.items ≡ output_texts (blocks.outputs_of sub (drop from (items_of (plan_text plan.entry))) words.now)) }
+{
+    let mut block = Vec::new(alloc);
+    put_outputs(&mut block, sub, board_after(plan, from), words)?;
+    Ok(block)
+}
+
+/// The end line of an output command for which so many values were given.
+pub fn tail_block(alloc: Global, plan: Plan<'_>, values: u64) -> Result<Vec<u8>, NoMemory>
+    requires { blocks.count_of (plan_text plan) ≤ 4000000 }
+    ensures { IfOk result (λ v. v.items ≡ tail_text (blocks.values_tail (plan_text plan.entry) values)) }
+{
+    let mut block = Vec::new(alloc);
     put_tail(&mut block, values_tail(plan, values))?;
     Ok(block)
 }

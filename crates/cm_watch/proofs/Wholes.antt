@@ -1,5 +1,5 @@
 -- That the words which were read of a line's stream are the whole line.
-use Rattle.std.proofs.Common.{◌≡◌, ℕ, zero, suc, ◌+◌, ◌<◌, ◌≤◌, List, [], ◌∷◌, ◌++◌, length, map, take, get_or, refl, sym, ap, ◌∙◌, subst, Option, Some, None, append_assoc, append-nil, arith}
+use Rattle.std.proofs.Common.{◌≡◌, ◌⊎◌, inl, inr, ℕ, zero, suc, ◌+◌, ◌<◌, ◌≤◌, List, [], ◌∷◌, ◌++◌, length, map, take, get_or, refl, sym, ap, ◌∙◌, subst, Option, Some, None, append_assoc, append-nil, arith}
 use Rattle.std.specs.Prelude.{slice_get, IfSome}
 use Rattle.std.specs.List.{All}
 use Rattle.std.proofs.Math.ListN.{length-map}
@@ -28,6 +28,8 @@ use Rattle.cm_run_lines.specs.declared.line.RunLine.TheVariants.{Go, Drive}
 use Rattle.cm_signal.specs.Signals.{SignalsText}
 use Rattle.cm_stream.specs.Stream.{Streaming, IsOver}
 use Rattle.cm_stream.specs.Merging.{Fixed, IsEndOf, IsPacedOn, fixed, plan_of as whole_of}
+use Rattle.cm_run_lines.specs.Job.{RunJobText}
+use Rattle.cm_watch.specs.Whole.{AreWhole, HaveEnded}
 use Rattle.cm_watch.specs.Opened.{HaveWatched, Start, line_start, stream_start}
 use Rattle.cm_watch.specs.Watched.{HasWatched, Words, lists_of}
 use Rattle.cm_watch.proofs.Openings.{scan_of}
@@ -117,6 +119,12 @@ module _ (board : BoardText) (signals : SignalsText) (lines : List RunLine) wher
       → text ++ block ≡ run_text board signals (take (i + 1) lines)
   text_more i text block within is text_is = text_by i text block (slice_get lines i) refl within is text_is
 
+  -- the text up to a line that has this block
+  pub text_longer : (last count : ℕ) (text block all : List ℕ) → last < length lines → count ≡ last + 1 → IfSome (slice_get lines last) (λ line. block ≡ line_block board signals line) → text ≡ run_text board signals (take last lines) → all ≡ text ++ block
+      → all ≡ run_text board signals (take count lines)
+  text_longer last count text block all within next fits text_is is =
+      is ∙ (text_more last text block within fits text_is ∙ ap (λ (n : ℕ). run_text board signals (take n lines)) (sym next))
+
   -- the words and the end of each line's stream are those of the whole line
   pub line_whole : (now : List Streaming) (lists : List Words) → All (IsWatched board) lines → HaveWatched board signals lines now lists → (i : ℕ) (w : Words) (words : List ℕ) (e : End)
       → i < length lines → w ≡ get_or lists i w → words ≡ w.items → IsEndOf now i (Some e) → IfSome (slice_get lines i) (λ line. IsWhole board signals line words e)
@@ -127,3 +135,46 @@ module _ (board : BoardText) (signals : SignalsText) (lines : List RunLine) wher
       let has : slice_get lists i ≡ Some w = slice_get-get_or lists i w (omega arith) ∙ sym (ap (λ (x : Words). Some x) mine) in
       if_some (slice_get lines i) (λ line. IsWhole board signals line words e)
       (λ line at. whole_at board signals lines have.first now lists watched have.start read i line at w words e has are end)
+
+  -- as many lists of words as lines, and as many streams
+  pub lists_counted : (now : List Streaming) (lists : List Words) → HaveWatched board signals lines now lists → length lists ≡ length lines
+  lists_counted now lists have =
+      sym (length-map lists (λ (x : Words). x.items)) ∙ (ap (length {A = List ℕ}) have.read.words ∙ (length-map have.first whole_of ∙ counted board signals have.first lines have.start))
+
+  pub streams_counted : (now : List Streaming) (lists : List Words) → HaveWatched board signals lines now lists → length now ≡ length lines
+  streams_counted now lists have =
+      sym (length-map now fixed) ∙ (ap (length {A = Fixed}) have.read.same ∙ (length-map have.first fixed ∙ counted board signals have.first lines have.start))
+
+-- all lines were read to their ends
+pub are_whole : (job : RunJobText) (now : List Streaming) (lists : List Words) (ends : List End) → All (IsWatched job.board) job.lines → HaveWatched job.board job.signals job.lines now lists → HaveEnded now ends → AreWhole job lists ends
+are_whole job now lists ends watched have ended =
+    let count = lists_counted job.board job.signals job.lines now lists have in
+    record {
+      lists_counted = count;
+      ends_counted = ended.count ∙ streams_counted job.board job.signals job.lines now lists have;
+      each = λ i w e here there.
+          let within : i < length job.lines = (let w_in = slice_get_within lists i w here in omega arith) in
+          line_whole job.board job.signals job.lines now lists watched have i w w.items e within (sym (get_or_from_slice_get lists i w w here)) refl (ended.each i e there);
+    }
+
+-- each source of streams that are over has found an end
+pub some_end : (streams : List Streaming) (i : ℕ) → All IsOver streams → IsEndOf streams i None → ⊥
+some_end streams i over end =
+    let here : get_or streams i end.0 ≡ end.0 = get_or_from_slice_get streams i end.0 end.0 end.1 in
+    let is : IsOver end.0 = subst IsOver here (over i end.0 (slice_get_within streams i end.0 end.1)) in
+    let found = is.found in let none = end.2 in cc
+
+-- where an item of a list with one more at its end stands
+snoc_cases : {X : Type 0} (xs : List X) (y : X) (i : ℕ) (x : X) → slice_get (xs ++ y ∷ []) i ≡ Some x → (slice_get xs i ≡ Some x) ⊎ ((i ≡ length xs) × (y ≡ x))
+snoc_cases [] y zero x is = inr (refl, cc)
+snoc_cases [] y (suc i) x is = absurd cc
+snoc_cases (z ∷ xs) y zero x is = inl is
+snoc_cases (z ∷ xs) y (suc i) x is = elim (snoc_cases xs y i x is) [ inl before ↦ inl before | inr last ↦ inr (omega (arith, last.0), last.1) ]
+
+-- the ends of some sources, and of one more
+pub ended_more : (streams : List Streaming) (ends : List End) (e : End) → ((i : ℕ) (x : End) → slice_get ends i ≡ Some x → IsEndOf streams i (Some x)) → IsEndOf streams (length ends) (Some e)
+    → (i : ℕ) (x : End) → slice_get (ends ++ e ∷ []) i ≡ Some x → IsEndOf streams i (Some x)
+ended_more streams ends e each last i x here = elim (snoc_cases ends e i x here) [
+  | inl before ↦ each i x before
+  | inr new ↦ subst (λ (n : ℕ). IsEndOf streams n (Some x)) (sym new.0) (subst (λ (z : End). IsEndOf streams (length ends) (Some z)) new.1 last)
+]

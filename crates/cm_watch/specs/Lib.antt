@@ -1,3 +1,4 @@
 pub mod Opened
 pub mod Watched
 pub mod Watching
+pub mod Whole

@@ -32,21 +32,27 @@ fn add_scan(words: &mut Vec<Vec<u32>>, source: u32, scan: &Scan) -> Result<(), A
 // How many samples of further scans are added at once.
 const PIECE: u32 = 256;
 
-// Adds the words of a source's further whole scans that have come, a piece at most.
+// After fewer further samples the client steps back, so that the mungers get ahead of it.
+const SMALL: usize = 64;
+
+// Adds the words of a source's further whole scans that have come, a piece at most, and says whether
+// they were few.
 fn add_more<P: Planned, G: Gate>(
     merge: &mut Merge<P>,
     words: &mut Vec<Vec<u32>>,
     source: u32,
     gate: &G,
-) -> Result<(), NoMemory>
+) -> Result<bool, NoMemory>
     requires words { source < length words.old.items }
     requires source { source < length merge.old.streams }
     ensures { IfOk result (λ _. (first : List Streaming) → HaveRead first merge.old.streams words.old.items → HaveRead first merge.new.streams words.new.items) }
 {
     let list = &mut words[source as usize];
+    let before = list.len();
     let scans = merge.append_scans(source, list, PIECE)?;
+    let few = list.len() < before + SMALL;
     pass_each(gate, source, scans);
-    Ok(())
+    Ok(few)
 }
 
 // Passes the gate's point once for each of so many scans.
@@ -72,7 +78,9 @@ fn read_all<R: Wait + Sync, P: Planned, G: Gate>(
             MergeStep::Given(source, scan) => {
                 add_scan(words, source, &scan)?;
                 gate.pass(source, 4);
-                add_more(merge, words, source, gate)?;
+                if add_more(merge, words, source, gate)? {
+                    backoff.snooze();
+                }
             }
             MergeStep::Ended => return Ok(()),
             MergeStep::Waiting => backoff.snooze(),

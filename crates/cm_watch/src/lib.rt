@@ -2,6 +2,7 @@
 #![tactic(auto)]
 
 mod beside;
+mod blocks;
 mod client;
 pub mod job;
 mod opening;

@@ -7,6 +7,7 @@ ghost use Rattle.cm_run_lines.specs.WatchLines.{IsWatched};
 ghost use Rattle.cm_watch.specs.Opened.{HaveWatched};
 
 use crate::beside::watch_sides;
+use crate::blocks::blocks_of;
 use crate::client::Watched;
 use crate::job::WatchJob;
 use crate::opening::{Opened, open_lines};
@@ -16,8 +17,6 @@ use cm_board::board::BoardDesc;
 use cm_expand::plan::Plan;
 use cm_run::blocks::Blocks;
 use cm_run::running::states_of;
-use cm_run::whole::block_text;
-use cm_run_lines::job::RunJob;
 use cm_run_lines::line::RunLine;
 use cm_signal::signals::Signals;
 use cm_stream::merge::Merge;
@@ -39,7 +38,7 @@ pub fn watch_job<R: Threads + Wait + Sync, G: Gate + Sync>(
 {
     let job = job.job();
     let watched = watch_lines(rt, alloc, &job.board, &job.signals, &job.lines, gate)?;
-    blocks_of(alloc, job, &watched)
+    blocks_of(rt, alloc, job, &watched)
 }
 
 // Reads lines to their ends, each of which has threads of its own for its board and its munger.
@@ -66,21 +65,4 @@ fn watch_lines<'a, R: Threads + Wait + Sync, G: Gate + Sync>(
     let merge = Merge::new(alloc, streams)?;
     let client = Watched { words, merge };
     watch_sides(rt, &owners, seat, sides, client, gate)
-}
-
-// The blocks of lines that were read to their ends.
-fn blocks_of(alloc: Global, job: &RunJob, watched: &Watched<Plan<'_>>) -> Result<Blocks, NoMemory>
-    requires watched { All (IsWatched job.now.board) job.now.lines }
-    requires read { HaveWatched job.now.board job.now.signals job.now.lines watched.now.merge.streams watched.now.words.items }
-    ensures { IfOk result (λ text. text ≡ run_text job.now.board job.now.signals job.now.lines) }
-{
-    let mut text = Blocks::new(alloc);
-    for i in 0..job.lines.len() {
-        let Some(end) = watched.merge.end_of(i as u32) else {
-            unreachable!()
-        };
-        let block = block_text(alloc, job, i as u32, &watched.words[i], &end)?;
-        text.push(block)?;
-    }
-    Ok(text)
 }
