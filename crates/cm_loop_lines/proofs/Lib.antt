@@ -1,4 +1,5 @@
 pub mod Kept
 pub mod Later
 pub mod Rules
+pub mod Sooner
 pub mod Words

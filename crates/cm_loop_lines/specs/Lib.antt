@@ -3,3 +3,4 @@ pub mod Job
 pub mod JobView
 pub mod Later
 pub mod LoopPart
+pub mod Pace

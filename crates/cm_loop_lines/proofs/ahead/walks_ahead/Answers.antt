@@ -2,7 +2,7 @@ use Rattle.std.proofs.Common.{arith}
 use Rattle.cm_expand.specs.Items.{items_of}
 use Rattle.cm_expand.specs.PlanView.{plan_text}
 use Rattle.cm_loop_lines.proofs.Later.{goes_on, next_at, none_at, not_later, passed_at, puts_end, samples_end}
-use Rattle.cm_loop_lines.proofs.ahead.is_ahead.Goals as goal
+use Rattle.cm_loop_lines.proofs.ahead.walks_ahead.Goals as goal
 
 pub returns-in_default : goal.returns-in_default
 returns-in_default c =

@@ -3,7 +3,7 @@ use Rattle.cm_expand.specs.Items.{items_of}
 use Rattle.cm_expand.specs.PlanView.{plan_text}
 use Rattle.cm_loop_lines.specs.Later.{are_later}
 use Rattle.cm_loop_lines.proofs.Later.{StandsAt}
-use Rattle.cm_loop_lines.proofs.ahead.is_ahead.Given as goal
+use Rattle.cm_loop_lines.proofs.ahead.walks_ahead.Given as goal
 
 -- both boards stand at the same place, and the conversions that are left decide
 abbrev pub invariant-loop : goal.invariant-loop
