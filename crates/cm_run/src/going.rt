@@ -29,6 +29,9 @@ use std::alloc::Global;
 use std::sync::Wait;
 use std::thread::Threads;
 
+// How many bytes are made ready for a sample's line, so that a long text is seldom moved.
+const LINE: usize = 12;
+
 /// A `go` line: an input command with its plan, and what its client does.
 #[derive(Clone, Copy)]
 pub struct Go<'a> {
@@ -103,7 +106,7 @@ pub(crate) fn go_block(
     // The board tells what holds of each expansion: that the words are codes of their channels.
     let _place = Board::new(plan).place();
     let cmd = plan.command();
-    let mut block = Vec::new(alloc);
+    let mut block = Vec::with_capacity(alloc, words.len().saturating_mul(LINE))?;
     put_words(
         alloc,
         &mut block,

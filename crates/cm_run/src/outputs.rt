@@ -15,6 +15,9 @@ use cm_text::output::put_output;
 use cm_text::tail::{Tail, put_tail};
 use std::alloc::Global;
 
+// How many bytes are made ready for an output's line, so that a long text is seldom moved.
+const LINE: usize = 24;
+
 // Appends the outputs of the conversions that a board has left and that have a word.
 fn put_outputs(
     text: &mut Vec<u8>,
@@ -76,7 +79,7 @@ pub fn part_block(
 ) -> Result<Vec<u8>, NoMemory>
     ensures { IfOk result (λ v. v.items ≡ output_texts (blocks.outputs_of sub (drop from (items_of (plan_text plan.entry))) words.now)) }
 {
-    let mut block = Vec::new(alloc);
+    let mut block = Vec::with_capacity(alloc, words.len().saturating_mul(LINE))?;
     put_outputs(&mut block, sub, board_after(plan, from), words)?;
     Ok(block)
 }
