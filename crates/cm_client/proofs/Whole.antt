@@ -1,5 +1,5 @@
--- A paced ring that is read to its end without a stop gives its whole plan.
-use Rattle.std.proofs.Common.{◌≡◌, ℕ, List, length, refl, sym, subst, true, false, Option, Some, ap, ◌∙◌}
+-- What a client has read once it has found the end: of a paced ring without a stop the whole plan.
+use Rattle.std.proofs.Common.{◌≡◌, ℕ, ◌≤◌, List, length, refl, sym, subst, true, false, Option, Some, None, ap, ◌∙◌, inl, inr, arith}
 use Rattle.std.proofs.Math.Seq.{take-length}
 use Rattle.cm_ring_core.specs.declared.view.RingConstants.{RingConstants}
 use Rattle.cm_ring_core.specs.declared.view.ReaderPart.{ReaderPart}
@@ -10,8 +10,8 @@ use Rattle.cm_ring_core.specs.Lawful.{IsFoundEnd}
 use Rattle.cm_sample.specs.Rule.{munged_word}
 use Rattle.cm_ring.specs.Roles.{Reading}
 use Rattle.cm_client.specs.Samples.{munged_plan, first_munged}
-use Rattle.cm_client.specs.Progress.{IsSameRing, HasAll, Stops}
-use Rattle.cm_client.proofs.Pieces.{length-map_from}
+use Rattle.cm_client.specs.Progress.{up_to, IsTaken, IsSameRing, HasAll, Stops, IsReadToEnd}
+use Rattle.cm_client.proofs.Pieces.{length-map_from, up_to_taken, is_taken}
 
 -- as many munged samples as the plan has are the whole munged plan
 pub all_munged : (ring : RingConstants) → first_munged ring (length ring.samples) ≡ munged_plan ring
@@ -24,10 +24,46 @@ whole_plan ring r Done count paced asked found = (refl, ap (λ (n : ℕ). first_
 whole_plan ring r Overrun count paced asked found = absurd (let free = found.3 in cc)
 whole_plan ring r Cancelled count paced asked found = absurd cc
 
--- a client that stopped at an end has the whole plan of a paced ring, where no stop was asked
-pub read_whole : (old r : Reading) (most : Option ℕ) (words : List ℕ) (o : Option End) (e : End) → IsSameRing old r → r.part.asked ≡ old.part.asked → HasAll r words → Stops r most o → o ≡ Some e
-    → old.ring.paced ≡ true → old.part.asked ≡ false → (e.kind ≡ Done) × (words ≡ munged_plan old.ring)
-read_whole old r most words o e of same all stops is paced asked =
-    let at : Stops r most (Some e) = subst (λ (f : Option End). Stops r most f) is stops in
-    let whole = whole_plan r.ring r.part e.kind e.count (ap (λ (x : RingConstants). x.paced) of.1 ∙ paced) (same ∙ asked) at.3 in
-    (whole.0, all.are ∙ (ap (λ (n : ℕ). first_munged r.ring n) at.1 ∙ (whole.1 ∙ ap (λ (x : RingConstants). munged_plan x) of.1)))
+-- a client that stopped at the end that it found has read to the end
+pub read_at_end : (old r : Reading) (most : Option ℕ) (words : List ℕ) (e : End) → IsSameRing old r → r.part.asked ≡ old.part.asked → HasAll r words → Stops r most (Some e)
+    → IsReadToEnd old r most words e
+read_at_end old r most words e of asked all stops =
+    let within : r.part.released ≤ length r.ring.samples = all.within in
+    let same : length r.ring.samples ≡ length old.ring.samples = ap (λ (x : RingConstants). length x.samples) of.1 in
+    let at : r.part.released ≡ up_to e.count most = stops.2 in
+    record {
+      are = all.are ∙ (ap (λ (n : ℕ). first_munged r.ring n) at ∙ ap (λ (x : RingConstants). first_munged x (up_to e.count most)) of.1);
+      count = all.count ∙ at;
+      released = at;
+      none_mapped = all.none_mapped;
+      within = omega arith;
+      found = stops.0;
+      says = stops.3;
+      cancelled = λ kind unasked. absurd (let is_asked : r.part.asked ≡ true = subst (λ (k : EndKind). IsFoundEnd r.ring r.part k e.count) kind stops.3 in cc);
+      asked = inl asked;
+      whole = λ paced unasked _.
+          let whole = whole_plan r.ring r.part e.kind e.count (ap (λ (x : RingConstants). x.paced) of.1 ∙ paced) (asked ∙ unasked) stops.3 in
+          (whole.0, all.are ∙ (ap (λ (n : ℕ). first_munged r.ring n) stops.1 ∙ (whole.1 ∙ ap (λ (x : RingConstants). munged_plan x) of.1)));
+    }
+
+-- a client that has as many samples as it takes, and then asked for the stop and found the end, has read to the end
+pub read_taken : (old r new : Reading) (most : Option ℕ) (words : List ℕ) (e : End) → IsSameRing old r → HasAll r words → Stops r most None
+    → new ≡ record r { part = record r.part { asked = true; found = Some e; end_looks = new.part.end_looks } } → r.part.released ≤ e.count → IsFoundEnd new.ring new.part e.kind e.count
+    → IsReadToEnd old new most words e
+read_taken old r new most words e of all stops same above says =
+    let at : up_to e.count most ≡ r.part.released = up_to_taken most r.part.released e.count stops above in
+    let taken : IsTaken most e.count = is_taken most r.part.released e.count stops above in
+    let within : r.part.released ≤ length r.ring.samples = all.within in
+    let ring : length r.ring.samples ≡ length old.ring.samples = ap (λ (x : RingConstants). length x.samples) of.1 in
+    record {
+      are = all.are ∙ (ap (λ (n : ℕ). first_munged r.ring n) (sym at) ∙ ap (λ (x : RingConstants). first_munged x (up_to e.count most)) of.1);
+      count = all.count ∙ sym at;
+      released = ap (λ (x : Reading). x.part.released) same ∙ sym at;
+      none_mapped = ap (λ (x : Reading). x.mapped) same ∙ all.none_mapped;
+      within = omega arith;
+      found = ap (λ (x : Reading). x.part.found) same;
+      says = says;
+      cancelled = λ _ _. taken;
+      asked = inr taken;
+      whole = λ _ _ none. absurd (let e : Some r.part.released ≡ None = sym stops ∙ none in cc);
+    }

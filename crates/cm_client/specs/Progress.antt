@@ -1,9 +1,10 @@
 -- What a client has read of a ring, and where it stops.
-use Rattle.std.specs.Prelude.{◌≡◌, ℕ, ◌+◌, ◌≤◌, min, List, ◌++◌, length, Option, Some, None}
+use Rattle.std.specs.Prelude.{◌≡◌, ◌⊎◌, ℕ, ◌+◌, ◌≤◌, min, List, ◌++◌, length, true, false, Option, Some, None}
 use Rattle.cm_ring_core.specs.declared.view.End.{End}
+use Rattle.cm_ring_core.specs.declared.view.EndKind.TheVariants.{Done, Cancelled}
 use Rattle.cm_ring_core.specs.Lawful.{IsFoundEnd}
 use Rattle.cm_ring.specs.Roles.{Reading}
-use Rattle.cm_client.specs.Samples.{first_munged, piece}
+use Rattle.cm_client.specs.Samples.{first_munged, munged_plan, piece}
 
 -- the smaller of a count and a number that may be missing
 abbrev pub up_to : ℕ → Option ℕ → ℕ
@@ -36,3 +37,16 @@ pub record HasAll (r : Reading) (words : List ℕ) : Type 0 where
 abbrev pub Stops : Reading → Option ℕ → Option End → Type 0
 Stops r most None = most ≡ Some r.part.released
 Stops r most (Some e) = (r.part.found ≡ Some e) × (r.part.released ≡ e.count) × (r.part.released ≡ up_to e.count most) × IsFoundEnd r.ring r.part e.kind e.count
+
+-- a client has read to the end: its words are the munged plan up to the end's count, or up to the number to take where that is smaller, and it has released these and no others
+pub record IsReadToEnd (old new : Reading) (most : Option ℕ) (words : List ℕ) (e : End) : Type 0 where
+  pub are : words ≡ first_munged old.ring (up_to e.count most)
+  pub count : length words ≡ up_to e.count most
+  pub released : new.part.released ≡ up_to e.count most
+  pub none_mapped : new.mapped ≡ 0
+  pub within : up_to e.count most ≤ length old.ring.samples
+  pub found : new.part.found ≡ Some e
+  pub says : IsFoundEnd new.ring new.part e.kind e.count
+  pub cancelled : e.kind ≡ Cancelled → old.part.asked ≡ false → IsTaken most e.count
+  pub asked : (new.part.asked ≡ old.part.asked) ⊎ IsTaken most e.count
+  pub whole : old.ring.paced ≡ true → old.part.asked ≡ false → most ≡ None → (e.kind ≡ Done) × (words ≡ munged_plan old.ring)

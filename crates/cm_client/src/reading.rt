@@ -1,9 +1,8 @@
 // Reads to the end of a ring.
-ghost use Rattle.std.specs.Prelude.{◌≡◌, ◌⊎◌, ◌+◌, ◌-◌, ◌<◌, ◌≤◌, ◌++◌, ◌≢◌, min, length, take, true, false, Some, None, IfOk, IfSome, IsTrue, IsFalse, OnErr, MatchOption, ⊤};
-ghost use Rattle.cm_client.specs.Samples.{first_munged, munged_plan, piece};
-ghost use Rattle.cm_client.specs.Progress.{up_to, HasRead, HasAll, IsSameRing, Stops, IsTaken};
+ghost use Rattle.std.specs.Prelude.{◌≡◌, ◌+◌, ◌-◌, ◌<◌, ◌≤◌, ◌++◌, ◌≢◌, min, length, take, true, Some, None, IfOk, IfSome, IsTrue, IsFalse, OnErr, MatchOption, ⊤};
+ghost use Rattle.cm_client.specs.Samples.{piece};
+ghost use Rattle.cm_client.specs.Progress.{HasRead, HasAll, IsReadToEnd, IsSameRing, Stops};
 ghost use Rattle.cm_ring_core.specs.Lawful.{IsFoundEnd};
-ghost use Rattle.cm_ring_core.specs.declared.view.EndKind.TheVariants.{Done, Cancelled};
 
 use crate::copying::copy_read;
 use crate::mapping::MapReader;
@@ -240,19 +239,36 @@ pub fn read_to_end<R: Wait + Sync, P: Planned, G: Gate>(
 ) -> Result<(Vec<u32>, End), NoMemory>
     requires chunk { 1 ≤ chunk }
     requires fresh { (reader.old.part.released ≡ 0) × (reader.old.mapped ≡ 0) }
-    ensures words { IfOk result (λ t. t.0.items ≡ first_munged reader.old.ring (up_to t.1.count take)) }
-    ensures count { IfOk result (λ t. length t.0.items ≡ up_to t.1.count take) }
-    ensures released { IfOk result (λ t. reader.new.part.released ≡ up_to t.1.count take) }
-    ensures mapped { IfOk result (λ t. reader.new.mapped ≡ 0) }
-    ensures within { IfOk result (λ t. up_to t.1.count take ≤ length reader.old.ring.samples) }
-    ensures end { IfOk result (λ t. (reader.new.part.found ≡ Some t.1) × IsFoundEnd reader.new.ring reader.new.part t.1.kind t.1.count) }
-    ensures cancelled { IfOk result (λ t. t.1.kind ≡ Cancelled → reader.old.part.asked ≡ false → IsTaken take t.1.count) }
-    ensures asked { IfOk result (λ t. (reader.new.part.asked ≡ reader.old.part.asked) ⊎ IsTaken take t.1.count) }
-    ensures whole { IfOk result (λ t. reader.old.ring.paced ≡ true → reader.old.part.asked ≡ false → take ≡ None → (t.1.kind ≡ Done) × (t.0.items ≡ munged_plan reader.old.ring)) }
+    ensures read { IfOk result (λ t. IsReadToEnd reader.old reader.new take t.0.items t.1) }
     ensures of { IsSameRing reader.old reader.new }
     ensures no_memory { OnErr result (reader.new.part.asked ≡ true) }
 {
-    let mut words = Vec::new(alloc);
+    read_to_end_with_room(rt, alloc, reader, chunk, by_map, take, 0, gate, who)
+}
+
+/// Reads as `read_to_end` does. `room` is the number of words that are made ready for, so that a long
+/// list is seldom moved. It's no limit.
+pub fn read_to_end_with_room<R: Wait + Sync, P: Planned, G: Gate>(
+    rt: &R,
+    alloc: Global,
+    reader: &mut Reader<P>,
+    chunk: u32,
+    by_map: bool,
+    take: Option<u64>,
+    room: usize,
+    gate: &G,
+    who: u32,
+) -> Result<(Vec<u32>, End), NoMemory>
+    requires chunk { 1 ≤ chunk }
+    requires fresh { (reader.old.part.released ≡ 0) × (reader.old.mapped ≡ 0) }
+    ensures read { IfOk result (λ t. IsReadToEnd reader.old reader.new take t.0.items t.1) }
+    ensures of { IsSameRing reader.old reader.new }
+    ensures no_memory { OnErr result (reader.new.part.asked ≡ true) }
+{
+    let Ok(mut words) = Vec::with_capacity(alloc, room) else {
+        reader.ask_stop();
+        return Err(NoMemory);
+    };
     match read_up_to(rt, reader, &mut words, chunk, by_map, take, gate, who) {
         Ok(Some(end)) => Ok((words, end)),
         Ok(None) => {

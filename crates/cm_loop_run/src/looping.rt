@@ -11,6 +11,7 @@ use crate::text::text_of;
 use cm_base::gate::Gate;
 use cm_base::transfer::NoMemory;
 use cm_expand::board::Board;
+use cm_expand::plan::Plan;
 use cm_expand::rule::rule_of;
 use cm_loop::looped::Looped;
 use cm_loop::rule::LoopRule;
@@ -20,8 +21,8 @@ use cm_ring::open::open;
 use cm_run::blocks::Blocks;
 use cm_run::ending::count_of;
 use cm_run::opening::{PacedRing, open_paced};
-use cm_run_core::client::ClientSide;
-use cm_run_core::streaming::BASE;
+use cm_run_core::client::{ClientSide, Reads};
+use cm_run_core::streaming::{BASE, room_of};
 use std::alloc::Global;
 use std::sync::Wait;
 use std::thread::Threads;
@@ -35,6 +36,18 @@ fn take_of(samples: u64, outputs: u64) -> Option<u64>
         Some(outputs)
     } else {
         None
+    }
+}
+
+// How the output's client reads, where the input has so many samples and the output so many conversions.
+fn reads_of(output: &Plan<'_>, samples: u64, outputs: u64) -> Reads
+    ensures { result.take ≡ spec.take_of samples outputs }
+{
+    let take = take_of(samples, outputs);
+    Reads {
+        by_map: false,
+        take,
+        room: room_of(output, take),
     }
 }
 
@@ -80,8 +93,8 @@ fn loop_words<R: Threads + Wait + Sync, G: Gate + Sync>(
             reader: out_reader,
         },
     };
-    let take = take_of(samples, count_of(&output));
-    let streamed = stream_loop(rt, alloc, board, side, take, gate)?;
+    let reads = reads_of(&output, samples, count_of(&output));
+    let streamed = stream_loop(rt, alloc, board, side, reads, gate)?;
     Ok(streamed.words)
 }
 

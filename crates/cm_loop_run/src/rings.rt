@@ -7,7 +7,7 @@ use cm_base::gate::Gate;
 use cm_base::transfer::NoMemory;
 use cm_client::munging::munge_work;
 use cm_ring::munger::Munger;
-use cm_run_core::client::{ClientSide, Streamed, run_client};
+use cm_run_core::client::{ClientSide, Reads, Streamed, run_client};
 use cm_run_core::paced::PacedBoard;
 use cm_run_core::starting::Started;
 use cm_run_core::words::Words;
@@ -30,10 +30,10 @@ pub(crate) struct LoopSide<'a, P: Planned, Q: Planned> {
     pub client: ClientSide<Q>,
 }
 
-/// Streams an input through a filter into an output, and gives what comes out of its ring, up to
-/// `take` words: the input's board and munger, the filter and the output's munger have threads of
-/// their own, and all have ended when it returns. It gives NoMemory, too, where a thread can't be
-/// made, and has asked for the stop then.
+/// Streams an input through a filter into an output, and gives what comes out of its ring, up to as
+/// many words as the client takes: the input's board and munger, the filter and the output's munger have
+/// threads of their own, and all have ended when it returns. It gives NoMemory, too, where a thread can't
+/// be made, and has asked for the stop then.
 pub(crate) fn stream_loop<
     R: Threads + Wait + Sync,
     P: Planned + Send + Sync,
@@ -45,11 +45,11 @@ pub(crate) fn stream_loop<
     alloc: Global,
     board: PacedBoard<P, W>,
     side: LoopSide<'_, P, Q>,
-    take: Option<u64>,
+    reads: Reads,
     gate: &G,
 ) -> Result<Streamed<Q>, NoMemory>
     requires { IsFresh side.client.reader }
-    ensures { IfOk result (λ s. HasStreamed side.entry.client.reader.ring take s.words.items s.end s.reader) }
+    ensures { IfOk result (λ s. HasStreamed side.entry.client.reader.ring reads.take s.words.items s.end s.reader) }
 {
     let started = Started::new();
     let writing = &started;
@@ -61,8 +61,8 @@ pub(crate) fn stream_loop<
         },
         move || -> Result<Streamed<Q>, NoMemory>
             requires { IsFresh side.client.reader }
-            ensures { IfOk result (λ s. HasStreamed side.entry.client.reader.ring take s.words.items s.end s.reader) }
-        { munge_beside(rt, alloc, side, writing, take, gate) },
+            ensures { IfOk result (λ s. HasStreamed side.entry.client.reader.ring reads.take s.words.items s.end s.reader) }
+        { munge_beside(rt, alloc, side, writing, reads, gate) },
     );
     streamed
 }
@@ -78,11 +78,11 @@ fn munge_beside<
     alloc: Global,
     side: LoopSide<'_, P, Q>,
     writing: &Started,
-    take: Option<u64>,
+    reads: Reads,
     gate: &G,
 ) -> Result<Streamed<Q>, NoMemory>
     requires { IsFresh side.client.reader }
-    ensures { IfOk result (λ s. HasStreamed side.entry.client.reader.ring take s.words.items s.end s.reader) }
+    ensures { IfOk result (λ s. HasStreamed side.entry.client.reader.ring reads.take s.words.items s.end s.reader) }
 {
     let LoopSide {
         munger,
@@ -103,8 +103,8 @@ fn munge_beside<
         },
         move || -> Result<Streamed<Q>, NoMemory>
             requires { IsFresh client.reader }
-            ensures { IfOk result (λ s. HasStreamed client.reader.ring take s.words.items s.end s.reader) }
-        { filter_beside(rt, alloc, filter, client, munging, take, gate) },
+            ensures { IfOk result (λ s. HasStreamed client.reader.ring reads.take s.words.items s.end s.reader) }
+        { filter_beside(rt, alloc, filter, client, munging, reads, gate) },
     );
     streamed
 }
@@ -121,11 +121,11 @@ fn filter_beside<
     filter: FilterSide<'_, P, Q>,
     client: ClientSide<Q>,
     munging: &Started,
-    take: Option<u64>,
+    reads: Reads,
     gate: &G,
 ) -> Result<Streamed<Q>, NoMemory>
     requires { IsFresh client.reader }
-    ensures { IfOk result (λ s. HasStreamed client.reader.ring take s.words.items s.end s.reader) }
+    ensures { IfOk result (λ s. HasStreamed client.reader.ring reads.take s.words.items s.end s.reader) }
 {
     if !munging.wait() {
         filter.stop();
@@ -141,8 +141,8 @@ fn filter_beside<
         },
         move || -> Result<Streamed<Q>, NoMemory>
             requires { IsFresh client.reader }
-            ensures { IfOk result (λ s. HasStreamed client.reader.ring take s.words.items s.end s.reader) }
-        { run_client(rt, alloc, client, filtering, false, take, gate, CLIENT) },
+            ensures { IfOk result (λ s. HasStreamed client.reader.ring reads.take s.words.items s.end s.reader) }
+        { run_client(rt, alloc, client, filtering, reads, gate, CLIENT) },
     );
     streamed
 }

@@ -14,18 +14,7 @@ use std::alloc::Global;
 use std::thread::{Threads, join};
 
 // How many outputs one thread makes the lines of.
-const PIECE: usize = 262_144;
-
-// The lines of some outputs, and those of all outputs up to some.
-#[derive(Drop)]
-struct PartText {
-    block: Vec<u8>,
-}
-
-#[derive(Drop)]
-struct PartsText {
-    text: Blocks,
-}
+const PART: usize = 262_144;
 
 // The lines of the outputs from a place on that have a word.
 fn part_text(
@@ -34,60 +23,48 @@ fn part_text(
     job: &LoopJob,
     from: u64,
     words: &[u32],
-) -> Result<PartText, NoMemory>
-    ensures { IfOk result (λ part. part.block.items ≡ lines_from sub job.now from words.now) }
+) -> Result<Vec<u8>, NoMemory>
+    ensures { IfOk result (λ part. part.items ≡ lines_from sub job.now from words.now) }
 {
-    let block = part_block(alloc, sub, job.output_plan(), from, words)?;
-    Ok(PartText { block })
+    part_block(alloc, sub, job.output_plan(), from, words)
 }
 
-// Cuts off the last piece of some words. None comes exactly where there are none.
+// Cuts off the last part of some words. None comes exactly where there are none.
 fn cut(words: &[u32]) -> Option<(&[u32], &[u32])>
     ensures { MatchOption result (words.now ≡ []) (λ t. IsCutInTwo words.now t.0.now t.1.now) }
 {
     if words.is_empty() {
         return None;
     }
-    let before = (words.len() - 1) / PIECE * PIECE;
+    let before = (words.len() - 1) / PART * PART;
     Some(words.split_at(before))
 }
 
-// The lines of a part after those before it.
-fn with_part(before: PartsText, part: PartText) -> Result<PartsText, NoMemory>
-    ensures { IfOk result (λ longer. longer.text ≡ before.text ++ part.block.items) }
-{
-    let PartsText { mut text } = before;
-    text.push(part.block)?;
-    Ok(PartsText { text })
-}
-
-// The lines of the outputs that have a word, a piece of them made in each thread.
+// The lines of the outputs that have a word, a part of them made in each thread.
 fn text_up_to<R: Threads + Sync>(
     rt: &R,
     alloc: Global,
     sub: u32,
     job: &LoopJob,
     words: &[u32],
-) -> Result<PartsText, NoMemory>
-    ensures { IfOk result (λ parts. parts.text ≡ lines_of sub job.now words.now) }
+) -> Result<Blocks, NoMemory>
+    ensures { IfOk result (λ text. text ≡ lines_of sub job.now words.now) }
 {
     let Some((before, last)) = cut(words) else {
-        return Ok(PartsText {
-            text: Blocks::new(alloc),
-        });
+        return Ok(Blocks::new(alloc));
     };
     let from = before.len() as u64;
     let (part, text) = join(
         rt,
-        move || -> Result<PartText, NoMemory>
-            ensures { IfOk result (λ part. part.block.items ≡ lines_from sub job.entry.now from last.entry.now) }
+        move || -> Result<Vec<u8>, NoMemory>
+            ensures { IfOk result (λ part. part.items ≡ lines_from sub job.entry.now from last.entry.now) }
         { part_text(alloc, sub, job, from, last) },
-        move || -> Result<PartsText, NoMemory>
+        move || -> Result<Blocks, NoMemory>
             requires { IsSync R.row }
-            ensures { IfOk result (λ parts. parts.text ≡ lines_of sub job.entry.now before.entry.now) }
+            ensures { IfOk result (λ text. text ≡ lines_of sub job.entry.now before.entry.now) }
         { text_up_to(rt, alloc, sub, job, before) },
     );
-    with_part(text?, part?)
+    text?.with(part?)
 }
 
 /// The text of a loop of which these words came out, where the input has so many samples.
@@ -103,7 +80,6 @@ pub(crate) fn text_of<R: Threads + Sync>(
     ensures { IfOk result (λ text. text ≡ spec.loop_text job.now) }
 {
     let sub = job.output.cmd().sub;
-    let PartsText { mut text } = text_up_to(rt, alloc, sub, job, words)?;
-    text.push(tail_block(alloc, job.output_plan(), samples)?)?;
-    Ok(text)
+    let text = text_up_to(rt, alloc, sub, job, words)?;
+    text.with(tail_block(alloc, job.output_plan(), samples)?)
 }

@@ -35,13 +35,13 @@ impl Blocks {
         }
     }
 
-    /// Appends a block.
+    /// The text with a block after it.
     #[tactic(auto, using(crate::proofs::Writing::joined_more))]
-    pub fn push(&mut self, block: Vec<u8>) -> Result<(), NoMemory>
-        ensures { OnOk result (self.new ≡ self.old ++ block.items) }
+    pub fn with(mut self, block: Vec<u8>) -> Result<Blocks, NoMemory>
+        ensures { IfOk result (λ longer. longer ≡ self ++ block.items) }
     {
         self.blocks.push(block)?;
-        Ok(())
+        Ok(self)
     }
 
     /// Writes the whole text, up to the first fault.

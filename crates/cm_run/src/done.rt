@@ -26,12 +26,9 @@ pub(crate) fn add_line<'a>(before: Ran<'a>, done: LineDone<'a>) -> Result<Ran<'a
     ensures text { IfOk result (λ r. r.text ≡ before.entry.text ++ done.entry.block.items) }
     ensures readers { IfOk result (λ r. r.readers.items ≡ before.entry.readers.items ++ as_list done.entry.reader) }
 {
-    let Ran {
-        mut text,
-        mut readers,
-    } = before;
+    let Ran { text, mut readers } = before;
     let LineDone { block, reader } = done;
-    text.push(block)?;
+    let text = text.with(block)?;
     if let Some(reader) = reader {
         readers.push(reader)?;
     }

@@ -19,7 +19,7 @@ use cm_expand::plan::Plan;
 use cm_expand::rule::rule_of;
 use cm_ring::open::open;
 use cm_ring::writer::Writer;
-use cm_run_core::client::{ClientSide, Streamed, run_client};
+use cm_run_core::client::{ClientSide, Reads, Streamed, run_client};
 use cm_run_core::starting::Started;
 use cm_run_core::streaming::BASE;
 use cm_sample::rule::MungeRule;
@@ -69,6 +69,11 @@ fn move_words<R: Threads + Wait + Sync, G: Gate + Sync>(
     let (writer, munger, reader) = open(alloc, size, rule, true, BASE, words)?;
     let feeder = FeedSide { writer, words };
     let client = ClientSide { munger, reader };
+    let reads = Reads {
+        by_map: false,
+        take: None,
+        room: words.len(),
+    };
     let started = Started::new();
     let writing = &started;
     let (_, streamed) = join(
@@ -81,8 +86,8 @@ fn move_words<R: Threads + Wait + Sync, G: Gate + Sync>(
         },
         move || -> Result<Streamed<&[u32]>, NoMemory>
             requires { IsFresh client.reader }
-            ensures { IfOk result (λ s. HasStreamed client.entry.reader.ring None s.words.items s.end s.reader) }
-        { run_client(rt, alloc, client, writing, false, None, gate, who) },
+            ensures { IfOk result (λ s. HasStreamed client.entry.reader.ring reads.take s.words.items s.end s.reader) }
+        { run_client(rt, alloc, client, writing, reads, gate, who) },
     );
     let Streamed {
         words,

@@ -62,8 +62,7 @@ pub(crate) fn outputs_block(
     requires { blocks.count_of (plan_text plan) ≤ 4000000 }
     ensures { IfOk result (λ v. v.items ≡ output_texts (blocks.outputs_of sub (items_of (plan_text plan.entry)) words.now) ++ tail_text (blocks.values_tail (plan_text plan.entry) values)) }
 {
-    let mut block = Vec::new(alloc);
-    put_outputs(&mut block, sub, Board::new(plan), words)?;
+    let mut block = part_block(alloc, sub, plan, 0, words)?;
     put_tail(&mut block, values_tail(plan, values))?;
     Ok(block)
 }

@@ -14,7 +14,7 @@ use crossbeam_utils::Backoff;
 use std::sync::Wait;
 
 // How many words a paced ring's writer puts before it publishes them.
-const PIECE: u32 = 64;
+const PIECE: u32 = 256;
 
 /// Puts all words in order. Where the ring isn't paced each is published before the next one is tried;
 /// else they are published in pieces, and before the writer waits. Where the ring is full it

@@ -7,7 +7,7 @@ use crate::starting::Started;
 use cm_base::gate::Gate;
 use cm_base::transfer::NoMemory;
 use cm_client::munging::munge_work;
-use cm_client::reading::read_to_end;
+use cm_client::reading::read_to_end_with_room;
 use cm_ring::munger::Munger;
 use cm_ring::reader::Reader;
 use cm_ring_core::view::End;
@@ -27,22 +27,31 @@ pub struct Streamed<P: Planned> {
     pub reader: Reader<P>,
 }
 
-/// Reads to the end in pieces of 64, or up to `take` samples.
+/// How a client reads: in place or by copying, how many samples it takes, or all, and how many words it
+/// makes ready for, so that a long list is seldom moved. The last is no limit.
+#[derive(Clone, Copy)]
+pub struct Reads {
+    pub by_map: bool,
+    pub take: Option<u64>,
+    pub room: usize,
+}
+
+/// Reads to the end in pieces of 64, or up to as many samples as it takes.
 pub fn client_work<R: Wait + Sync, P: Planned, G: Gate>(
     rt: &R,
     alloc: Global,
     reader: &mut Reader<P>,
-    by_map: bool,
-    take: Option<u64>,
+    reads: Reads,
     gate: &G,
     who: u32,
 ) -> Result<(Vec<u32>, End), NoMemory>
     requires fresh { IsFresh reader.old }
-    ensures streamed { IfOk result (λ t. HasStreamed reader.old.ring take t.0.items t.1 reader.new) }
+    ensures streamed { IfOk result (λ t. HasStreamed reader.old.ring reads.take t.0.items t.1 reader.new) }
     ensures of { IsSameRing reader.old reader.new }
     ensures no_memory { OnErr result (reader.new.part.asked ≡ true) }
 {
-    read_to_end(rt, alloc, reader, CHUNK, by_map, take, gate, who)
+    let Reads { by_map, take, room } = reads;
+    read_to_end_with_room(rt, alloc, reader, CHUNK, by_map, take, room, gate, who)
 }
 
 /// The two ends of a ring that a client's side has.
@@ -58,19 +67,18 @@ fn read_line<R: Wait + Sync, P: Planned, G: Gate>(
     alloc: Global,
     mut reader: Reader<P>,
     munging: &Started,
-    by_map: bool,
-    take: Option<u64>,
+    reads: Reads,
     gate: &G,
     who: u32,
 ) -> Result<Streamed<P>, NoMemory>
     requires fresh { IsFresh reader }
-    ensures { IfOk result (λ s. HasStreamed reader.ring take s.words.items s.end s.reader) }
+    ensures { IfOk result (λ s. HasStreamed reader.ring reads.take s.words.items s.end s.reader) }
 {
     if !munging.wait() {
         reader.ask_stop();
         return Err(NoMemory);
     }
-    let (words, end) = client_work(rt, alloc, &mut reader, by_map, take, gate, who)?;
+    let (words, end) = client_work(rt, alloc, &mut reader, reads, gate, who)?;
     Ok(Streamed { words, end, reader })
 }
 
@@ -81,20 +89,19 @@ pub fn run_client<R: Threads + Wait + Sync, P: Planned + Send + Sync, G: Gate + 
     alloc: Global,
     side: ClientSide<P>,
     writing: &Started,
-    by_map: bool,
-    take: Option<u64>,
+    reads: Reads,
     gate: &G,
     who: u32,
 ) -> Result<Streamed<P>, NoMemory>
     requires fresh { IsFresh side.reader }
-    ensures { IfOk result (λ s. HasStreamed side.reader.ring take s.words.items s.end s.reader) }
+    ensures { IfOk result (λ s. HasStreamed side.reader.ring reads.take s.words.items s.end s.reader) }
 {
     let ClientSide { munger, mut reader } = side;
     if !writing.wait() {
         reader.ask_stop();
         return Err(NoMemory);
     }
-    munge_and_read(rt, alloc, munger, reader, by_map, take, gate, who)
+    munge_and_read(rt, alloc, munger, reader, reads, gate, who)
 }
 
 // Munges and reads to the end, each in a thread of its own.
@@ -103,13 +110,12 @@ fn munge_and_read<R: Threads + Wait + Sync, P: Planned + Send + Sync, G: Gate + 
     alloc: Global,
     munger: Munger<P>,
     reader: Reader<P>,
-    by_map: bool,
-    take: Option<u64>,
+    reads: Reads,
     gate: &G,
     who: u32,
 ) -> Result<Streamed<P>, NoMemory>
     requires fresh { IsFresh reader }
-    ensures { IfOk result (λ s. HasStreamed reader.ring take s.words.items s.end s.reader) }
+    ensures { IfOk result (λ s. HasStreamed reader.ring reads.take s.words.items s.end s.reader) }
 {
     let started = Started::new();
     let munging = &started;
@@ -121,8 +127,8 @@ fn munge_and_read<R: Threads + Wait + Sync, P: Planned + Send + Sync, G: Gate + 
         },
         move || -> Result<Streamed<P>, NoMemory>
             requires { IsFresh reader }
-            ensures { IfOk result (λ s. HasStreamed reader.ring take s.words.items s.end s.reader) }
-        { read_line(rt, alloc, reader, munging, by_map, take, gate, who) },
+            ensures { IfOk result (λ s. HasStreamed reader.ring reads.take s.words.items s.end s.reader) }
+        { read_line(rt, alloc, reader, munging, reads, gate, who) },
     );
     streamed
 }

@@ -2,7 +2,7 @@
 use Rattle.std.specs.Prelude.{◌≡◌, ℕ, ◌+◌, ◌-◌, ◌*◌, ◌/◌, min, List, ◌++◌, map, slice_get, slice_set, Some}
 use Rattle.cm_client.specs.Samples.{piece}
 use Rattle.cm_stream.specs.Stream.{Streaming, IsSameStream}
-use Rattle.cm_stream.specs.Merging.{fixed, given_words}
+use Rattle.cm_stream.specs.Merging.{fixed, given_words, released_of}
 
 -- the next whole scans, so many: all that a look at the munged count found, of at most `most` samples; their words are appended and released
 pub record HasAppended (count most : ℕ) (before after : List ℕ) (old new : Streaming) : Type 0 where
@@ -24,3 +24,8 @@ pub record HasAppendedOf (source count most : ℕ) (before after : List ℕ) (ol
   pub more : List ℕ
   pub words : after ≡ before ++ more
   pub given : map given_words new ≡ slice_set (map given_words old) source (given_words stream ++ more)
+
+-- no source has released anything, and what no step changes of them stays
+pub record HasReleasedNothing (old new : List Streaming) : Type 0 where
+  pub released : map released_of new ≡ map released_of old
+  pub fixed : map fixed new ≡ map fixed old

@@ -1,7 +1,7 @@
 // Several streams, served by one client.
-ghost use Rattle.std.specs.Prelude.{◌≡◌, ◌<◌, ◌^◌, length, map, IfOk, IfSome, None};
+ghost use Rattle.std.specs.Prelude.{◌≡◌, ◌<◌, ◌^◌, length, map, IfOk, IfSome, OnErr, None};
 ghost use Rattle.std.specs.List.{All};
-ghost use Rattle.cm_stream.specs.Appended.{HasAppendedOf};
+ghost use Rattle.cm_stream.specs.Appended.{HasAppendedOf, HasReleasedNothing};
 ghost use Rattle.cm_stream.specs.Stream.{asked_stream};
 ghost use Rattle.cm_stream.specs.Merging.{merging, first_after, last_after, HasGoneRound, HasMerged, IsEndOf, IsFresh};
 
@@ -100,10 +100,11 @@ impl<P: Planned> Merge<P> {
 
     /// Appends the words of the next whole scans of a source, of at most `most` samples in all, as
     /// `ScanStream::append_scans` does, and reports how many scans they are. The other sources, and the
-    /// one that was given last, stay as they are.
+    /// one that was given last, stay as they are. Where memory runs out nothing is released.
     pub fn append_scans(&mut self, s: u32, words: &mut Vec<u32>, most: u32) -> Result<u32, NoMemory>
         requires { s < length self.old.streams }
         ensures appended { IfOk result (λ scans. HasAppendedOf s scans most words.old.items words.new.items self.old.streams self.new.streams) }
+        ensures lack { OnErr result (HasReleasedNothing self.old.streams self.new.streams) }
         ensures last { self.new.last ≡ self.old.last }
     {
         append_of(&mut self.streams, s as usize, words, most)

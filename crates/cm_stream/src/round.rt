@@ -1,6 +1,6 @@
 // Rounds over the streams of a merge.
-ghost use Rattle.std.specs.Prelude.{◌≡◌, ◌<◌, length, map, IfOk};
-ghost use Rattle.cm_stream.specs.Appended.{HasAppendedOf};
+ghost use Rattle.std.specs.Prelude.{◌≡◌, ◌<◌, length, map, IfOk, OnErr};
+ghost use Rattle.cm_stream.specs.Appended.{HasAppendedOf, HasReleasedNothing};
 ghost use Rattle.cm_stream.specs.Stream.{asked_stream};
 ghost use Rattle.cm_stream.specs.Merging.{source_after, HasTurned, HasGoneRound};
 
@@ -65,6 +65,7 @@ pub(crate) fn append_of<P: Planned>(
 ) -> Result<u32, NoMemory>
     requires { source < length streams.old }
     ensures appended { IfOk result (λ scans. HasAppendedOf source scans most words.old.items words.new.items streams.old streams.new) }
+    ensures lack { OnErr result (HasReleasedNothing streams.old streams.new) }
     ensures count { length streams.new ≡ length streams.old }
 {
     let stream = &mut streams[source];

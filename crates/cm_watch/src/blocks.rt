@@ -49,28 +49,7 @@ pub(crate) fn blocks_of<R: Threads + Sync>(
 {
     let count = job.lines.len() as u32;
     let ends = ends_of(alloc, &watched.merge, count)?;
-    let lines = text_up_to(rt, alloc, job, &watched.words, &ends, count)?;
-    Ok(lines.text)
-}
-
-// The text of a line, and of some lines.
-#[derive(Drop)]
-struct LineText {
-    block: Vec<u8>,
-}
-
-#[derive(Drop)]
-struct LinesText {
-    text: Blocks,
-}
-
-// The text of a line after that of the lines before it.
-fn with_line(before: LinesText, line: LineText) -> Result<LinesText, NoMemory>
-    ensures { IfOk result (λ longer. longer.text ≡ before.text ++ line.block.items) }
-{
-    let LinesText { mut text } = before;
-    text.push(line.block)?;
-    Ok(LinesText { text })
+    text_up_to(rt, alloc, job, &watched.words, &ends, count)
 }
 
 // The text of the first lines, each of which a thread of its own makes.
@@ -81,29 +60,27 @@ fn text_up_to<R: Threads + Sync>(
     words: &[Vec<u32>],
     ends: &[End],
     count: u32,
-) -> Result<LinesText, NoMemory>
+) -> Result<Blocks, NoMemory>
     requires count { count ≤ length job.now.lines }
     requires whole { AreWhole job.now words.now ends.now }
-    ensures { IfOk result (λ lines. lines.text ≡ run_text job.now.board job.now.signals (take count job.now.lines)) }
+    ensures { IfOk result (λ text. text ≡ run_text job.now.board job.now.signals (take count job.now.lines)) }
 {
     if count == 0 {
-        return Ok(LinesText {
-            text: Blocks::new(alloc),
-        });
+        return Ok(Blocks::new(alloc));
     }
     let last = count - 1;
     let (line, before) = join(
         rt,
-        move || -> Result<LineText, NoMemory>
+        move || -> Result<Vec<u8>, NoMemory>
             requires { (last < length job.now.lines) × AreWhole job.now words.now ends.now }
-            ensures { IfSome (slice_get job.entry.now.lines last) (λ line. IfOk result (λ made. made.block.items ≡ line_block job.entry.now.board job.entry.now.signals line)) }
+            ensures { IfSome (slice_get job.entry.now.lines last) (λ line. IfOk result (λ block. block.items ≡ line_block job.entry.now.board job.entry.now.signals line)) }
         { line_at(alloc, job, words, ends, last) },
-        move || -> Result<LinesText, NoMemory>
+        move || -> Result<Blocks, NoMemory>
             requires { IsSync R.row × (last ≤ length job.now.lines) × AreWhole job.now words.now ends.now }
-            ensures { IfOk result (λ lines. lines.text ≡ run_text job.entry.now.board job.entry.now.signals (take last job.entry.now.lines)) }
+            ensures { IfOk result (λ text. text ≡ run_text job.entry.now.board job.entry.now.signals (take last job.entry.now.lines)) }
         { text_up_to(rt, alloc, job, words, ends, last) },
     );
-    with_line(before?, line?)
+    before?.with(line?)
 }
 
 // The text of a line.
@@ -113,12 +90,11 @@ fn line_at(
     words: &[Vec<u32>],
     ends: &[End],
     index: u32,
-) -> Result<LineText, NoMemory>
+) -> Result<Vec<u8>, NoMemory>
     requires index { index < length job.now.lines }
     requires whole { AreWhole job.now words.now ends.now }
-    ensures { IfSome (slice_get job.now.lines index) (λ line. IfOk result (λ made. made.block.items ≡ line_block job.now.board job.now.signals line)) }
+    ensures { IfSome (slice_get job.now.lines index) (λ line. IfOk result (λ block. block.items ≡ line_block job.now.board job.now.signals line)) }
 {
     let at = index as usize;
-    let block = block_text(alloc, job, index, &words[at], &ends[at])?;
-    Ok(LineText { block })
+    block_text(alloc, job, index, &words[at], &ends[at])
 }

@@ -78,4 +78,4 @@ returns g c =
     let samples = c.requires.samples in
     let outputs = c.count_of.ensures ∙ ap count_of out in
     loop_out job c.in_ok-writer.out_reader.ring _ _ c.in_ok-streamed.streamed.end _ some_out (ap (λ (x : RingConstants). x.paced) ring) (ap (λ (x : RingConstants). x.rule) ring ∙ rule) (ap (λ (x : RingConstants). x.samples) ring ∙ words)
-    (c.take_of-take.ensures ∙ λ j. take_of (samples j) (outputs j)) c.in_ok-streamed.ensures
+    (c.reads_of-reads.ensures ∙ λ j. take_of (samples j) (outputs j)) c.in_ok-streamed.ensures

@@ -10,6 +10,6 @@ returns-in_default g t c = c.new.ensures ∙ lines_empty c.args.sub c.args.job.n
 pub returns : goal.returns
 returns g t c =
     let from : ℕ = length c.in-Some.before.now in
-    let part = subst (λ r. IfOk r (λ part. part.block.items ≡ lines_from c.args.sub c.args.job.now from c.in-Some.last.now)) c.in_ok-part.was c.join-part.ensures.first in
-    let text = subst (λ r. IfOk r (λ parts. parts.text ≡ lines_of c.args.sub c.args.job.now c.in-Some.before.now)) c.in_ok-text.was c.join-part.ensures.second in
-    IfOk-weaker c.with_part.result _ _ (λ longer is. lines_parts c.args.sub from c.args.job.now c.args.words.now c.in-Some.before.now c.in-Some.last.now c.in_ok-text.field-0.text c.in_ok-part.field-0.block.items longer.text c.in-Some.ensures refl text part is) c.with_part.ensures
+    let part = subst (λ r. IfOk r (λ part. part.items ≡ lines_from c.args.sub c.args.job.now from c.in-Some.last.now)) c.in_ok-part.was c.join-part.ensures.first in
+    let text = subst (λ r. IfOk r (λ text. text ≡ lines_of c.args.sub c.args.job.now c.in-Some.before.now)) c.in_ok-text.was c.join-part.ensures.second in
+    IfOk-weaker c.with.result _ _ (λ longer is. lines_parts c.args.sub from c.args.job.now c.args.words.now c.in-Some.before.now c.in-Some.last.now c.in_ok-text.field-0 c.in_ok-part.field-0.items longer c.in-Some.ensures refl text part is) c.with.ensures

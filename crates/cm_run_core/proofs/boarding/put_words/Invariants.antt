@@ -9,7 +9,7 @@ invariant-loop g l = record {
   plan : l.initial.writer.ring.samples ≡ g.W.Words.all l.words;
   at : l.writer.part.next ≡ g.W.Words.place l.words;
   published : l.writer.part.written + l.fresh ≡ l.writer.part.next;
-  few : l.fresh < 64;
+  few : l.fresh < 256;
   within : g.W.Words.place l.words ≤ length (g.W.Words.all l.words);
   some_cell : 0 < l.size;
 }

@@ -12,6 +12,6 @@ pub returns : goal.returns
 returns g t c =
     let board : BoardText = c.args.job.now.board in let signals : SignalsText = c.args.job.now.signals in let lines : List RunLine = c.args.job.now.lines in
     let last : ℕ = c.args.count - 1 in
-    let line = subst (λ r. IfSome (slice_get lines last) (λ line. IfOk r (λ made. made.block.items ≡ line_block board signals line))) c.in_ok-line.was c.join-line.ensures.first in
-    let before = subst (λ r. IfOk r (λ made. made.text ≡ run_text board signals (take last lines))) c.in_ok-before.was c.join-line.ensures.second in
-    IfOk-weaker c.with_line.result _ _ (λ longer is. text_longer board signals lines last c.args.count c.in_ok-before.field-0.text c.in_ok-line.field-0.block.items longer.text (omega (arith, c.requires.count, c.if-count-eq0.false)) (omega (arith, c.if-count-eq0.false)) line before is) c.with_line.ensures
+    let line = subst (λ r. IfSome (slice_get lines last) (λ line. IfOk r (λ block. block.items ≡ line_block board signals line))) c.in_ok-line.was c.join-line.ensures.first in
+    let before = subst (λ r. IfOk r (λ text. text ≡ run_text board signals (take last lines))) c.in_ok-before.was c.join-line.ensures.second in
+    IfOk-weaker c.with.result _ _ (λ longer is. text_longer board signals lines last c.args.count c.in_ok-before.field-0 c.in_ok-line.field-0.items longer (omega (arith, c.requires.count, c.if-count-eq0.false)) (omega (arith, c.if-count-eq0.false)) line before is) c.with.ensures
