@@ -3,7 +3,7 @@ use Rattle.std.proofs.Common.{ℕ, List, [], Option, Some, None, Result, Ok, Err
 use Rattle.std.specs.Io.KnownBytes.{Keeps}
 use Rattle.cm_base.proofs.UnderWay.{under_way-start, under_way-stopped}
 use Rattle.cm_base.specs.declared.faults.Refused.{Refused}
-use Rattle.cm_cli.specs.Answer.{refused_text}
+use Rattle.cm_replay.specs.Declined.{refused_text}
 use Rattle.cm_cli.specs.ThreadedSaid.{RunConcludes}
 use Rattle.cm_cli.specs.declared.jobs.ThreadJob.{ThreadJob}
 use Rattle.cm_cli.specs.declared.status.Status.TheVariants as status

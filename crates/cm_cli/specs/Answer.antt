@@ -1,10 +1,9 @@
 -- What comes of the words and the bytes of the input, and its text.
-use Rattle.std.specs.Prelude.{ℕ, nat_lt, List, ◌++◌, length, codes, Option, Some, None, Result, Ok, Err, String, if◌then◌else◌}
-use Rattle.std.specs.Fmt.{decimal}
+use Rattle.std.specs.Prelude.{ℕ, nat_lt, List, length, codes, Option, Some, None, Result, Ok, Err, String, if◌then◌else◌}
 use Rattle.std.specs.declared.alloc.Global.{Global}
-use Rattle.cm_base.specs.declared.faults.Fault.{Fault}
-use Rattle.cm_base.specs.declared.faults.Fault.TheVariants.{TooLong, BadLine, BadNumber, Unknown, Missing, Double, Limit, Bad}
+use Rattle.cm_base.specs.declared.faults.Fault.TheVariants.{TooLong}
 use Rattle.cm_base.specs.declared.faults.Refused.{Refused}
+use Rattle.cm_replay.specs.Declined.{refused_text}
 use Rattle.cm_cli.specs.Tasks.{task_of}
 use Rattle.cm_cli.specs.Said.{said}
 use Rattle.cm_cli.specs.declared.task.Task.{Task}
@@ -14,21 +13,6 @@ pub data Outcome : Type 0 where
   Answered : List ℕ → Outcome
   Declined : Refused → Outcome
   Misused : Outcome
-
--- the name of a fault in an answer
-abbrev pub fault_name : Fault → List ℕ
-fault_name TooLong = codes "TooLong"
-fault_name BadLine = codes "BadLine"
-fault_name BadNumber = codes "BadNumber"
-fault_name Unknown = codes "Unknown"
-fault_name Missing = codes "Missing"
-fault_name Double = codes "Double"
-fault_name Limit = codes "Limit"
-fault_name Bad = codes "Bad"
-
--- the answer to a job that is refused: the line and the cause
-abbrev pub refused_text : Refused → List ℕ
-refused_text r = codes "refused " ++ decimal r.line ++ codes " " ++ fault_name r.cause ++ codes "\n"
 
 -- the text that an outcome puts out
 abbrev pub text_of : Outcome → List ℕ

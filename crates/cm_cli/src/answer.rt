@@ -1,10 +1,9 @@
 // The top call.
 ghost use Rattle.std.specs.Prelude.{◌≡◌, ◌≢◌, ◌⊎◌, ◌≤◌, ◌++◌, None, IsSome, IfSome, IfOk, codes, length};
-ghost use Rattle.std.specs.Fmt.{decimal};
 ghost use Rattle.std.specs.Io.KnownBytes.{Appends, Keeps, IsAtEnd};
 ghost use Rattle.cm_base.specs.Causes.{Rose};
 ghost use Rattle.cm_base.specs.Transfer.{AppendsPrefix};
-ghost use Rattle.cm_cli.specs.Answer.{Declined, as_outcome, fault_name, outcome_of, outcome_of_bytes, refused_text};
+ghost use Rattle.cm_cli.specs.Answer.{Declined, as_outcome, outcome_of, outcome_of_bytes};
 ghost use Rattle.cm_cli.specs.Tasks.{task_of};
 ghost use Rattle.cm_cli.specs.Said.{said};
 ghost use Rattle.cm_cli.specs.Top.{Concludes};
@@ -14,9 +13,9 @@ use crate::status::Status;
 use crate::stop::Stop;
 use crate::task::{Task, task_of};
 use cm_base::faults::{Fault, Refused};
-use cm_base::numbers::put_u64;
 use cm_base::outside::{Sink, Source};
 use cm_base::transfer::{NoMemory, ReadError, WriteFault, read_all, write_all};
+use cm_replay::declining::refusal;
 use std::alloc::Global;
 
 /// The most bytes that are read.
@@ -121,32 +120,5 @@ pub(crate) fn conclude<K: Sink>(sink: &mut K, text: &[u8], status: Status) -> St
     match write_all(sink, text) {
         Ok(()) => status,
         Err(WriteFault) => Status::WriteFault,
-    }
-}
-
-// The text of a refusal.
-fn refusal(alloc: Global, refused: Refused) -> Result<Vec<u8>, NoMemory>
-    ensures { IfOk result (λ text. text.items ≡ refused_text refused) }
-{
-    let mut text = Vec::from_slice(alloc, b"refused ")?;
-    put_u64(&mut text, u64::from(refused.line))?;
-    text.extend_from_slice(b" ")?;
-    text.extend_from_slice(name_of(refused.cause))?;
-    text.extend_from_slice(b"\n")?;
-    Ok(text)
-}
-
-fn name_of(cause: Fault) -> &'static [u8]
-    ensures { result.now ≡ fault_name cause }
-{
-    match cause {
-        Fault::TooLong => b"TooLong",
-        Fault::BadLine => b"BadLine",
-        Fault::BadNumber => b"BadNumber",
-        Fault::Unknown => b"Unknown",
-        Fault::Missing => b"Missing",
-        Fault::Double => b"Double",
-        Fault::Limit => b"Limit",
-        Fault::Bad => b"Bad",
     }
 }

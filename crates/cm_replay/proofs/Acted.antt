@@ -34,7 +34,7 @@ either None h state reply same there = refl
 either (Some e) h state reply same there = λ i. record { answer = Refused e; state = record { files = sym same i; devices = sym there i } }
 
 -- a line on a subdevice that is reached
-act_on-seat : (op : Op) (h : Here) (state : State) → first_refusal (reach_checks h.file h.index h.files) ≡ None → h.files ≡ state.files → set state.devices h.index h.device ≡ state.devices →
+pub act_on-seat : (op : Op) (h : Here) (state : State) → first_refusal (reach_checks h.file h.index h.files) ≡ None → h.files ≡ state.files → set state.devices h.index h.device ≡ state.devices →
     act_on op h state ≡ with_reply h.index state (seat_reply op h)
 act_on-seat op h state reached same there =
     ap (λ e. unless_refused e state (with_reply h.index state (form op h).reply))

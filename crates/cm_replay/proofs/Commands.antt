@@ -91,6 +91,14 @@ codes-ring c command input i within =
     ∙ get_or-take c.ring.w (samples (its_schedule c)) (c.ring.r + i) 0 (omega arith)))
     (command.planned.codes input (c.ring.r + i) (omega (arith, step.within, command.planned.timely.within)))
 
+-- the samples that a read takes
+pub read-words : (c : Inside) → IsCommand c → is_out (its_schedule c) ≡ false → c.ring.ra ≡ c.ring.r → (n granted : ℕ) → granted ≡ min n (c.ring.m - c.ring.ra) →
+    take granted c.ring.held ≡ take (min n (c.ring.w - c.ring.r)) (drop c.ring.r (samples (its_schedule c)))
+read-words c command input unmapped n granted was =
+    let step = in_step c command input in
+    let same : granted ≡ min n (c.ring.w - c.ring.r) = omega (arith, was, step.level.m_w, unmapped) in
+    ap₂ take same step.held ∙ take-held (its_schedule c) c.ring.r c.ring.w (min n (c.ring.w - c.ring.r)) (omega (arith, step.r_ra, step.ra_w)) (omega arith)
+
 -- the text of a read's answer
 pub read-answer : (c : Inside) → IsCommand c → is_out (its_schedule c) ≡ false → c.ring.ra ≡ c.ring.r → (n granted : ℕ) → granted ≡ min n (c.ring.m - c.ring.ra) →
     codes "ok " ++ decimal granted ++ codes "\n" ++ sample_lines (its_schedule c).format c.ring.r (take granted c.ring.held) ≡ answer_text (taken n (running_of c))
@@ -109,7 +117,7 @@ read-answer c command input unmapped n granted was = ap₂ (λ count words. code
     words = take k (drop c.ring.r (samples (its_schedule c)))
 
     its_words : take granted c.ring.held ≡ words
-    its_words = ap₂ take same step.held ∙ take-held (its_schedule c) c.ring.r c.ring.w k (omega (arith, step.r_ra, step.ra_w)) (omega arith)
+    its_words = read-words c command input unmapped n granted was
 
     long_words : length words ≡ k
     long_words =

@@ -1,5 +1,6 @@
 pub mod Acted
 pub mod Ahead
+pub mod Awaited
 pub mod Bringing
 pub mod Called
 pub mod Checks
@@ -18,8 +19,10 @@ pub mod Forming
 pub mod Laws
 pub mod Mapped
 pub mod Pacing
+pub mod Peeks
 pub mod Plannable
 pub mod Plans
+pub mod Plays
 pub mod Prefixes
 pub mod Puttings
 pub mod Readiness
@@ -31,7 +34,9 @@ pub mod Shapes
 pub mod Sizes
 pub mod Storings
 pub mod Takings
+pub mod Tested
 pub mod Tied
+pub mod Told
 pub mod Trials
 pub mod Triggering
 pub mod Wholes

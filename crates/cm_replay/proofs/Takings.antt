@@ -18,7 +18,8 @@ one-more time count all c rest order some left early = (
 pub no-more : (time count : ℕ) (all : List Conv) → NeverFalls all → count ≤ come time all → come time (drop count all) ≡ 0 → come time all ≡ count
 no-more time count all order some none = omega (arith, come-drop time count all order some)
 
-take-more : (count : ℕ) (all : List Conv) (c : Conv) (rest : List Conv) → drop count all ≡ c ∷ rest → take (count + 1) all ≡ take count all ++ c ∷ []
+-- one more is taken
+pub take-more : (count : ℕ) (all : List Conv) (c : Conv) (rest : List Conv) → drop count all ≡ c ∷ rest → take (count + 1) all ≡ take count all ++ c ∷ []
 take-more zero [] c rest left = absurd (cc)
 take-more zero (x ∷ all) c rest left = let same : x ≡ c = cc in ap (λ (y : Conv). y ∷ []) same
 take-more (suc count) [] c rest left = absurd (cc)

@@ -1,8 +1,10 @@
 pub mod Answers
+pub mod Asking
 pub mod Calling
 pub mod ComingView
 pub mod CommandView
 pub mod Conversions
+pub mod Declined
 pub mod DelayedView
 pub mod DirectView
 pub mod Filling
@@ -11,6 +13,8 @@ pub mod Job
 pub mod JobView
 pub mod Law
 pub mod Planned
+pub mod Playing
+pub mod PlayingView
 pub mod Putting
 pub mod Reading
 pub mod Ready
@@ -23,6 +27,8 @@ pub mod Session
 pub mod SettingView
 pub mod State
 pub mod Storing
+pub mod Telling
+pub mod Testing
 pub mod Texts
 pub mod Timely
 pub mod ToCome

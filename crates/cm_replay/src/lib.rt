@@ -2,11 +2,14 @@
 #![tactic(auto)]
 
 pub mod acting;
+pub mod asked;
+pub mod asking;
 pub mod at;
 pub mod calling;
 pub mod closing;
 pub mod coming;
 pub mod command;
+pub mod declining;
 pub mod delayed;
 pub mod direct;
 pub mod ending;
@@ -16,14 +19,17 @@ pub mod job;
 pub mod law;
 pub mod locking;
 pub mod passing;
+pub mod playing;
 pub mod putting;
 pub mod reading;
 pub mod replay;
 pub mod seat;
 pub mod setting;
 pub mod storing;
+pub mod testing;
 #[cfg(test)]
 mod tests;
 pub mod text;
 pub mod trying;
+pub mod waiting;
 pub mod writing;

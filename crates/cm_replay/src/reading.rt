@@ -7,6 +7,8 @@ ghost use Rattle.cm_replay.specs.Forms.{form};
 ghost use Rattle.cm_replay.specs.Reading as spec;
 ghost use Rattle.cm_replay.specs.Ready.{CanMove};
 ghost use Rattle.cm_replay.specs.Replies.{IsReached, Replies, checked, here_at, spot_of};
+ghost use Rattle.cm_replay.specs.Telling.{Tells};
+ghost use Rattle.cm_replay.specs.declared.asked.Question.TheVariants.{Codes};
 ghost use Rattle.cm_session.specs.declared.op.Op.TheVariants as ops;
 ghost use Rattle.cm_sub.specs.Checks.{first_refusal, refuse};
 ghost use Rattle.cm_sub.specs.Claims.{is_other};
@@ -89,6 +91,31 @@ pub(crate) fn read(
         None => put_idle(text),
         Some(command) => match command.reported_end() {
             None => command.read(n, text),
+            Some(last) => report_end(at, last, files, seat, text),
+        },
+    }
+}
+
+/// The same in codes: the first samples, up to `n`, or the end where nothing is left.
+pub(crate) fn read_codes(
+    at: &At<'_>,
+    n: u32,
+    files: &mut Files,
+    seat: &mut Seat<'_>,
+    text: &mut Vec<u8>,
+) -> Result<(), NoMemory>
+    requires within { at.now.index < length files.old.claims }
+    requires ready { CanMove (spot_of at.now) at.now.index at.now.time seat.old.running }
+    ensures { OnOk result (Tells (Codes n) (here_at at.now files.old seat.old) (checked (form (ops.Read at.now.index n) (here_at at.now files.old seat.old)) (here_at at.now files.old seat.old)) files.new seat.new text.old.items text.new.items) }
+{
+    let count = mapped(seat);
+    if let Err(error) = refuses(at, files, count != 0) {
+        return put_refused(text, error);
+    }
+    match &mut seat.running {
+        None => put_idle(text),
+        Some(command) => match command.reported_end() {
+            None => command.read_codes(n, text),
             Some(last) => report_end(at, last, files, seat, text),
         },
     }

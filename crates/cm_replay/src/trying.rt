@@ -63,8 +63,12 @@ pub(crate) fn try_all(
     Ok(all)
 }
 
-// The command of a line, where its subdevice accepts it.
-fn try_line(alloc: Global, board: &BoardDesc, op: &Op) -> Result<Option<BoxedAccepted>, NoMemory>
+/// The command of a line, where its subdevice accepts it.
+pub fn try_line(
+    alloc: Global,
+    board: &BoardDesc,
+    op: &Op,
+) -> Result<Option<BoxedAccepted>, NoMemory>
     requires { HasLimits op.now }
     ensures { IfOk result (λ tried. tried ≡ tried_of board.now op.now) }
 {

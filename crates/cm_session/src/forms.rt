@@ -18,7 +18,7 @@ use std::alloc::Global;
 /// How a line starts: its number in the text, the horizon up to which times go, and the word of its
 /// time.
 #[derive(Clone, Copy)]
-pub(crate) struct Start<'a> {
+pub struct Start<'a> {
     pub number: u32,
     pub horizon: u64,
     pub time: &'a [u8],
@@ -26,7 +26,7 @@ pub(crate) struct Start<'a> {
 
 /// The time of a line in nanoseconds, and its file.
 #[derive(Clone, Copy)]
-pub(crate) struct Head {
+pub struct Head {
     pub time: u64,
     pub file: u32,
 }
@@ -55,7 +55,7 @@ fn read_head(start: &Start<'_>, file: &[u8]) -> Result<Head, Fault>
 }
 
 /// The time, the file and the subdevice.
-pub(crate) fn place(start: &Start<'_>, file: &[u8], sub: &[u8]) -> Result<(Head, u32), Fault>
+pub fn place(start: &Start<'_>, file: &[u8], sub: &[u8]) -> Result<(Head, u32), Fault>
     ensures value { result ≡ spec.place_of start.now.horizon start.now.time.now file.now sub.now }
     ensures within { IfOk result (λ place. place.0.time ≤ start.now.horizon) }
 {
@@ -74,7 +74,7 @@ pub(crate) fn file_words(start: &Start<'_>, words: &[&[u8]]) -> Result<Head, Fau
 }
 
 /// The file and the subdevice of `T KEY F SUB`.
-pub(crate) fn sub_words(start: &Start<'_>, words: &[&[u8]]) -> Result<(Head, u32), Fault>
+pub fn sub_words(start: &Start<'_>, words: &[&[u8]]) -> Result<(Head, u32), Fault>
     ensures value { result ≡ spec.sub_words start.now.horizon start.now.time.now (map (λ word. word.now) words.now) }
     ensures within { IfOk result (λ place. place.0.time ≤ start.now.horizon) }
 {
@@ -83,7 +83,7 @@ pub(crate) fn sub_words(start: &Start<'_>, words: &[&[u8]]) -> Result<(Head, u32
 }
 
 /// The file, the subdevice and the number of `T KEY F SUB N`, with a number up to a limit.
-pub(crate) fn number_words(
+pub fn number_words(
     start: &Start<'_>,
     words: &[&[u8]],
     most: u32,

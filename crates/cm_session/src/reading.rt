@@ -50,8 +50,9 @@ pub fn read_session(
     Ok(all)
 }
 
-// What a line asks, after a line of this time.
-fn read_line(
+/// Reads one line of a session, after a line of the time `before` and up to the horizon. It refuses a
+/// line as `read_session` does.
+pub fn read_line(
     alloc: Global,
     horizon: u64,
     before: u64,

@@ -1,0 +1,88 @@
+-- When what is awaited comes.
+use Rattle.std.proofs.Common.{◌≡◌, ℕ, zero, suc, ◌+◌, ◌-◌, ◌≤◌, List, [], ◌∷◌, ◌++◌, length, min, take, drop, Bool, false, Option, Some, None, refl, sym, ap, ap₂, ◌∙◌, inl, inr, arith, drop-drop, length-append, length-drop}
+use Rattle.std.specs.Prelude.{◌||◌, is_some, slice_get, option_map, if◌then◌else◌}
+use Rattle.std.proofs.lemmas.Bool.{cases_lt}
+use Rattle.std.proofs.lemmas.List.{take_all}
+use Rattle.cm_expand.specs.Taking.{come}
+use Rattle.cm_expand.specs.declared.conv.Conv.{Conv}
+use Rattle.cm_expand.proofs.Come.{come-first, come-later_first, come-le}
+use Rattle.cm_fifo.specs.Handed.{last_time, time_or}
+use Rattle.cm_replay.specs.Asking.{await_time, deciding, is_served, quiet_after, quiet_time}
+use Rattle.cm_replay.specs.Running.{Running}
+use Rattle.cm_replay.specs.ToCome.{ToCome, all_to_come}
+use Rattle.cm_replay.specs.declared.ending.End.{End}
+use Rattle.cm_replay.proofs.Ahead.{first-left}
+use Rattle.cm_replay.proofs.Takings.{take-more}
+
+-- where all have come by a time, all that are left have
+pub left-come : (time k : ℕ) (cs : List Conv) → come time cs ≡ length cs → come time (drop k cs) ≡ length (drop k cs)
+left-come time zero cs all = all
+left-come time (suc k) [] all = refl
+left-come time (suc k) (c ∷ cs) all = elim (cases_lt time c.time) [
+  | inl late ↦ absurd (omega (arith, all, come-later_first time c cs late, come-le time cs))
+  | inr early ↦ left-come time k cs (omega (arith, all, come-first time c cs early))
+]
+
+-- the last of conversions to which one was added
+added : (cs : List Conv) (c : Conv) → slice_get (cs ++ c ∷ []) (length cs) ≡ Some c
+added [] c = refl
+added (x ∷ cs) c = added cs c
+
+last-more : (cs : List Conv) (c : Conv) → last_time (cs ++ c ∷ []) ≡ c.time
+last-more cs c =
+    let place : length (cs ++ c ∷ []) - 1 ≡ length cs = omega (arith, length-append cs (c ∷ [])) in
+    ap (λ i. time_or 0 (slice_get (cs ++ c ∷ []) i)) place ∙ ap (time_or 0) (added cs c)
+
+-- one more has been passed
+pub passed-more : (all : List Conv) (passed : ℕ) (c : Conv) (rest : List Conv) → drop passed all ≡ c ∷ rest → (rest ≡ drop (passed + 1) all) × (c.time ≡ last_time (take (passed + 1) all))
+passed-more all passed c rest left = (
+  sym (ap (drop 1) left) ∙ drop-drop 1 passed all,
+  sym (ap last_time (take-more passed all c rest left) ∙ last-more (take passed all) c),
+)
+
+-- none is left where none comes
+pub passed-all : (time : ℕ) (all : List Conv) (passed count : ℕ) → come time all ≡ length all → passed ≤ count → come time (drop passed all) ≡ 0 → (drop passed all ≡ drop count all) × (take passed all ≡ take count all)
+passed-all time all passed count by few none =
+    let long : length all ≤ passed = omega (arith, left-come time passed all by, length-drop passed all) in (
+      gone passed all long ∙ sym (gone count all (omega arith)),
+      take_all passed all long ∙ sym (take_all count all (omega arith)),
+    )
+  where
+    gone : (k : ℕ) (cs : List Conv) → length cs ≤ k → drop k cs ≡ []
+    gone zero [] long = refl
+    gone zero (c ∷ cs) long = absurd (omega arith)
+    gone (suc k) [] long = refl
+    gone (suc k) (c ∷ cs) long = gone k cs (omega arith)
+
+-- the time at a place is that of the first that is left after it
+pub time-there : (other place t : ℕ) (all : List Conv) → option_map (λ (c : Conv). c.time) (slice_get (drop place all) 0) ≡ Some t → time_or other (slice_get all place) ≡ t
+time-there other place t all next = by_first (slice_get all place) (ap (option_map (λ (c : Conv). c.time)) (first-left all place) ∙ next)
+  where
+    by_first : (o : Option Conv) → option_map (λ (c : Conv). c.time) o ≡ Some t → time_or other o ≡ t
+    by_first None is = absurd (cc)
+    by_first (Some c) is = cc
+
+-- nothing is at a place after which nothing is left, and all come before it
+pub time-gone : (other place : ℕ) (all : List Conv) → drop place all ≡ [] → (time_or other (slice_get all place) ≡ other) × (take place all ≡ all)
+time-gone other place all none = (
+  ap (time_or other) (first-left all place ∙ ap (λ (cs : List Conv). slice_get cs 0) none),
+  take_all place all (omega (arith, ap (length {A = Conv}) none, length-drop place all)),
+)
+
+-- how a command ends where nothing is to come has nothing to do with what came
+pub quiet-same : (t : ToCome) (cs : List Conv) (last horizon : ℕ) → quiet_after (record t { conversions = cs }) last horizon ≡ quiet_after t last horizon
+quiet-same t cs last horizon = by_parts t.conversions t.complete t.edge t.lost_at
+  where
+    by_parts : (old : List Conv) (complete : Bool) (edge lost : Option ℕ) → quiet_after (record { conversions = cs; complete = complete; edge = edge; lost_at = lost }) last horizon ≡ quiet_after (record { conversions = old; complete = complete; edge = edge; lost_at = lost }) last horizon
+    by_parts old complete edge None = refl
+    by_parts old complete edge (Some at) = refl
+
+-- the time of an await where what is awaited isn't there
+pub await-later : (n from : ℕ) (c : Running) (t : ToCome) (place time : ℕ) → is_served n c ≡ false → c.end ≡ None → t ≡ all_to_come c.schedule → place ≡ deciding n c →
+    time ≡ min c.schedule.horizon (time_or (quiet_after t (last_time t.conversions) c.schedule.horizon) (slice_get t.conversions place)) → time ≡ await_time n from (Some c)
+await-later n from c t place time few none its there is =
+    let s = c.schedule in
+    let later : ℕ = min s.horizon (time_or (quiet_time s) (slice_get s.arrivals (deciding n c))) in
+    is
+    ∙ ap₂ (λ (x : ToCome) p. min s.horizon (time_or (quiet_after x (last_time x.conversions) s.horizon) (slice_get x.conversions p))) its there
+    ∙ sym (ap₂ (λ b (e : Option End). if b || is_some e then from else later) few none)

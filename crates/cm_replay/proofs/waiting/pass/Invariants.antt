@@ -1,0 +1,14 @@
+use Rattle.std.proofs.Common.{◌≡◌, ◌-◌, ◌≤◌, take, drop}
+use Rattle.cm_fifo.specs.Handed.{last_time}
+use Rattle.cm_replay.proofs.waiting.pass.Given as goal
+
+-- the first conversions were passed
+abbrev pub invariant-loop-passed : goal.invariant-loop-passed
+invariant-loop-passed l = record {
+  few : l.passed ≤ l.count;
+  last : l.last ≡ last_time (take l.passed l.initial.coming.conversions);
+  left : l.coming ≡ record l.initial.coming { conversions = drop l.passed l.initial.coming.conversions };
+}
+
+abbrev pub decreases-loop-passed : goal.decreases-loop-passed
+decreases-loop-passed l = l.count - l.passed

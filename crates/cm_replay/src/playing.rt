@@ -1,0 +1,144 @@
+// A session whose lines come one after another.
+ghost use Rattle.std.specs.Prelude.{◌≡◌, ◌≤◌, ◌++◌, IfOk};
+ghost use Rattle.cm_session.specs.Limits.{IsLimited};
+ghost use Rattle.cm_signal.specs.Fitting.{FitBoard};
+ghost use Rattle.cm_replay.specs.Asking.{asked_text, line_of};
+ghost use Rattle.cm_replay.specs.Playing.{first_play, line_text, played};
+ghost use Rattle.cm_replay.specs.Replies.{tried_of};
+
+use crate::acting::step;
+use crate::asked::Asked;
+use crate::asking::ask;
+use crate::replay::seats_of;
+use crate::seat::Seat;
+use crate::setting::Setting;
+use crate::trying::BoxedAccepted;
+use cm_base::transfer::NoMemory;
+use cm_board::board::BoardDesc;
+use cm_session::op::SessionLine;
+use cm_signal::signals::Signals;
+use cm_sub::files::Files;
+use std::alloc::Global;
+use std::marker::Model;
+
+/// A session under way, whose lines come one after another.
+#[derive(Drop)]
+pub struct Playing<'a> {
+    setting: Setting<'a>,
+    files: Files,
+    seats: Vec<Seat<'a>>,
+    latest: u64,
+}
+
+impl<'a> Model for Playing<'a> {
+    ghost use Rattle.cm_replay.specs.Playing.{Play};
+
+    ghost Value = { Play };
+
+    ghost use Rattle.cm_replay.specs.PlayingView.{IsPlay, play_of};
+
+    ghost view = { play_of };
+
+    ghost invariant = { λ p. IsPlay (play_of p) };
+}
+
+impl<'a> Playing<'a> {
+    /// A session over a board before its first line.
+    pub fn new(
+        alloc: Global,
+        board: &'a BoardDesc,
+        signals: &'a Signals,
+    ) -> Result<Playing<'a>, NoMemory>
+        requires { FitBoard board.now.subs signals.now }
+        ensures { IfOk result (λ p. p ≡ first_play (record { board = board.now; signals = signals.now })) }
+    {
+        // These reads show that a board has few subdevices, and that the signals are sound.
+        let _version = board.version;
+        let _horizon = signals.horizon;
+        let seats = seats_of(alloc, board)?;
+        Ok(Playing {
+            setting: Setting { board, signals },
+            files: Files::new(board.subs.len() as u32),
+            seats,
+            latest: 0,
+        })
+    }
+
+    /// The time of the last line, and 0 before the first.
+    pub fn latest(&self) -> u64
+        ensures { result ≡ self.now.latest }
+    {
+        self.latest
+    }
+
+    /// The board.
+    pub fn board(&self) -> &'a BoardDesc
+        ensures { result.now ≡ self.now.setting.board }
+    {
+        self.setting.board
+    }
+
+    /// The signals over the board.
+    pub fn signals(&self) -> &'a Signals
+        ensures { result.now ≡ self.now.setting.signals }
+    {
+        self.setting.signals
+    }
+
+    /// Answers a line. `tried` is its command where its subdevice accepts it (`try_line` gives it),
+    /// which has to live as long as the session. Where memory runs out the session is over.
+    pub fn answer(
+        self,
+        alloc: Global,
+        line: &SessionLine,
+        tried: &'a Option<BoxedAccepted>,
+        text: &mut Vec<u8>,
+    ) -> Result<Playing<'a>, NoMemory>
+        requires order { self.latest ≤ line.now.time }
+        requires limits { IsLimited self.setting.signals.horizon line.now }
+        requires trial { tried.now ≡ tried_of self.setting.board line.now.op }
+        ensures after { IfOk result (λ p. p ≡ played self.entry line.now) }
+        ensures text { IfOk result (λ _. text.new.items ≡ text.old.items ++ line_text self.entry line.now) }
+    {
+        let Playing {
+            setting,
+            mut files,
+            mut seats,
+            latest: _,
+        } = self;
+        step(alloc, &setting, line, tried, &mut files, &mut seats, text)?;
+        Ok(Playing {
+            setting,
+            files,
+            seats,
+            latest: line.time,
+        })
+    }
+
+    /// Answers a question. Where memory runs out the session is over.
+    pub fn ask(
+        self,
+        alloc: Global,
+        asked: &Asked,
+        text: &mut Vec<u8>,
+    ) -> Result<Playing<'a>, NoMemory>
+        requires order { self.latest ≤ asked.now.time }
+        requires limits { IsLimited self.setting.signals.horizon (line_of asked.now) }
+        ensures after { IfOk result (λ p. p ≡ played self.entry (line_of asked.now)) }
+        ensures text { IfOk result (λ _. text.new.items ≡ text.old.items ++ asked_text self.entry.setting asked.now self.entry.state) }
+    {
+        let Playing {
+            setting,
+            mut files,
+            mut seats,
+            latest: _,
+        } = self;
+        ask(alloc, &setting, asked, &mut files, &mut seats, text)?;
+        Ok(Playing {
+            setting,
+            files,
+            seats,
+            latest: asked.time,
+        })
+    }
+}
