@@ -1,0 +1,9 @@
+pub mod Answering
+pub mod Heads
+pub mod Hearing
+pub mod Readings
+pub mod Saying
+pub mod Talking
+pub mod Servings
+pub mod Untimed
+pub mod Replays

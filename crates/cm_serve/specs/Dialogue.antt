@@ -1,0 +1,53 @@
+-- What is answered to the lines of a dialogue.
+use Rattle.std.specs.Prelude.{ℕ, ◌+◌, min, List, [], ◌∷◌, ◌++◌, codes, Result, Ok, Err}
+use Rattle.cm_base.specs.Lines.{LineText, lines_of}
+use Rattle.cm_base.specs.Reading.{at_line}
+use Rattle.cm_base.specs.declared.faults.Refused.{Refused}
+use Rattle.cm_board.specs.Printed.{printed_board}
+use Rattle.cm_replay.specs.Asking.{asked_text, line_of}
+use Rattle.cm_replay.specs.Declined.{refused_text}
+use Rattle.cm_replay.specs.Playing.{Play, line_text}
+use Rattle.cm_replay.specs.Playing as playing
+use Rattle.cm_replay.specs.Testing.{test_answer}
+use Rattle.cm_serve.specs.Lines.{said_by}
+use Rattle.cm_serve.specs.Turns.{Turn, Line, Answer}
+use Rattle.cm_serve.specs.declared.said.Said.{Said}
+use Rattle.cm_serve.specs.declared.said.Said.TheVariants as says
+
+-- an answer, and how the session stands after it
+pub record Reply : Type 0 where
+  pub text : List ℕ
+  pub play : Play
+
+-- nothing changes
+abbrev pub unchanged : Play → List ℕ → Reply
+unchanged p text = record { text = text; play = p }
+
+-- the answer to what a line says: a question has the effect of its line
+abbrev pub replied : Play → Said → Reply
+replied p (says.Session line) = record { text = line_text p line; play = playing.played p line }
+replied p (says.Question asked) = record { text = asked_text p.setting asked p.state; play = playing.played p (line_of asked) }
+replied p (says.Test cmd) = unchanged p (test_answer p.setting.board cmd)
+replied p says.Describe = unchanged p (printed_board p.setting.board ++ codes "ok\n")
+
+-- a line that is refused changes nothing
+abbrev pub replied_if : Play → Result Said Refused → Reply
+replied_if p (Ok said) = replied p said
+replied_if p (Err refused) = unchanged p (refused_text refused)
+
+-- the answer to a line with this number: nothing to an empty line or a comment
+abbrev pub reply_of : Play → ℕ → List LineText → Reply
+reply_of p number [] = unchanged p []
+reply_of p number (line ∷ rest) = replied_if p (at_line number (said_by p.setting.signals.horizon p.latest line))
+
+abbrev pub reply : Play → ℕ → List ℕ → Reply
+reply p number bytes = reply_of p number (lines_of bytes)
+
+-- the number of the next line; all lines after the last number that there is have that one
+abbrev pub next_number : ℕ → ℕ
+next_number n = min (n + 1) 4294967295
+
+-- each line is answered before the next one is heard; the first has this number
+abbrev pub dialogue : Play → ℕ → List (List ℕ) → List Turn
+dialogue p number [] = []
+dialogue p number (bytes ∷ lines) = Line bytes ∷ Answer (reply p number bytes).text ∷ dialogue (reply p number bytes).play (next_number number) lines

@@ -1,0 +1,11 @@
+pub mod Conversing
+pub mod Dialogue
+pub mod Heading
+pub mod Law
+pub mod Lines
+pub mod Reading
+pub mod Served
+pub mod Script
+pub mod Serving
+pub mod Stops
+pub mod Turns

@@ -1,0 +1,71 @@
+-- What a line of a dialogue says.
+use Rattle.std.specs.Prelude.{ℕ, false, nat_le, List, [], ◌∷◌, drop, codes, Option, Some, None, Result, Ok, Err, if◌then◌else◌}
+use Rattle.cm_base.specs.Lines.{LineText}
+use Rattle.cm_base.specs.Parts.{begins}
+use Rattle.cm_base.specs.Reading.{◌>>=◌}
+use Rattle.cm_base.specs.Words.{Form, four_words, listed, no_words, number_in}
+use Rattle.cm_base.specs.declared.faults.Fault.{Fault}
+use Rattle.cm_base.specs.declared.faults.Fault.TheVariants.{Bad, BadLine}
+use Rattle.cm_cmd.specs.CommandText.{command_of}
+use Rattle.cm_session.specs.Forms.{number_words, place_of, sub_words}
+use Rattle.cm_session.specs.SessionPart.{line_after}
+use Rattle.cm_session.specs.declared.forms.Head.{Head}
+use Rattle.cm_replay.specs.declared.asked.Asked.{Asked}
+use Rattle.cm_replay.specs.declared.asked.Question.{Question}
+use Rattle.cm_replay.specs.declared.asked.Question.TheVariants.{Await, Info, Codes, Peek}
+use Rattle.cm_serve.specs.declared.said.Said.{Said}
+use Rattle.cm_serve.specs.declared.said.Said.TheVariants as says
+
+-- a question about a subdevice, by the horizon, the word of its time, and the words after its key
+abbrev pub QuestionForm : Type 0
+QuestionForm = ℕ → List ℕ → Form Asked
+
+-- what is asked at a time by a file about a subdevice
+abbrev pub asked_by : Head → ℕ → Question → Asked
+asked_by head sub question = record { time = head.time; file = head.file; sub = sub; question = question }
+
+-- `T KEY F SUB`
+abbrev pub plain : Question → QuestionForm
+plain question horizon time words = sub_words horizon time words >>= λ w. Ok (asked_by w.0 w.1 question)
+
+-- `T KEY F SUB N`, with up to 65,536 samples
+abbrev pub counted : (ℕ → Question) → QuestionForm
+counted make horizon time words = number_words 65536 horizon time words >>= λ w. Ok (asked_by w.0 w.1 (make w.2))
+
+-- `T KEY F SUB I N`, with up to 65,536 samples from one of the first 65,536 on
+abbrev pub ranged_words : ℕ → List ℕ → Form (Head × ℕ × ℕ × ℕ)
+ranged_words horizon time words =
+    four_words words >>= λ w. place_of horizon time w.0 w.1 >>= λ at. number_in 0 65536 w.2 >>= λ from. number_in 0 65536 w.3 >>= λ n. Ok (at.0, at.1, from, n)
+
+abbrev pub ranged : (ℕ → ℕ → Question) → QuestionForm
+ranged make horizon time words = ranged_words horizon time words >>= λ w. Ok (asked_by w.0 w.1 (make w.2 w.3))
+
+-- the questions by their keys
+abbrev pub questions : List (List ℕ × QuestionForm)
+questions = (codes "await", counted Await) ∷ (codes "info", plain Info) ∷ (codes "codes", counted Codes) ∷ (codes "peek", ranged Peek) ∷ []
+
+-- a question after a line of this time, which it may not be below
+abbrev pub asked_after : ℕ → Asked → Result Said Fault
+asked_after before asked = if nat_le before asked.time then Ok (says.Question asked) else Err Bad
+
+-- a line of the session
+abbrev pub next_line : ℕ → ℕ → LineText → Result Said Fault
+next_line horizon before line = line_after false horizon before line >>= λ next. Ok (says.Session next)
+
+-- a line with a time and a key: a question, or a line of a session
+abbrev pub timed : ℕ → ℕ → LineText → List ℕ → List (List ℕ) → Option QuestionForm → Result Said Fault
+timed horizon before line time words None = next_line horizon before line
+timed horizon before line time words (Some form) = form horizon time words >>= λ asked. asked_after before asked
+
+-- what the words of a line with a time say
+abbrev pub worded : ℕ → ℕ → LineText → List (List ℕ) → Result Said Fault
+worded horizon before line (time ∷ key ∷ words) = timed horizon before line time words (listed questions key)
+worded horizon before line words = Err BadLine
+
+-- what a line says, after one of this time and up to the horizon
+abbrev pub said_by : ℕ → ℕ → LineText → Result Said Fault
+said_by horizon before line =
+    if line.bad then Err BadLine
+    else if begins (codes "describe") line then (no_words (drop 1 line.words) >>= λ none. Ok says.Describe)
+    else if begins (codes "test") line then (command_of (drop 1 line.words) >>= λ cmd. Ok (says.Test cmd))
+    else worded horizon before line line.words

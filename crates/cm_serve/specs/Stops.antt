@@ -1,0 +1,33 @@
+-- Why a dialogue is cut short, and why it ends.
+use Rattle.cm_base.specs.declared.faults.Fault.TheVariants.{TooLong}
+use Rattle.cm_base.specs.declared.faults.ReadStop.{ReadStop}
+use Rattle.cm_base.specs.declared.faults.ReadStop.TheVariants as reads
+use Rattle.cm_base.specs.declared.faults.Refused.{Refused}
+use Rattle.cm_serve.specs.declared.client.HearStop.{HearStop}
+use Rattle.cm_serve.specs.declared.client.HearStop.TheVariants as hears
+use Rattle.cm_serve.specs.declared.stop.ServeStop.{ServeStop}
+use Rattle.cm_serve.specs.declared.stop.ServeStop.TheVariants as serves
+use Rattle.cm_serve.specs.declared.stop.TalkStop.{TalkStop}
+use Rattle.cm_serve.specs.declared.stop.TalkStop.TheVariants as stops
+
+-- where no line is heard
+abbrev pub heard_stop : HearStop → TalkStop
+heard_stop hears.NoMemory = stops.NoMemory
+heard_stop hears.ReadFault = stops.ReadFault
+heard_stop hears.TooLong = stops.TooLong
+
+-- what is told where a line is too long
+abbrev pub too_long : Refused
+too_long = record { line = 0; cause = TooLong }
+
+-- where a dialogue is cut short
+abbrev pub talk_stop : TalkStop → ServeStop
+talk_stop stops.NoMemory = serves.NoMemory
+talk_stop stops.ReadFault = serves.ReadFault
+talk_stop stops.WriteFault = serves.WriteFault
+talk_stop stops.TooLong = serves.Refused too_long
+
+-- where the board or the signals are not read
+abbrev pub read_stop : ReadStop → ServeStop
+read_stop reads.NoMemory = serves.NoMemory
+read_stop (reads.Refused refused) = serves.Refused refused

@@ -1,0 +1,17 @@
+// A session that is held as a dialogue: each line is answered before the next one is read.
+#![tactic(auto)]
+
+pub mod client;
+pub mod conversing;
+pub mod heading;
+pub mod kept;
+pub mod law;
+pub mod reading;
+pub mod replying;
+pub mod said;
+pub mod script;
+pub mod serving;
+pub mod standard;
+pub mod stop;
+#[cfg(test)]
+mod tests;
