@@ -1,0 +1,237 @@
+/*
+ * The buffer as clients see it that map it: the memory, and the counts of BUFINFO. All samples that the session's
+ * buffer holds are mapped in the session too, and put into the memory, each at its number modulo the buffer's size.
+ */
+#define _GNU_SOURCE
+#include "device.h"
+#include "kernel.h"
+#include "server.h"
+#include <errno.h>
+#include <fcntl.h>
+#include <stdio.h>
+#include <string.h>
+#include <sys/mman.h>
+#include <sys/syscall.h>
+#include <unistd.h>
+
+static size_t memory_bytes(const struct subdevice *s)
+{
+	size_t page = sysconf(_SC_PAGESIZE);
+	return ((size_t)s->buffer * s->sample_bytes + page - 1) / page * page;
+}
+
+static uint32_t memory_get(const struct subdevice *s, uint64_t place)
+{
+	place %= s->buffer;
+	return s->sample_bytes == sizeof(lsampl_t) ? ((lsampl_t *)s->memory)[place] : ((sampl_t *)s->memory)[place];
+}
+
+static void memory_put(struct subdevice *s, uint64_t place, uint32_t code)
+{
+	place %= s->buffer;
+	if (s->sample_bytes == sizeof(lsampl_t))
+		((lsampl_t *)s->memory)[place] = code;
+	else
+		((sampl_t *)s->memory)[place] = code;
+}
+
+/* The counts of a command: how many samples were read, and how many written. */
+static int ask_counts(int file, int number, uint64_t counts[2])
+{
+	int result = question_contents(file, number, "info", "");
+	if (result)
+		return kernel_result(CALL_BUFFER, result);
+	if (answer_numbers(counts, 2) != 2)
+		return -EIO;
+	return answer_says(" idle") ? -EINVAL : 0;
+}
+
+/* Fills the memory with the samples between the counts that aren't there yet. */
+static int fill_memory(int file, int number, const uint64_t counts[2])
+{
+	struct subdevice *s = &device->subdevice[number];
+	uint64_t numbers[1 + SAMPLES_OF_A_LINE];
+	if (!s->is_mapped || !board_is_input(s))
+		return 0;
+	if (s->filled < counts[0])
+		s->filled = counts[0];
+	if (s->filled == counts[1])
+		return 0;
+	int result = line_of_session("map %d %d %llu", file, number, (unsigned long long)(counts[1] - s->filled));
+	while (!result && s->filled < counts[1]) {
+		result = question_peek(file, number, s->filled - counts[0], SAMPLES_OF_A_LINE);
+		if (result)
+			break;
+		int count = answer_numbers(numbers, 1 + SAMPLES_OF_A_LINE) - 1;
+		if (count <= 0)
+			return -EIO;
+		for (int i = 0; i < count; i++)
+			memory_put(s, s->filled++, numbers[1 + i]);
+	}
+	return result;
+}
+
+/* Takes up to `most` samples of a buffer that a client has mapped: they are in the memory, and in the session they
+ * are mapped. Answers how many, or an error number. */
+int buffer_take(int file, int number, unsigned most, uint32_t *codes)
+{
+	const struct subdevice *s = &device->subdevice[number];
+	uint64_t counts[2];
+	int result = ask_counts(file, number, counts);
+	if (!result)
+		result = fill_memory(file, number, counts);
+	if (result)
+		return result;
+	unsigned count = counts[1] - counts[0] < most ? counts[1] - counts[0] : most;
+	for (unsigned i = 0; i < count; i++)
+		codes[i] = memory_get(s, counts[0] + i);
+	if (count)
+		result = line_of_session("release %d %d %u", file, number, count);
+	return result ? kernel_result(CALL_READ, result) : (int)count;
+}
+
+/* Makes the memory of all buffers, one behind the other in one file. */
+int buffer_make_memory(void)
+{
+	size_t whole = 0;
+	for (unsigned i = 0; i < device->subdevices; i++) {
+		device->subdevice[i].memory_offset = whole;
+		whole += memory_bytes(&device->subdevice[i]);
+	}
+	int made = memfd_create("comedi-buffers", MFD_CLOEXEC);
+	int descriptor = made < 0 ? -1 : fcntl(made, F_DUPFD_CLOEXEC, FIRST_DESCRIPTOR);
+	if (made >= 0)
+		syscall(SYS_close, made);
+	if (descriptor < 0 || ftruncate(descriptor, whole))
+		return -ENOMEM;
+	device->memory_descriptor = descriptor;
+	if (!whole)
+		return 0;
+	char *memory = mmap(NULL, whole, PROT_READ | PROT_WRITE, MAP_SHARED, descriptor, 0);
+	if (memory == MAP_FAILED)
+		return -ENOMEM;
+	for (unsigned i = 0; i < device->subdevices; i++)
+		device->subdevice[i].memory = memory + device->subdevice[i].memory_offset;
+	return 0;
+}
+
+int buffer_owns(int descriptor)
+{
+	return device && descriptor > 0 && descriptor == device->memory_descriptor;
+}
+
+/* A client is about to map the buffer: from now on it is kept filled. */
+int buffer_map(int file, int number)
+{
+	struct subdevice *s = &device->subdevice[number];
+	uint64_t counts[2];
+	s->is_mapped = 1;
+	int result = ask_counts(file, number, counts);
+	/* without a command of this file there is nothing to fill it with */
+	return result ? (result == -EINVAL ? 0 : result) : fill_memory(file, number, counts);
+}
+
+/* Gives up to so many samples back: the session reads them. Answers how many. */
+static int release_samples(int file, int number, uint64_t asked)
+{
+	uint32_t codes[SAMPLES_OF_A_LINE];
+	uint64_t done = 0;
+	while (done < asked) {
+		unsigned most = asked - done < SAMPLES_OF_A_LINE ? asked - done : SAMPLES_OF_A_LINE;
+		int count = take_samples(file, number, most, codes);
+		if (count < 0)
+			return done || count == -EAGAIN ? (int)done : count;
+		done += count;
+		if ((unsigned)count < most)
+			break;
+	}
+	return done;
+}
+
+/* Marks up to so many words of the memory as written, from the count of written ones on. Answers how many. */
+static int mark_words(int file, int number, uint64_t written, uint64_t asked)
+{
+	const struct subdevice *s = &device->subdevice[number];
+	uint32_t values[VALUES_OF_A_LINE];
+	uint64_t done = 0;
+	while (done < asked) {
+		unsigned most = asked - done < VALUES_OF_A_LINE ? asked - done : VALUES_OF_A_LINE;
+		for (unsigned i = 0; i < most; i++)
+			values[i] = memory_get(s, written + done + i);
+		int count = put_values(file, number, most, values);
+		if (count < 0)
+			return done || count == -EAGAIN ? (int)done : count;
+		done += count;
+		if ((unsigned)count < most)
+			break;
+	}
+	return done;
+}
+
+static void put_counts(const struct subdevice *s, const uint64_t counts[2], comedi_bufinfo *info)
+{
+	info->buf_read_count = counts[0] * s->sample_bytes;
+	info->buf_write_count = counts[1] * s->sample_bytes;
+	info->buf_read_ptr = counts[0] % s->buffer * s->sample_bytes;
+	info->buf_write_ptr = counts[1] % s->buffer * s->sample_bytes;
+}
+
+/* An input: samples are given back, and where nothing is left of a command that ended, its end is told. A command
+ * that ended in error tells it to the call after the one that gave its last samples back. */
+static int input_info(int file, int number, comedi_bufinfo *info, uint64_t counts[2])
+{
+	struct subdevice *s = &device->subdevice[number];
+	int released = 0;
+	if (info->bytes_read && counts[1] > counts[0]) {
+		released = release_samples(file, number, info->bytes_read / s->sample_bytes);
+		int result = released < 0 ? released : ask_counts(file, number, counts);
+		if (result)
+			return result;
+	}
+	int failed = answer_says("overrun") || answer_says("fifo");
+	int ended = failed || answer_says(" done") || answer_says(" dry");
+	info->bytes_read = released * s->sample_bytes;
+	info->bytes_written = 0;
+	put_counts(s, counts, info);
+	if (ended && !(failed && released)) {
+		uint32_t none;
+		int result = take_samples(file, number, 0, &none);
+		return result == END_TOLD ? 0 : result;
+	}
+	return fill_memory(file, number, counts);
+}
+
+/* An output: words are marked, or the end is told. */
+static int output_info(int file, int number, comedi_bufinfo *info, uint64_t counts[2])
+{
+	struct subdevice *s = &device->subdevice[number];
+	uint32_t last = 0;
+	info->bytes_read = 0;
+	put_counts(s, counts, info);
+	if (!answer_says(" runs")) {
+		info->bytes_written = 0;
+		int result = put_values(file, number, 1, &last);
+		return result == END_TOLD ? 0 : result;
+	}
+	int marked = mark_words(file, number, counts[1], info->bytes_written / s->sample_bytes);
+	if (marked < 0)
+		return marked;
+	info->bytes_written = marked * s->sample_bytes;
+	counts[1] += marked;
+	put_counts(s, counts, info);
+	return 0;
+}
+
+int buffer_info(int file, comedi_bufinfo *info)
+{
+	uint64_t counts[2];
+	if (info->subdevice >= device->subdevices)
+		return -EINVAL;
+	int number = info->subdevice;
+	int result = ask_counts(file, number, counts);
+	if (result)
+		return result;
+	if (board_is_input(&device->subdevice[number]))
+		return input_info(file, number, info, counts);
+	return output_info(file, number, info, counts);
+}

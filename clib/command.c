@@ -1,0 +1,185 @@
+/*
+ * Commands: a comedi_cmd as the text of a command, and back.
+ */
+#define _GNU_SOURCE
+#include "device.h"
+#include "kernel.h"
+#include "server.h"
+#include <errno.h>
+#include <stdio.h>
+#include <stdlib.h>
+#include <string.h>
+
+#define SOURCES 9
+#define TRIGGERS 5
+
+static const char *const source_names[SOURCES] = { "none", "now", "follow", "time", "timer", "count", "ext", "int", "other" };
+static const char *const reference_names[] = { "ground", "common", "diff", "other" };
+
+struct trigger {
+	unsigned sources, argument;
+};
+
+/* room for the longest command: 256 entries */
+static char text[1 << 13];
+static unsigned list[MOST_ENTRIES];
+
+static struct trigger *triggers_of(comedi_cmd *command)
+{
+	_Static_assert(offsetof(comedi_cmd, stop_arg) == offsetof(comedi_cmd, start_src) + 9 * sizeof(unsigned), "five triggers in a row");
+	return (struct trigger *)&command->start_src;
+}
+
+/* Sources without a name of their own are told as `other`, which no board has either. */
+static int put_trigger(char *at, struct trigger trigger)
+{
+	int length = 0;
+	if (trigger.sources >> SOURCES)
+		trigger.sources |= TRIG_OTHER;
+	for (int i = 0; i < SOURCES; i++)
+		if (trigger.sources >> i & 1)
+			length += sprintf(at + length, "%s%s", length ? "|" : "", source_names[i]);
+	if (!length)
+		length = sprintf(at, "invalid");
+	return length + sprintf(at + length, ":%u ", trigger.argument);
+}
+
+/* The command as text. Flags of an entry, which a list can't have, are left out, as a driver that has none does. */
+static void put_command(comedi_cmd *command, const unsigned *entries)
+{
+	int length = sprintf(text, "%u %u ", command->subdev, command->flags);
+	for (int i = 0; i < TRIGGERS; i++)
+		length += put_trigger(text + length, triggers_of(command)[i]);
+	if (!command->chanlist_len)
+		sprintf(text + length, "-");
+	for (unsigned i = 0; i < command->chanlist_len; i++)
+		length += sprintf(text + length, "%s%u/%u/%s", i ? "," : "", CR_CHAN(entries[i]), CR_RANGE(entries[i]), reference_names[CR_AREF(entries[i])]);
+}
+
+static unsigned read_sources(const char *at, const char *end)
+{
+	unsigned sources = 0;
+	while (at < end) {
+		size_t length = strcspn(at, "|:");
+		for (int i = 0; i < SOURCES; i++)
+			if (strlen(source_names[i]) == length && !strncmp(at, source_names[i], length))
+				sources |= 1u << i;
+		at += length + 1;
+	}
+	return sources;
+}
+
+/* The command of an answer, `STEP SUB FLAGS START .. LIST`. Answers its step. */
+static int read_command(const char *words, comedi_cmd *command)
+{
+	char *at;
+	int step = strtol(words, &at, 10);
+	strtoul(at, &at, 10);
+	command->flags = strtoul(at, &at, 10);
+	for (int i = 0; i < TRIGGERS; i++) {
+		at += strspn(at, " ");
+		char *colon = strchr(at, ':');
+		if (!colon)
+			return -EIO;
+		triggers_of(command)[i].sources = read_sources(at, colon);
+		triggers_of(command)[i].argument = strtoul(colon + 1, &at, 10);
+	}
+	return step;
+}
+
+/* __comedi_get_user_cmd: the subdevice of a command, and the length of its list. The direction is put into its flags. */
+static int find_subdevice(comedi_cmd *command, struct subdevice **s)
+{
+	if (command->subdev >= device->subdevices)
+		return -ENODEV;
+	*s = &device->subdevice[command->subdev];
+	if (!(*s)->takes_commands)
+		return -EIO;
+	if (command->chanlist_len > (*s)->list_length || command->chanlist_len > MOST_ENTRIES)
+		return -EINVAL;
+	command->flags = board_is_input(*s) ? command->flags & ~CMDF_WRITE : command->flags | CMDF_WRITE;
+	return 0;
+}
+
+/* __comedi_get_user_chanlist: puts the client's list into `list`. */
+static int take_list(const struct subdevice *s, const comedi_cmd *command)
+{
+	if (copy_in(list, command->chanlist, command->chanlist_len * sizeof *list))
+		return -EFAULT;
+	return kernel_refuses_entries(s, list, command->chanlist_len) ? -EINVAL : 0;
+}
+
+/* Asks for the test of a command, and puts the command that comes back in its place. Answers the step. */
+static int ask_test(comedi_cmd *command)
+{
+	put_command(command, list);
+	int result = question_test(text);
+	if (result)
+		return result;
+	return read_command(answer_words(), command);
+}
+
+int command_test(comedi_cmd *command)
+{
+	struct subdevice *s;
+	int result = find_subdevice(command, &s);
+	/* without a list it is tested with one of that length that is good on any board */
+	memset(list, 0, sizeof list);
+	if (!result && command->chanlist)
+		result = take_list(s, command);
+	if (result)
+		return result;
+	result = ask_test(command);
+	/* and then nothing is said about the list */
+	return result == 5 && !command->chanlist ? 0 : result;
+}
+
+/* A command whose list can't be used. What stands before the list, a lock and another command, is found by asking for
+ * one with an empty list, which is always refused. */
+static int refuse_list(int file, const comedi_cmd *command, int error)
+{
+	comedi_cmd asked = *command;
+	asked.chanlist_len = 0;
+	put_command(&asked, list);
+	int result = line_of_session("cmd %d %s", file, text);
+	return result == -EINVAL ? error : result;
+}
+
+/* A command that only goes through the motions: as the kernel's core it is refused like any other, and where nothing
+ * is wrong with it too, with EAGAIN. So a source that no board has is asked for, and the test is told. */
+static int call_bogus(int file, comedi_cmd *command)
+{
+	comedi_cmd asked = *command;
+	asked.start_src = 0;
+	put_command(&asked, list);
+	int result = line_of_session("cmd %d %s", file, text);
+	if (result == -EAGAIN)
+		ask_test(command);
+	return result;
+}
+
+int command_call(int file, comedi_cmd *command)
+{
+	struct subdevice *s;
+	int result = find_subdevice(command, &s);
+	if (result)
+		return result;
+	result = command->chanlist_len ? take_list(s, command) : -EINVAL;
+	if (result)
+		return refuse_list(file, command, result);
+	if (command->flags & CMDF_BOGUS)
+		return call_bogus(file, command);
+	put_command(command, list);
+	result = line_of_session("cmd %d %s", file, text);
+	if (result == -EAGAIN)
+		read_command(answer_words(), command);
+	if (result == -EINVAL)
+		ask_test(command);
+	if (!result) {
+		s->runner = file;
+		s->command_flags = command->flags;
+		s->command_entries = command->chanlist_len;
+		s->filled = 0;
+	}
+	return kernel_result(CALL_COMMAND, result);
+}

@@ -1,0 +1,142 @@
+/*
+ * A Comedi device file over a modelled board.
+ *
+ * Nothing here decides what a board does. The program `comedi_serve` holds the board and the session; what a client
+ * asks is put into lines of a session (docs/FORMATS.md), and the answers are put into the client's structs. What is
+ * kept here is how the board describes itself, the board's time, and what answers have said.
+ */
+#ifndef DEVICE_H
+#define DEVICE_H
+
+#include <comedi.h>
+#include <pthread.h>
+#include <signal.h>
+#include <stddef.h>
+#include <stdint.h>
+#include <sys/types.h>
+
+/* the limits of a board text and of a session */
+#define MOST_SUBDEVICES 16
+#define MOST_CHANNELS 64
+#define MOST_RANGES 16
+#define MOST_FILES 16
+#define MOST_ENTRIES 256
+/* how many samples a line asks for at once, and how many values a line of a write has */
+#define SAMPLES_OF_A_LINE 4096
+#define VALUES_OF_A_LINE 1024
+/* readings of one line of an instruction */
+#define READINGS_OF_A_LINE 64
+#define NO_FILE (-1)
+#define NO_SUBDEVICE (-1)
+/* what a take answers where the end of a command was told: a read then gives 0 bytes */
+#define END_TOLD (-ENODATA)
+
+struct channel {
+	unsigned maxdata, ranges;
+	comedi_krange range[MOST_RANGES];
+};
+
+struct subdevice {
+	/* what the board says */
+	unsigned kind, channels, list_length, buffer;
+	int takes_commands, own_maxdata, own_ranges;
+	unsigned sample_bytes;
+	struct channel channel[MOST_CHANNELS];
+	/* what answers have said: who called the command that wasn't ended yet, and who holds the lock */
+	int runner, locker;
+	unsigned command_flags, command_entries;
+	/* the memory that clients map, where it begins in the file of all such memory, whether anyone has mapped it, and
+	 * up to which sample it is filled */
+	void *memory;
+	size_t memory_offset;
+	int is_mapped;
+	uint64_t filled;
+};
+
+struct file {
+	int is_open;
+	pid_t opener;
+	int read_subdevice, write_subdevice;
+};
+
+enum wake { WAKE_SAMPLE, WAKE_SCAN, WAKE_FULL };
+
+struct device {
+	pthread_mutex_t lock;
+	char path[4096], name[64];
+	unsigned subdevices;
+	struct subdevice subdevice[MOST_SUBDEVICES];
+	struct file file[MOST_FILES];
+	/* board time, in nanoseconds */
+	uint64_t now, horizon, call_time;
+	double pace;
+	uint64_t wall_start;
+	enum wake wake;
+	/* the memory of all buffers, which is there before a client makes children */
+	int memory_descriptor;
+};
+
+/* The device is in memory that a client's children share. It is there once a board was opened. */
+extern struct device *device;
+
+/* device.c */
+int device_open(const char *path);
+void device_close(int file);
+int device_is_open(void);
+int device_serves(const char *path);
+void device_enter(void);
+void device_leave(void);
+
+/* ioctl.c */
+int device_ioctl(int file, unsigned long request, void *argument);
+
+/* stream.c */
+ssize_t device_read(int file, void *to, size_t bytes, int waits);
+ssize_t device_write(int file, const void *from, size_t bytes, int waits);
+int take_samples(int file, int number, unsigned most, uint32_t *codes);
+int put_values(int file, int number, unsigned count, const uint32_t *values);
+int stream_ready_to_read(int file);
+int stream_ready_to_write(int file);
+int stream_next_time(int file, int reads, int writes, uint64_t *time);
+int stream_next_samples(int file, uint64_t *time);
+
+/* buffer.c */
+int buffer_info(int file, comedi_bufinfo *info);
+int buffer_make_memory(void);
+int buffer_map(int file, int number);
+int buffer_take(int file, int number, unsigned most, uint32_t *codes);
+int buffer_owns(int descriptor);
+
+/* board.c */
+void board_clear(void);
+void board_line(char *line);
+void board_settle(void);
+int board_is_input(const struct subdevice *s);
+int board_subdevices(int file, comedi_subdinfo *to);
+int board_channels(const comedi_chaninfo *asked);
+int board_ranges(const comedi_rangeinfo *asked);
+
+/* command.c */
+int command_test(comedi_cmd *command);
+int command_call(int file, comedi_cmd *command);
+
+/* instruction.c */
+int instruction_do(int file, comedi_insn *instruction, unsigned *data);
+int instruction_list(int file, const comedi_insnlist *list);
+int instruction_one(int file, const comedi_insn *instruction);
+
+/* time.c */
+void time_begin(void);
+void time_call(void);
+void time_to(uint64_t time);
+int time_wait(uint64_t time);
+int time_is_board_time(void);
+void time_sleep(uint64_t nanoseconds);
+uint64_t time_of_wall(void);
+
+/* memory.c */
+int copy_in(void *to, const void *from, size_t bytes);
+int copy_out(void *to, const void *from, size_t bytes);
+int check_writable(void *at, size_t bytes);
+
+#endif

@@ -1,0 +1,161 @@
+/*
+ * Lines of a session, and their answers as numbers. Each line begins with the board's time.
+ */
+#define _GNU_SOURCE
+#include "device.h"
+#include "server.h"
+#include <errno.h>
+#include <stdarg.h>
+#include <stdio.h>
+#include <stdlib.h>
+#include <string.h>
+
+/* room for the longest line: 1,024 values of ten digits */
+static char line[1 << 14];
+
+static void note_output(char *text)
+{
+	record_note("%s", text);
+}
+
+/* What is behind the first word of the answer, and behind its number where it is `err`. */
+const char *answer_words(void)
+{
+	const char *text = server_answer();
+	text += strcspn(text, " ");
+	text += strspn(text, " ");
+	return text;
+}
+
+int answer_says(const char *word)
+{
+	const char *found = strstr(server_answer(), word);
+	return found != NULL;
+}
+
+int answer_numbers(uint64_t *numbers, int most)
+{
+	const char *at = answer_words();
+	int count = 0;
+	for (char *end; count < most; count++, at = end) {
+		numbers[count] = strtoull(at, &end, 10);
+		if (end == at)
+			break;
+	}
+	return count;
+}
+
+/* Asks what `line` holds, and answers 0 or a negative error number. */
+static int ask(int length, void (*each)(char *line))
+{
+	if (length < 0 || length >= (int)sizeof line - 1)
+		return -EINVAL;
+	line[length] = '\n';
+	if (server_ask(line, length + 1, each))
+		return -EIO;
+	const char *answer = server_answer();
+	if (!strncmp(answer, "err ", 4)) {
+		int number = atoi(answer + 4);
+		return number > 0 ? -number : -EIO;
+	}
+	return strncmp(answer, "refused", 7) ? 0 : -EIO;
+}
+
+/* A line that is refused as no line is a fault of the device. */
+static int ask_loudly(int length)
+{
+	int result = ask(length, note_output);
+	if (result == -EIO && !strncmp(server_answer(), "refused", 7))
+		fprintf(stderr, "zendrouz: %s: %.*s\n", server_answer(), length, line);
+	return result;
+}
+
+/* The answer's line isn't recorded where it was refused as no line, or not answered. */
+static int was_answered(void)
+{
+	const char *answer = server_answer();
+	return *answer && strncmp(answer, "refused", 7);
+}
+
+static int form_line(const char *form, va_list values)
+{
+	int front = snprintf(line, sizeof line, "%llu ", (unsigned long long)device->now);
+	int rest = vsnprintf(line + front, sizeof line - front, form, values);
+	return rest < 0 ? -1 : front + rest;
+}
+
+int line_of_session(const char *form, ...)
+{
+	va_list values;
+	va_start(values, form);
+	int length = form_line(form, values);
+	va_end(values);
+	int result = ask_loudly(length);
+	if (was_answered())
+		record_line(line, length + 1);
+	return result;
+}
+
+int line_of_values(const char *front, const uint32_t *values, unsigned count)
+{
+	int length = snprintf(line, sizeof line, "%llu %s", (unsigned long long)device->now, front);
+	for (unsigned i = 0; i < count && length < (int)sizeof line - 16; i++)
+		length += sprintf(line + length, " %u", values[i]);
+	int result = ask_loudly(length);
+	if (was_answered())
+		record_line(line, length + 1);
+	return result;
+}
+
+/* A question that changes nothing. In the record it is the line that has its checks. */
+int question_contents(int file, int subdevice, const char *key, const char *rest)
+{
+	int length = snprintf(line, sizeof line, "%llu %s %d %d%s", (unsigned long long)device->now, key, file, subdevice, rest);
+	int result = ask_loudly(length);
+	if (was_answered()) {
+		length = snprintf(line, sizeof line, "%llu contents %d %d\n", (unsigned long long)device->now, file, subdevice);
+		record_line(line, length);
+	}
+	return result;
+}
+
+/* Mapped samples in codes, from one of them on. In the record each of them is looked at. */
+int question_peek(int file, int subdevice, unsigned from, unsigned most)
+{
+	uint64_t count = 0;
+	int length = snprintf(line, sizeof line, "%llu peek %d %d %u %u", (unsigned long long)device->now, file, subdevice, from, most);
+	int result = ask_loudly(length);
+	if (!was_answered() || result)
+		return result;
+	answer_numbers(&count, 1);
+	for (uint64_t i = from; i < from + count; i++) {
+		length = snprintf(line, sizeof line, "%llu look %d %d %llu\n", (unsigned long long)device->now, file, subdevice, (unsigned long long)i);
+		record_line(line, length);
+	}
+	return 0;
+}
+
+/* Samples in codes. In the record it is a read of as many samples as were taken. */
+int question_codes(int file, int subdevice, unsigned most)
+{
+	int length = snprintf(line, sizeof line, "%llu codes %d %d %u", (unsigned long long)device->now, file, subdevice, most);
+	int result = ask_loudly(length);
+	uint64_t taken = 0;
+	if (was_answered()) {
+		if (!result)
+			answer_numbers(&taken, 1);
+		length = snprintf(line, sizeof line, "%llu read %d %d %llu\n", (unsigned long long)device->now, file, subdevice, (unsigned long long)taken);
+		record_line(line, length);
+	}
+	return result;
+}
+
+int question_test(const char *command)
+{
+	return ask_loudly(snprintf(line, sizeof line, "test %s", command));
+}
+
+int question_describe(void (*each)(char *line))
+{
+	return ask(snprintf(line, sizeof line, "describe"), each);
+}

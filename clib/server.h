@@ -1,0 +1,37 @@
+/* The program that answers, and the lines that it is asked. */
+#ifndef SERVER_H
+#define SERVER_H
+
+#include <stddef.h>
+#include <stdint.h>
+
+/* descriptors of the device are kept away from the numbers that clients use */
+#define FIRST_DESCRIPTOR 240
+
+/* pipe.c: the program. Each answer is read whole before the next line is sent. */
+int server_start(const char *program, const char *head, size_t length);
+int server_ask(const char *line, size_t length, void (*each)(char *line));
+char *server_answer(void);
+int server_owns(int descriptor);
+int server_is_lost(void);
+void server_lose(void);
+
+/* lines.c: a line is answered 0 for `ok`, the negative number of `err`, and -EIO where there is no answer. */
+int line_of_session(const char *form, ...) __attribute__((format(printf, 1, 2)));
+int line_of_values(const char *front, const uint32_t *values, unsigned count);
+int question_contents(int file, int subdevice, const char *key, const char *rest);
+int question_peek(int file, int subdevice, unsigned from, unsigned most);
+int question_codes(int file, int subdevice, unsigned most);
+int question_test(const char *command);
+int question_describe(void (*each)(char *line));
+const char *answer_words(void);
+int answer_numbers(uint64_t *numbers, int most);
+int answer_says(const char *word);
+
+/* record.c */
+void record_open(const char *path);
+int record_owns(int descriptor);
+void record_line(const char *text, size_t length);
+void record_note(const char *form, ...) __attribute__((format(printf, 1, 2)));
+
+#endif

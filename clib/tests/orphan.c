@@ -1,0 +1,34 @@
+/*
+ * A child that is killed within a call: the program of answers keeps silent (tests/stalling), so the child waits for an
+ * answer that doesn't come. What the client asks after that can't be answered any more, and fails with EIO at once.
+ */
+#include "client.h"
+#include <signal.h>
+#include <sys/wait.h>
+#include <time.h>
+
+int main(void)
+{
+	comedi_t *device = open_board();
+	struct timespec while_it_waits = { 0, 500000000 };
+	sampl_t sample;
+	sigset_t none;
+	sigemptyset(&none);
+	if (tell("command", give_command(device, 0, TRIG_NOW, MILLISECOND, 0)))
+		return 1;
+	fflush(stdout);
+	pid_t child = fork();
+	while (!child)
+		if (read(comedi_fileno(device), &sample, sizeof sample) < 0)
+			_exit(1);
+	/* a wait in the system's time: sleeps are in the board's */
+	sigtimedwait(&none, NULL, &while_it_waits);
+	int status = 0;
+	kill(child, SIGKILL);
+	waitpid(child, &status, 0);
+	printf("the child was %s\n", WIFSIGNALED(status) ? "killed" : "not killed");
+	tell("read", read(comedi_fileno(device), &sample, sizeof sample));
+	tell("lock", comedi_lock(device, 0));
+	comedi_close(device);
+	return 0;
+}
