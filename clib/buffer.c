@@ -90,7 +90,7 @@ int buffer_take(int file, int number, unsigned most, uint32_t *codes)
 	return result ? kernel_result(CALL_READ, result) : (int)count;
 }
 
-/* Makes the memory of all buffers, one behind the other in one file. */
+/* Makes the memory of all buffers, one after the other in one file. */
 int buffer_make_memory(void)
 {
 	size_t whole = 0;
@@ -176,8 +176,8 @@ static void put_counts(const struct subdevice *s, const uint64_t counts[2], come
 	info->buf_write_ptr = counts[1] % s->buffer * s->sample_bytes;
 }
 
-/* An input: samples are given back, and where nothing is left of a command that ended, its end is told. A command
- * that ended in error tells it to the call after the one that gave its last samples back. */
+/* An input: samples are given back, and where nothing is left of a command that ended, its end is reported. A command
+ * that ended in error reports it to the call after the one that gave its last samples back. */
 static int input_info(int file, int number, comedi_bufinfo *info, uint64_t counts[2])
 {
 	struct subdevice *s = &device->subdevice[number];
@@ -201,7 +201,7 @@ static int input_info(int file, int number, comedi_bufinfo *info, uint64_t count
 	return fill_memory(file, number, counts);
 }
 
-/* An output: words are marked, or the end is told. */
+/* An output: words are marked, or the end is reported. */
 static int output_info(int file, int number, comedi_bufinfo *info, uint64_t counts[2])
 {
 	struct subdevice *s = &device->subdevice[number];

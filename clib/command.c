@@ -30,7 +30,7 @@ static struct trigger *triggers_of(comedi_cmd *command)
 	return (struct trigger *)&command->start_src;
 }
 
-/* Sources without a name of their own are told as `other`, which no board has either. */
+/* Sources without a name of their own are written as `other`, which no board has either. */
 static int put_trigger(char *at, struct trigger trigger)
 {
 	int length = 0;
@@ -146,7 +146,7 @@ static int refuse_list(int file, const comedi_cmd *command, int error)
 }
 
 /* A command that only goes through the motions: as the kernel's core it is refused like any other, and where nothing
- * is wrong with it too, with EAGAIN. So a source that no board has is asked for, and the test is told. */
+ * is wrong with it too, with EAGAIN. So a source that no board has is asked for, and the test reports it. */
 static int call_bogus(int file, comedi_cmd *command)
 {
 	comedi_cmd asked = *command;

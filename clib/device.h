@@ -28,7 +28,7 @@
 #define READINGS_OF_A_LINE 64
 #define NO_FILE (-1)
 #define NO_SUBDEVICE (-1)
-/* what a take answers where the end of a command was told: a read then gives 0 bytes */
+/* what a take answers where the end of a command was reported: a read then gives 0 bytes */
 #define END_TOLD (-ENODATA)
 
 struct channel {
@@ -45,7 +45,7 @@ struct subdevice {
 	/* what answers have said: who called the command that wasn't ended yet, and who holds the lock */
 	int runner, locker;
 	unsigned command_flags, command_entries;
-	/* the memory that clients map, where it begins in the file of all such memory, whether anyone has mapped it, and
+	/* the memory that clients map, where it starts in the file of all such memory, whether anyone has mapped it, and
 	 * up to which sample it is filled */
 	void *memory;
 	size_t memory_offset;

@@ -46,9 +46,9 @@ static int read_line(int file, unsigned number, unsigned specification, unsigned
 
 static int write_line(int file, unsigned number, unsigned specification, unsigned count, const unsigned *data)
 {
-	char front[128];
-	snprintf(front, sizeof front, "insn %d %u write %s", file, number, entry_of(specification));
-	return line_of_values(front, data, count);
+	char start[128];
+	snprintf(start, sizeof start, "insn %d %u write %s", file, number, entry_of(specification));
+	return line_of_values(start, data, count);
 }
 
 static int do_read(int file, const comedi_insn *instruction, unsigned *data)

@@ -40,7 +40,7 @@ static int range_information(const void *argument)
 	return copy_in(&asked, argument, sizeof asked) ? -EFAULT : board_ranges(&asked);
 }
 
-/* A command or its test: the command that is told comes back, but for its list. */
+/* A command or its test: the command that the test answers comes back, but for its list. */
 static int command_call_or_test(int file, unsigned request, void *argument)
 {
 	comedi_cmd command;
@@ -107,7 +107,7 @@ static int cancel_call(int file, unsigned number)
 	return kernel_result(CALL_CANCEL, result);
 }
 
-/* Asks the board for what it holds back. Boards here hand over by themselves, so this tells how many bytes there are. */
+/* Asks the board for what it holds back. Boards here hand over by themselves, so this answers with the number of bytes that are there. */
 static int poll_call(int file, unsigned number)
 {
 	uint64_t counts[2];

@@ -1,5 +1,5 @@
 /*
- * Lines of a session, and their answers as numbers. Each line begins with the board's time.
+ * Lines of a session, and their answers as numbers. Each line starts with the board's time.
  */
 #define _GNU_SOURCE
 #include "device.h"
@@ -18,7 +18,7 @@ static void note_output(char *text)
 	record_note("%s", text);
 }
 
-/* What is behind the first word of the answer, and behind its number where it is `err`. */
+/* What stands after the first word of the answer, and after its number where it is `err`. */
 const char *answer_words(void)
 {
 	const char *text = server_answer();
@@ -79,9 +79,9 @@ static int was_answered(void)
 
 static int form_line(const char *form, va_list values)
 {
-	int front = snprintf(line, sizeof line, "%llu ", (unsigned long long)device->now);
-	int rest = vsnprintf(line + front, sizeof line - front, form, values);
-	return rest < 0 ? -1 : front + rest;
+	int start = snprintf(line, sizeof line, "%llu ", (unsigned long long)device->now);
+	int rest = vsnprintf(line + start, sizeof line - start, form, values);
+	return rest < 0 ? -1 : start + rest;
 }
 
 int line_of_session(const char *form, ...)
@@ -96,9 +96,9 @@ int line_of_session(const char *form, ...)
 	return result;
 }
 
-int line_of_values(const char *front, const uint32_t *values, unsigned count)
+int line_of_values(const char *start, const uint32_t *values, unsigned count)
 {
-	int length = snprintf(line, sizeof line, "%llu %s", (unsigned long long)device->now, front);
+	int length = snprintf(line, sizeof line, "%llu %s", (unsigned long long)device->now, start);
 	for (unsigned i = 0; i < count && length < (int)sizeof line - 16; i++)
 		length += sprintf(line + length, " %u", values[i]);
 	int result = ask_loudly(length);

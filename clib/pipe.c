@@ -174,14 +174,14 @@ int server_ask(const char *line, size_t length, void (*each)(char *line))
 	from = upto = 0;
 	int sent = send_all(line, length);
 	for (;;) {
-		char *told = next_line();
-		if (!told)
+		char *heard = next_line();
+		if (!heard)
 			break;
-		if (is_last(told)) {
-			answer = told;
+		if (is_last(heard)) {
+			answer = heard;
 			return sent;
 		}
-		each(told);
+		each(heard);
 	}
 	server_lose();
 	return -EIO;

@@ -18,7 +18,7 @@ void server_lose(void);
 
 /* lines.c: a line is answered 0 for `ok`, the negative number of `err`, and -EIO where there is no answer. */
 int line_of_session(const char *form, ...) __attribute__((format(printf, 1, 2)));
-int line_of_values(const char *front, const uint32_t *values, unsigned count);
+int line_of_values(const char *start, const uint32_t *values, unsigned count);
 int question_contents(int file, int subdevice, const char *key, const char *rest);
 int question_peek(int file, int subdevice, unsigned from, unsigned most);
 int question_codes(int file, int subdevice, unsigned most);

@@ -121,7 +121,7 @@ static int wait_for_samples(int file, int number, unsigned count)
 	return time_wait(time);
 }
 
-/* A read or a write of no bytes tells an error, and nothing else. */
+/* A read or a write of no bytes reports an error, and nothing else. */
 static int move_nothing(int file, int number)
 {
 	int result = question_contents(file, number, "info", "");
@@ -158,14 +158,14 @@ ssize_t device_read(int file, void *to, size_t bytes, int waits)
 	}
 }
 
-/* Stores up to 1,024 values behind all others. Answers how many had room, -EAGAIN where none had, or as take_samples. */
+/* Stores up to 1,024 values after all others. Answers how many had room, -EAGAIN where none had, or as take_samples. */
 int put_values(int file, int number, unsigned count, const uint32_t *values)
 {
 	struct subdevice *s = &device->subdevice[number];
-	char front[64];
+	char start[64];
 	uint64_t stored;
-	snprintf(front, sizeof front, "write %d %d", file, number);
-	int result = line_of_values(front, values, count);
+	snprintf(start, sizeof start, "write %d %d", file, number);
+	int result = line_of_values(start, values, count);
 	int end = told_end(s, result);
 	if (end)
 		return end;

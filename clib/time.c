@@ -46,7 +46,7 @@ void time_to(uint64_t time)
 		device->now = time;
 }
 
-/* A call begins. */
+/* A call starts. */
 void time_call(void)
 {
 	time_to(device->pace > 0 ? paced_time() : device->now + device->call_time);
