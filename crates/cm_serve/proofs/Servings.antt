@@ -72,6 +72,7 @@ head-refused old new text same head (Err other) stop e s refused h = subst (λ (
     by (reads.Refused refused) is = inl (
       h.0,
       map Line h.0,
+      ap (λ (head : List (List ℕ)). setting_of (text_of head)) (follows-head head.goes_on h.0 h.4) ∙ (ap setting_of (sym h.2 ∙ sym s) ∙ is),
       head_alone h.0 (follows-head head.goes_on h.0 h.4)
           ∙ ap (λ (s : Result Setting Refused). map Line h.0 ++ follows s (length h.0 + 1) []) (ap setting_of (sym h.2 ∙ sym s) ∙ is),
       h.1,
@@ -94,6 +95,8 @@ setting_is text same lines s e is t = ap setting_of (sym t ∙ sym e) ∙ is
 pub head-alone : (old new : Option (List Turn)) (text same : List ℕ) (head : Head) (s : Setting) → head.goes_on ≡ false → same ≡ text → setting_of same ≡ Ok s → HasHead (Ok head) old new text → IsHeld old new
 head-alone old new text same head s ends e is h = (
   h.0,
+  s,
+  ap (λ (lines : List (List ℕ)). setting_of (text_of lines)) (follows-head head.goes_on h.0 h.4) ∙ setting_is text same h.0 s e is h.2,
   says-same old new (map Line h.0) (conversation h.0)
       (sym (head_alone h.0 (follows-head head.goes_on h.0 h.4)
       ∙ ap (λ (r : Result Setting Refused). map Line h.0 ++ follows r (length h.0 + 1) []) (setting_is text same h.0 s e is h.2)
@@ -116,6 +119,8 @@ pub session-held : (old now new : Option (List Turn)) (text same : List ℕ) (he
 session-held old now new text same head s first goes e is n h held =
     let lines : List (List ℕ) = h.0 in (
       lines ++ held.0,
+      s,
+      ap (λ (first : List (List ℕ)). setting_of (text_of first)) (head-follows lines held.0 (session_follows head.goes_on lines goes h.4)) ∙ setting_is text same lines s e is h.2,
       says-same old new (map Line lines ++ dialogue (first_play s) first held.0) (conversation (lines ++ held.0))
           (ap (λ (m : ℕ). map Line lines ++ dialogue (first_play s) m held.0) (n ∙ ap (λ (m : ℕ). m + 1) h.3)
           ∙ sym (with_session lines held.0 s (session_follows head.goes_on lines goes h.4) (setting_is text same lines s e is h.2)))
@@ -151,7 +156,7 @@ cut_more old now new last cut says = (
 
 -- the same part, where no more was said
 nearly_cut : (old now : Option (List Turn)) (refused : Refused) → IsNearlyHeld refused old now → IsCutShort old now []
-nearly_cut old now refused h = (h.0, h.1, refusal refused ∷ [], h.2, says-same old now h.1 (h.1 ++ []) (sym (append-nil h.1)) h.3)
+nearly_cut old now refused h = (h.0, h.1, refusal refused ∷ [], h.3, says-same old now h.1 (h.1 ++ []) (sym (append-nil h.1)) h.4)
 
 cut_still : (old now new : Option (List Turn)) → new ≡ now → IsCutShort old now [] → IsCutShort old new []
 cut_still old now new e cut = subst (λ (t : Option (List Turn)). IsCutShort old t []) (sym e) cut
@@ -166,5 +171,5 @@ told-so old now new refused served.Done h d = absurd d
 told-so old now new refused served.ReadFault h d = absurd d
 told-so old now new refused served.WriteFault h d = cut_still old now new d (any_cut old now refused h)
 told-so old now new refused served.NoMemory h d = cut_still old now new d (any_cut old now refused h)
-told-so old now new refused served.Refused (inl h) d = inl (h.0, says-same old new (h.1 ++ refusal refused ∷ []) (conversation h.0) (sym h.2) (says-more old now new h.1 (refusal refused ∷ []) h.3 d))
+told-so old now new refused served.Refused (inl h) d = inl (h.0, refused, h.2, says-same old new (h.1 ++ refusal refused ∷ []) (conversation h.0) (sym h.3) (says-more old now new h.1 (refusal refused ∷ []) h.4 d))
 told-so old now new refused served.Refused (inr h) d = inr (cut_more old now new (refusal too_long ∷ []) h.1 (subst (λ (r : Refused). Says now new (refusal r ∷ [])) h.0 d))

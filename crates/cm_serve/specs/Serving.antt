@@ -18,6 +18,10 @@ setting_of text =
     board_of (length (raw_lines text) + 1) (lines_of text) >>= λ b. signals_at b.0 (length (raw_lines text) + 1) b.1 (lines_of text) >>= λ s.
     Ok (record { board = b.0; signals = s.0 })
 
+-- those of a client that says these lines
+abbrev pub setting_said : List (List ℕ) → Result Setting Refused
+setting_said lines = setting_of (text_of (head_of lines))
+
 -- what follows the head: why it is refused, or the dialogue of the session
 abbrev pub follows : Result Setting Refused → ℕ → List (List ℕ) → List Turn
 follows (Err refused) first lines = Answer (refused_text refused) ∷ []
@@ -26,4 +30,4 @@ follows (Ok s) first lines = dialogue (first_play s) first lines
 -- all that is said with a client that says these lines
 abbrev pub conversation : List (List ℕ) → List Turn
 conversation lines =
-    map Line (head_of lines) ++ follows (setting_of (text_of (head_of lines))) (length (head_of lines) + 1) (drop (length (head_of lines)) lines)
+    map Line (head_of lines) ++ follows (setting_said lines) (length (head_of lines) + 1) (drop (length (head_of lines)) lines)
