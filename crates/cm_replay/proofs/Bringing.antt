@@ -60,12 +60,12 @@ neither e true = refl
 neither e false = refl
 
 -- without a loss no end has come before all has
-quiet-none : (s : Schedule) (time : ℕ) → arrived s time < length s.conversions → (time ≡ s.horizon → ⊥) → None ≡ quiet_end s time
+pub quiet-none : (s : Schedule) (time : ℕ) → arrived s time < length s.conversions → (time ≡ s.horizon → ⊥) → None ≡ quiet_end s time
 quiet-none s time fewer early =
     rw (ne_eqb (arrived s time) (length s.conversions) (λ (e : arrived s time ≡ length s.conversions). absurd (omega arith))) (rw (ne_eqb time s.horizon early) (neither None s.complete))
 
 -- no end has come while something is to come
-none-yet : (s : Schedule) (time : ℕ) (lost : Option ℕ) → s.lost_at ≡ lost → IsTimely s → arrived s time < length s.arrivals → None ≡ lost_end lost s time
+pub none-yet : (s : Schedule) (time : ℕ) (lost : Option ℕ) → s.lost_at ≡ lost → IsTimely s → arrived s time < length s.arrivals → None ≡ lost_end lost s time
 none-yet s time None is timely fewer = quiet-none s time (omega (arith, timely.within)) (λ (e : time ≡ s.horizon). absurd (omega (arith, timely.cut, ap (arrived s) e)))
 none-yet s time (Some at) is timely fewer =
     let loss = timely.lost at is in

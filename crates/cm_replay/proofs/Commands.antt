@@ -53,6 +53,7 @@ collected-command c command input time ring board some moved left end = record {
   planned = command.planned;
   out = command.out;
   served = subst (λ b. IsServed b (its_schedule c) ring board) (sym (command.out ∙ input)) (collected-in_step c command input time ring board some moved left).0;
+  looks = command.looks;
 }
 
 missed-input : (s : Schedule) (k : ℕ) → is_out s ≡ false → missed s k ≡ Overrun k

@@ -45,6 +45,7 @@ put-command c command output ring board moves end = record {
   planned = command.planned;
   out = command.out;
   served = subst (λ b. IsServed b (its_schedule c) ring board) (sym (command.out ∙ output)) (put-paced (its_schedule c) c.ring ring c.board board (paced c command output) moves);
+  looks = command.looks;
 }
 
 put-place : (c : Inside) → IsCommand c → is_out (its_schedule c) ≡ true → (time : ℕ) → c.ring.r ≤ arrived (its_schedule c) time → c.ring.r + going c.ring c.board.conversions time ≡ put_by (running_of c) time

@@ -35,19 +35,20 @@ trigger-planned plan sub its_signals = planned-schedule (plan_text plan) (record
 
 -- and the command stays in step, since nothing has come yet
 pub trigger-command : (c : Inside) → IsCommand c → (plan : Plan) (board : ToCome) (time : ℕ) → served (running_of c) ≡ 0 → plan_text plan ≡ record (plan_text c.plan) { trig = Some time } →
-    IsSchedule (schedule_of (plan_text plan)) → board ≡ all_to_come (schedule_of (plan_text plan)) → IsCommand (record c { plan = plan; board = board })
+    IsSchedule (schedule_of (plan_text plan)) → board ≡ all_to_come (schedule_of (plan_text plan)) → IsCommand (record c { plan = plan; board = board; ahead = None })
 trigger-command c command plan board time none given planned all = record {
   planned = planned;
   out = command.out ∙ sym (ap (λ (p : PlanText). is_output p.sub.kind) given);
   served = served-anew c.out (its_schedule c) (schedule_of (plan_text plan)) c.ring c.board board command.served (ap (λ (b : Bool). if b then c.ring.r else c.ring.w) command.out ∙ none)
       (ap (λ (p : PlanText). munged_at p.sub p.cmd) given) (ap (λ (p : PlanText). p.sub.buffer) given) all;
+  looks = tt;
 }
 
 -- what it is then
 pub running-triggered : (c : Inside) (plan : Plan) (board : ToCome) (time : ℕ) → c.end ≡ None → plan_text plan ≡ record (plan_text c.plan) { trig = Some time } →
-    running_of (record c { plan = plan; board = board }) ≡ trigger_on time (running_of c)
+    running_of (record c { plan = plan; board = board; ahead = None }) ≡ trigger_on time (running_of c)
 running-triggered c plan board time runs given =
-    let later : running_of (record c { plan = plan; board = board }) ≡ record (running_of c) { schedule = schedule_of (record (plan_text c.plan) { trig = Some time }) } =
+    let later : running_of (record c { plan = plan; board = board; ahead = None }) ≡ record (running_of c) { schedule = schedule_of (record (plan_text c.plan) { trig = Some time }) } =
     ap (λ (p : PlanText). let r : Running = record (running_of c) { schedule = schedule_of p } in r) given in
     later ∙ sym (rw runs refl)
 

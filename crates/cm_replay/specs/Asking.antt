@@ -1,8 +1,9 @@
 -- What a client asks between the lines of a session. Each question is a line of a session in other words: it has that line's checks
--- and that line's effect, and where nothing refuses it, it tells more than the line does.
+-- and that line's effect, and where nothing refuses it, more is reported than for the line.
 use Rattle.std.specs.Prelude.{ℕ, ◌+◌, ◌-◌, min, max, Bool, ◌||◌, nat_le, List, [], ◌++◌, length, take, drop, slice_get, codes, Option, Some, None, if◌then◌else◌}
 use Rattle.std.specs.Option.{is_some, unwrap_or}
 use Rattle.std.specs.Fmt.{decimal}
+use Rattle.cm_expand.specs.declared.conv.Conv.{Conv}
 use Rattle.cm_fifo.specs.Handed.{last_time, time_or}
 use Rattle.cm_session.specs.declared.op.Op.{Op}
 use Rattle.cm_session.specs.declared.op.Op.TheVariants as ops
@@ -30,6 +31,10 @@ asked_op sub (Peek from n) = ops.Contents sub
 
 abbrev pub line_of : Asked → SessionLine
 line_of asked = record { time = asked.time; file = asked.file; op = asked_op asked.sub asked.question }
+
+-- the time of the last of some conversions, and where there is none, one before them
+abbrev pub last_after : ℕ → List Conv → ℕ
+last_after before conversions = time_or before (slice_get conversions (length conversions - 1))
 
 -- when a command ends whose buffer serves all that comes, the last at a time: when one is lost on the board, when all has come and the
 -- edge that stops it too, or where something is cut off, at the horizon
@@ -87,20 +92,20 @@ abbrev pub peeked : ℕ → ℕ → Option Running → List ℕ
 peeked from n None = []
 peeked from n (Some c) = take n (drop from (take (c.ra - c.r) (drop c.r (samples c.schedule))))
 
--- what is told at a time of a command that was brought to it, where the line answers this
-abbrev pub told : Question → ℕ → Option Running → Answer → List ℕ
-told (Await n) time running (Holds k) = count_text (await_time n time running)
-told Info time running (Holds k) = info_text running
-told (Codes n) time running (Taken f place words) = codes_text words
-told (Peek from n) time running (Holds k) = codes_text (peeked from n running)
-told question time running answer = answer_text answer
+-- what is reported at a time of a command that was brought to it, where the line answers this
+abbrev pub report : Question → ℕ → Option Running → Answer → List ℕ
+report (Await n) time running (Holds k) = count_text (await_time n time running)
+report Info time running (Holds k) = info_text running
+report (Codes n) time running (Taken f place words) = codes_text words
+report (Peek from n) time running (Holds k) = codes_text (peeked from n running)
+report question time running answer = answer_text answer
 
 -- the command that is asked about, brought to the time of the question
 abbrev pub asked_about : Asked → State → Option Running
 asked_about asked state = (device_at (brought_all asked.time state).devices asked.sub).running
 
--- what is written for a question: what was put out by its time, and what is told
+-- what is written for a question: what was put out by its time, and what is reported
 abbrev pub asked_text : Setting → Asked → State → List ℕ
 asked_text s asked state =
     output_texts (step s (line_of asked) state).outputs
-    ++ told asked.question asked.time (asked_about asked state) (step s (line_of asked) state).answer
+    ++ report asked.question asked.time (asked_about asked state) (step s (line_of asked) state).answer

@@ -1,8 +1,9 @@
 -- How contracts see a command: as a record of its plan and its places.
-use Rattle.std.specs.Prelude.{◌≡◌, ◌+◌, ◌≤◌, Bool, true, false, [], length, take, drop, if◌then◌else◌}
+use Rattle.std.specs.Prelude.{◌≡◌, ◌+◌, ◌≤◌, Bool, true, false, [], length, take, drop, Option, IfSome, if◌then◌else◌}
 use Rattle.cm_expand.specs.PlanView.{plan_text}
 use Rattle.cm_ring_core.specs.Local.{IsLevel, Ring}
 use Rattle.cm_sample.specs.Rule.{munged_word}
+use Rattle.cm_replay.specs.LookAheadView.{Look}
 use Rattle.cm_replay.specs.Planned.{IsSchedule}
 use Rattle.cm_replay.specs.Running.{Running, Schedule, is_out, munge_in, samples}
 use Rattle.cm_replay.specs.Schedules.{schedule_of}
@@ -51,8 +52,13 @@ abbrev pub IsServed : Bool → Schedule → Ring → ToCome → Type 0
 IsServed false s ring board = IsInStep s ring board
 IsServed true s ring board = IsPaced s ring board
 
+-- a look ahead, where there is one, is over this schedule
+abbrev pub LooksOver : Schedule → Option Look → Type 0
+LooksOver s look = IfSome look (λ l. l.schedule ≡ s)
+
 -- a command whose ring and board are in step
 pub record IsCommand (c : Inside) : Type 0 where
   pub planned : IsSchedule (its_schedule c)
   pub out : c.out ≡ is_out (its_schedule c)
   pub served : IsServed c.out (its_schedule c) c.ring c.board
+  pub looks : LooksOver (its_schedule c) c.ahead

@@ -1,5 +1,6 @@
 pub mod Answers
 pub mod Asking
+pub mod Awaiting
 pub mod Calling
 pub mod ComingView
 pub mod CommandView
@@ -12,6 +13,7 @@ pub mod Forms
 pub mod Job
 pub mod JobView
 pub mod Law
+pub mod LookAheadView
 pub mod Planned
 pub mod Playing
 pub mod PlayingView
@@ -20,6 +22,7 @@ pub mod Reading
 pub mod Ready
 pub mod Refusals
 pub mod Replies
+pub mod Reporting
 pub mod Running
 pub mod Schedules
 pub mod SeatView
@@ -27,7 +30,6 @@ pub mod Session
 pub mod SettingView
 pub mod State
 pub mod Storing
-pub mod Telling
 pub mod Testing
 pub mod Texts
 pub mod Timely

@@ -1,15 +1,14 @@
-// What a client is told between the lines of a session.
+// What is reported to a client between the lines of a session.
 ghost use Rattle.std.specs.Prelude.{◌≡◌, ◌<◌, ◌++◌, ◌||◌, not, length, None, OnOk};
 ghost use Rattle.std.specs.List.{All};
 ghost use Rattle.cm_board.specs.Board.{is_unused, takes_commands};
-ghost use Rattle.cm_replay.specs.Asking.{asked_op, asked_text, info_text, line_of};
+ghost use Rattle.cm_replay.specs.Asking.{asked_op, asked_text, await_time, codes_text, info_text, line_of, peeked};
 ghost use Rattle.cm_replay.specs.Forms.{form};
 ghost use Rattle.cm_replay.specs.Replies.{CanAct, CanStep, HasCome, checked, here_at, seat_reply};
 ghost use Rattle.cm_replay.specs.Session as session;
 ghost use Rattle.cm_replay.specs.State.{device_at};
-ghost use Rattle.cm_replay.specs.Telling.{Explains, Tells};
-ghost use Rattle.cm_replay.specs.declared.asked.Question.TheVariants as questions;
-ghost use Rattle.cm_session.specs.declared.op.Op.TheVariants as ops;
+ghost use Rattle.cm_replay.specs.Reporting.{Reports, ReportsAll};
+ghost use Rattle.cm_replay.specs.Texts.{count_text};
 
 use crate::asked::{Asked, Question};
 use crate::at::At;
@@ -32,7 +31,25 @@ fn is_unfit(at: &At<'_>) -> bool
     matches!(sub.kind, Kind::Unused) || !sub.takes_commands()
 }
 
-// Tells the counts of a subdevice's buffer and its end.
+// `Await`: the time at which there is what is awaited.
+fn put_await(
+    alloc: Global,
+    n: u32,
+    time: u64,
+    seat: &mut Seat<'_>,
+    text: &mut Vec<u8>,
+) -> Result<(), NoMemory>
+    ensures same { seat.new ≡ seat.old }
+    ensures text { OnOk result (text.new.items ≡ text.old.items ++ count_text (await_time n time seat.old.running)) }
+{
+    let there = match &mut seat.running {
+        None => time,
+        Some(command) => command.await_time(alloc, n, time)?,
+    };
+    put_count(text, there)
+}
+
+// `Info`: the counts of the buffer and the command's end.
 fn put_info(seat: &Seat<'_>, text: &mut Vec<u8>) -> Result<(), NoMemory>
     ensures { OnOk result (text.new.items ≡ text.old.items ++ info_text seat.now.running) }
 {
@@ -45,64 +62,19 @@ fn put_info(seat: &Seat<'_>, text: &mut Vec<u8>) -> Result<(), NoMemory>
     }
 }
 
-// `Info`: refused with Access (`EACCES`) where another file runs the command.
-fn info(at: &At<'_>, files: &Files, seat: &Seat<'_>, text: &mut Vec<u8>) -> Result<(), NoMemory>
-    requires { at.now.index < length files.now.claims }
-    ensures { OnOk result (Tells questions.Info (here_at at.now files.now seat.now) (checked (form (ops.Contents at.now.index) (here_at at.now files.now seat.now)) (here_at at.now files.now seat.now)) files.now seat.now text.old.items text.new.items) }
+// `Peek`: mapped samples in codes.
+fn put_peek(from: u32, n: u32, seat: &Seat<'_>, text: &mut Vec<u8>) -> Result<(), NoMemory>
+    ensures { OnOk result (text.new.items ≡ text.old.items ++ codes_text (peeked from n seat.now.running)) }
 {
-    if at.is_foreign(files) {
-        return put_refused(text, Errno::Access);
-    }
-    put_info(seat, text)
-}
-
-// `Await`: refused with Access (`EACCES`) where another file runs the command.
-fn await_samples(
-    alloc: Global,
-    at: &At<'_>,
-    n: u32,
-    files: &Files,
-    seat: &Seat<'_>,
-    text: &mut Vec<u8>,
-) -> Result<(), NoMemory>
-    requires { at.now.index < length files.now.claims }
-    ensures { OnOk result (Tells (questions.Await n) (here_at at.now files.now seat.now) (checked (form (ops.Contents at.now.index) (here_at at.now files.now seat.now)) (here_at at.now files.now seat.now)) files.now seat.now text.old.items text.new.items) }
-{
-    if at.is_foreign(files) {
-        return put_refused(text, Errno::Access);
-    }
-    match &seat.running {
-        None => put_count(text, at.time),
-        Some(command) => {
-            let time = command.await_time(alloc, n, at.time)?;
-            put_count(text, time)
-        }
-    }
-}
-
-// `Peek`: refused with Access (`EACCES`) where another file runs the command.
-fn peek(
-    at: &At<'_>,
-    from: u32,
-    n: u32,
-    files: &Files,
-    seat: &Seat<'_>,
-    text: &mut Vec<u8>,
-) -> Result<(), NoMemory>
-    requires { at.now.index < length files.now.claims }
-    ensures { OnOk result (Tells (questions.Peek from n) (here_at at.now files.now seat.now) (checked (form (ops.Contents at.now.index) (here_at at.now files.now seat.now)) (here_at at.now files.now seat.now)) files.now seat.now text.old.items text.new.items) }
-{
-    if at.is_foreign(files) {
-        return put_refused(text, Errno::Access);
-    }
     match &seat.running {
         None => put_count(text, 0),
         Some(command) => command.peek(from, n, text),
     }
 }
 
-// What is told of a subdevice on which commands can run.
-fn tell(
+// What is reported of a subdevice on which commands can run. Refused with Access (`EACCES`) where
+// another file runs the command.
+fn report(
     alloc: Global,
     at: &At<'_>,
     question: Question,
@@ -111,17 +83,20 @@ fn tell(
     text: &mut Vec<u8>,
 ) -> Result<(), NoMemory>
     requires { CanAct at.now (asked_op at.now.index question) None files.old seat.old }
-    ensures { OnOk result (Tells question (here_at at.now files.old seat.old) (checked (form (asked_op at.now.index question) (here_at at.now files.old seat.old)) (here_at at.now files.old seat.old)) files.new seat.new text.old.items text.new.items) }
+    ensures { OnOk result (Reports question (here_at at.now files.old seat.old) (checked (form (asked_op at.now.index question) (here_at at.now files.old seat.old)) (here_at at.now files.old seat.old)) files.new seat.new text.old.items text.new.items) }
 {
     match question {
-        Question::Await { n } => await_samples(alloc, at, n, files, seat, text),
-        Question::Info => info(at, files, seat, text),
         Question::Codes { n } => read_codes(at, n, files, seat, text),
-        Question::Peek { from, n } => peek(at, from, n, files, seat, text),
+        Question::Await { .. } | Question::Info | Question::Peek { .. } if at.is_foreign(files) => {
+            put_refused(text, Errno::Access)
+        }
+        Question::Await { n } => put_await(alloc, n, at.time, seat, text),
+        Question::Info => put_info(seat, text),
+        Question::Peek { from, n } => put_peek(from, n, seat, text),
     }
 }
 
-// What is told of a subdevice. Refused with Io (`EIO`) where no command can run on it.
+// What is reported of a subdevice. Refused with Io (`EIO`) where no command can run on it.
 fn ask_seat(
     alloc: Global,
     at: &At<'_>,
@@ -131,16 +106,16 @@ fn ask_seat(
     text: &mut Vec<u8>,
 ) -> Result<(), NoMemory>
     requires { CanAct at.now (asked_op at.now.index question) None files.old seat.old }
-    ensures { OnOk result (Tells question (here_at at.now files.old seat.old) (seat_reply (asked_op at.now.index question) (here_at at.now files.old seat.old)) files.new seat.new text.old.items text.new.items) }
+    ensures { OnOk result (Reports question (here_at at.now files.old seat.old) (seat_reply (asked_op at.now.index question) (here_at at.now files.old seat.old)) files.new seat.new text.old.items text.new.items) }
 {
     if is_unfit(at) {
         put_refused(text, Errno::Io)
     } else {
-        tell(alloc, at, question, files, seat, text)
+        report(alloc, at, question, files, seat, text)
     }
 }
 
-// What is told once all commands are brought to the time. Refused as `Files::check` is.
+// What is reported once all commands are brought to the time. Refused as `Files::check` is.
 fn ask_on<'a>(
     alloc: Global,
     setting: &Setting<'a>,
@@ -150,7 +125,7 @@ fn ask_on<'a>(
     text: &mut Vec<u8>,
 ) -> Result<(), NoMemory>
     requires { CanStep setting.now (line_of asked.now) None (record { files = files.old; devices = seats.old.items }) }
-    ensures { OnOk result (Explains asked.now.question asked.now.time (device_at seats.old.items asked.now.sub).running (session.act setting.now (line_of asked.now) (line_of asked.now).op (record { files = files.old; devices = seats.old.items })) (record { files = files.new; devices = seats.new.items }) text.old.items text.new.items) }
+    ensures { OnOk result (ReportsAll asked.now.question asked.now.time (device_at seats.old.items asked.now.sub).running (session.act setting.now (line_of asked.now) (line_of asked.now).op (record { files = files.old; devices = seats.old.items })) (record { files = files.new; devices = seats.new.items }) text.old.items text.new.items) }
 {
     let index = asked.sub;
     if let Err(error) = files.check(asked.file, index) {
@@ -174,7 +149,7 @@ fn ask_on<'a>(
     )
 }
 
-/// Brings all commands to the time of a question, and tells what is asked. What the question's line
+/// Brings all commands to the time of a question, and reports what is asked. What the question's line
 /// would be refused is refused here.
 pub(crate) fn ask<'a>(
     alloc: Global,

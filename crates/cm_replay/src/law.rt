@@ -1,4 +1,5 @@
 // What holds of the definitions alone.
+ghost use Rattle.cm_replay.specs.Awaiting.{AwaitLaw};
 ghost use Rattle.cm_replay.specs.Law.{PrefixLaw, SessionLaw};
 ghost use Rattle.cm_replay.specs.Refusals.{ForeignLaw, RefusalLaw, TiedLaw};
 
@@ -29,4 +30,10 @@ pub fn other_files_keep_theirs()
 /// A subdevice stays busy exactly where a command is there.
 pub fn busy_is_having_a_command()
     ensures { TiedLaw }
+{}
+
+/// What is awaited of a command isn't there before the time that is reported, and is there at that
+/// time, or the command has ended by then, or the signals end.
+pub fn an_await_ends_as_soon_as_it_can()
+    ensures { AwaitLaw }
 {}

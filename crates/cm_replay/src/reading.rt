@@ -7,7 +7,7 @@ ghost use Rattle.cm_replay.specs.Forms.{form};
 ghost use Rattle.cm_replay.specs.Reading as spec;
 ghost use Rattle.cm_replay.specs.Ready.{CanMove};
 ghost use Rattle.cm_replay.specs.Replies.{IsReached, Replies, checked, here_at, spot_of};
-ghost use Rattle.cm_replay.specs.Telling.{Tells};
+ghost use Rattle.cm_replay.specs.Reporting.{Reports};
 ghost use Rattle.cm_replay.specs.declared.asked.Question.TheVariants.{Codes};
 ghost use Rattle.cm_session.specs.declared.op.Op.TheVariants as ops;
 ghost use Rattle.cm_sub.specs.Checks.{first_refusal, refuse};
@@ -106,7 +106,7 @@ pub(crate) fn read_codes(
 ) -> Result<(), NoMemory>
     requires within { at.now.index < length files.old.claims }
     requires ready { CanMove (spot_of at.now) at.now.index at.now.time seat.old.running }
-    ensures { OnOk result (Tells (Codes n) (here_at at.now files.old seat.old) (checked (form (ops.Read at.now.index n) (here_at at.now files.old seat.old)) (here_at at.now files.old seat.old)) files.new seat.new text.old.items text.new.items) }
+    ensures { OnOk result (Reports (Codes n) (here_at at.now files.old seat.old) (checked (form (ops.Read at.now.index n) (here_at at.now files.old seat.old)) (here_at at.now files.old seat.old)) files.new seat.new text.old.items text.new.items) }
 {
     let count = mapped(seat);
     if let Err(error) = refuses(at, files, count != 0) {

@@ -82,5 +82,5 @@ pub heard_nothing : (b : Bool) (old new : Option (List Turn)) (line : List ℕ) 
 heard_nothing b old new line e h = subst (λ (b : Bool). Heard (Ok b) old new line) e h
 
 -- the answer that was said is the text
-pub said_text : (old new : Option (List Turn)) (told text : List ℕ) → told ≡ text → Says old new (Answer told ∷ []) → Says old new (Answer text ∷ [])
-said_text old new told text e h = subst (λ (bytes : List ℕ). Says old new (Answer bytes ∷ [])) e h
+pub said_text : (old new : Option (List Turn)) (said text : List ℕ) → said ≡ text → Says old new (Answer said ∷ []) → Says old new (Answer text ∷ [])
+said_text old new said text e h = subst (λ (bytes : List ℕ). Says old new (Answer bytes ∷ [])) e h

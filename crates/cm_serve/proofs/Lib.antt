@@ -5,5 +5,7 @@ pub mod Readings
 pub mod Saying
 pub mod Talking
 pub mod Servings
-pub mod Untimed
 pub mod Replays
+pub mod Fits
+pub mod Limited
+pub mod Records

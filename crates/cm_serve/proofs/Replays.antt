@@ -21,7 +21,7 @@ use Rattle.cm_serve.specs.Law.{AnswersAsReplay, AreSingle, answers}
 use Rattle.cm_serve.specs.Lines.{questions, said_by}
 use Rattle.cm_serve.specs.declared.said.Said.{Said}
 use Rattle.cm_serve.specs.declared.said.Said.TheVariants as says
-use Rattle.cm_serve.proofs.Untimed.{untimed}
+use Rattle.cm_serve.proofs.Limited.{untimed}
 
 -- two tests of a word
 is_not : (word key : List ℕ) → (word ≡ key → ⊥) → bytes_eq word key ≡ false
@@ -41,8 +41,9 @@ asked_never key horizon time words next e = none_listed
     none_listed : listed questions key ≡ None
     none_listed = simp (other (codes "await") (λ n f. cc), other (codes "info") (λ n f. cc), other (codes "codes") (λ n f. cc), other (codes "peek") (λ n f. cc))
 
--- a word of a time is none of those with which other lines begin
-timed_word : (time key : List ℕ) (horizon : ℕ) (words : List (List ℕ)) (next : SessionLine) (word : List ℕ) (fault : Fault) → number_in 0 horizon word ≡ Err fault → keyed (lines_by false) key horizon time words ≡ Ok next → bytes_eq time word ≡ false
+-- a word of a time is none of those with which other lines start
+timed_word : (time key : List ℕ) (horizon : ℕ) (words : List (List ℕ)) (next : SessionLine) (word : List ℕ) (fault : Fault) → number_in 0 horizon word ≡ Err fault →
+    keyed (lines_by false) key horizon time words ≡ Ok next → bytes_eq time word ≡ false
 timed_word time key horizon words next word fault is e =
     is_not time word (λ same. untimed horizon word fault is key words next (ap (λ (t : List ℕ). keyed (lines_by false) key horizon t words) (sym same) ∙ e))
 

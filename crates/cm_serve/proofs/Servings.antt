@@ -13,7 +13,7 @@ use Rattle.cm_serve.specs.Dialogue.{dialogue}
 use Rattle.cm_serve.specs.Heading.{Follows, HasHead, IsHead, head_of, text_of}
 use Rattle.cm_serve.specs.Served.{Declines, Holds, IsCutShort, IsHeld, IsNearlyHeld, Serves, refusal}
 use Rattle.cm_serve.specs.Serving.{conversation, follows, setting_of}
-use Rattle.cm_serve.specs.Stops.{read_stop, talk_stop, too_long}
+use Rattle.cm_serve.specs.Stops.{read_stop, too_long}
 use Rattle.cm_serve.specs.Turns.{Turn, Line, Says}
 use Rattle.cm_serve.specs.declared.heading.Head.{Head}
 use Rattle.cm_serve.specs.declared.serving.Served.{Served}
@@ -21,7 +21,6 @@ use Rattle.cm_serve.specs.declared.serving.Served.TheVariants as served
 use Rattle.cm_serve.specs.declared.stop.ServeStop.{ServeStop}
 use Rattle.cm_serve.specs.declared.stop.ServeStop.TheVariants as serves
 use Rattle.cm_serve.specs.declared.stop.TalkStop.{TalkStop}
-use Rattle.cm_serve.specs.declared.stop.TalkStop.TheVariants as stops
 use Rattle.cm_serve.proofs.Heads.{head-follows, later-head}
 use Rattle.cm_serve.proofs.Saying.{says-more, says-same}
 
@@ -46,19 +45,13 @@ cut_head : (old new : Option (List Turn)) (lines : List (List ℕ)) → IsHead l
 cut_head old new lines e says =
     (lines, map Line lines, follows (setting_of (text_of lines)) (length lines + 1) [], head_alone lines e, says-same old new (map Line lines) (map Line lines ++ []) (sym (append-nil (map Line lines))) says)
 
--- where it is cut short, it may have been for a line that is too long
-holds_stop : (old new : Option (List Turn)) (stop : TalkStop) → IsCutShort old new [] → Holds (Err (talk_stop stop)) old new
-holds_stop old new stops.NoMemory cut = cut
-holds_stop old new stops.ReadFault cut = cut
-holds_stop old new stops.WriteFault cut = cut
-holds_stop old new stops.TooLong cut = inr (refl, cut)
-
-holds_cut : (old new : Option (List Turn)) (r : Result (Unit {0}) ServeStop) (stop : TalkStop) → IsErrAnd r (λ e. e ≡ talk_stop stop) → IsCutShort old new [] → Holds r old new
+-- and whatever cuts it
+holds_cut : (old new : Option (List Turn)) (r : Result (Unit {0}) ServeStop) (stop : TalkStop) → IsErrAnd r (λ e. e ≡ serves.Cut stop) → IsCutShort old new [] → Holds r old new
 holds_cut old new (Ok done) stop e cut = absurd e
-holds_cut old new (Err other) stop e cut = subst (λ (s : ServeStop). Holds (Err s) old new) (sym e) (holds_stop old new stop cut)
+holds_cut old new (Err other) stop e cut = subst (λ (s : ServeStop). Holds (Err s) old new) (sym e) cut
 
 -- no whole head was heard
-pub head-stopped : (old new : Option (List Turn)) (text : List ℕ) (r : Result (Unit {0}) ServeStop) (stop : TalkStop) → IsErrAnd r (λ e. e ≡ talk_stop stop) → HasHead (Err stop) old new text → Holds r old new
+pub head-stopped : (old new : Option (List Turn)) (text : List ℕ) (r : Result (Unit {0}) ServeStop) (stop : TalkStop) → IsErrAnd r (λ e. e ≡ serves.Cut stop) → HasHead (Err stop) old new text → Holds r old new
 head-stopped old new text r stop e h = holds_cut old new r stop e (cut_head old new h.0 h.2 h.1)
 
 -- the head's text is refused
@@ -69,7 +62,7 @@ head-refused old new text same head (Err other) stop e s refused h = subst (λ (
   where
     by : (stop : ReadStop) → Stops stop (setting_of same) → Holds (Err (read_stop stop)) old new
     by reads.NoMemory refused = cut_head old new h.0 (follows-head head.goes_on h.0 h.4) h.1
-    by (reads.Refused refused) is = inl (
+    by (reads.Refused refused) is = (
       h.0,
       map Line h.0,
       ap (λ (head : List (List ℕ)). setting_of (text_of head)) (follows-head head.goes_on h.0 h.4) ∙ (ap setting_of (sym h.2 ∙ sym s) ∙ is),
@@ -128,7 +121,7 @@ session-held old now new text same head s first goes e is n h held =
     )
 
 -- or it was cut short
-pub session-cut : (old now new : Option (List Turn)) (text same : List ℕ) (head : Head) (s : Setting) (first : ℕ) (r : Result (Unit {0}) ServeStop) (stop : TalkStop) → IsErrAnd r (λ e. e ≡ talk_stop stop) →
+pub session-cut : (old now new : Option (List Turn)) (text same : List ℕ) (head : Head) (s : Setting) (first : ℕ) (r : Result (Unit {0}) ServeStop) (stop : TalkStop) → IsErrAnd r (λ e. e ≡ serves.Cut stop) →
     head.goes_on ≡ true → same ≡ text → setting_of same ≡ Ok s → first ≡ head.count + 1 → HasHead (Ok head) old now text → Converses (Err stop) now new (first_play s) first → Holds r old new
 session-cut old now new text same head s first r stop was goes e is n h held =
     let lines : List (List ℕ) = h.0 in
@@ -161,15 +154,21 @@ nearly_cut old now refused h = (h.0, h.1, refusal refused ∷ [], h.3, says-same
 cut_still : (old now new : Option (List Turn)) → new ≡ now → IsCutShort old now [] → IsCutShort old new []
 cut_still old now new e cut = subst (λ (t : Option (List Turn)). IsCutShort old t []) (sym e) cut
 
-any_cut : (old now : Option (List Turn)) (refused : Refused) → Holds (Err (serves.Refused refused)) old now → IsCutShort old now []
-any_cut old now refused (inl h) = nearly_cut old now refused h
-any_cut old now refused (inr h) = h.1
+-- it was reported to the client why it is refused, or that failed
+answered : (old now new : Option (List Turn)) (refused : Refused) (r : Served) → IsCutShort old now [] → (Says now new (refusal refused ∷ []) → Serves served.Refused old new) →
+    Declines r refused now new → Serves r old new
+answered old now new refused served.Done cut says d = absurd d
+answered old now new refused served.ReadFault cut says d = absurd d
+answered old now new refused served.WriteFault cut says d = cut_still old now new d cut
+answered old now new refused served.NoMemory cut says d = cut_still old now new d cut
+answered old now new refused served.Refused cut says d = says d
 
--- the client was told why it is refused, or that failed
-pub told-so : (old now new : Option (List Turn)) (refused : Refused) (r : Served) → Holds (Err (serves.Refused refused)) old now → Declines r refused now new → Serves r old new
-told-so old now new refused served.Done h d = absurd d
-told-so old now new refused served.ReadFault h d = absurd d
-told-so old now new refused served.WriteFault h d = cut_still old now new d (any_cut old now refused h)
-told-so old now new refused served.NoMemory h d = cut_still old now new d (any_cut old now refused h)
-told-so old now new refused served.Refused (inl h) d = inl (h.0, refused, h.2, says-same old new (h.1 ++ refusal refused ∷ []) (conversation h.0) (sym h.3) (says-more old now new h.1 (refusal refused ∷ []) h.4 d))
-told-so old now new refused served.Refused (inr h) d = inr (cut_more old now new (refusal too_long ∷ []) h.1 (subst (λ (r : Refused). Says now new (refusal r ∷ [])) h.0 d))
+-- of the board or the signals
+pub answered-refused : (old now new : Option (List Turn)) (refused : Refused) (r : Served) → IsNearlyHeld refused old now → Declines r refused now new → Serves r old new
+answered-refused old now new refused r h =
+    answered old now new refused r (nearly_cut old now refused h)
+    (λ says. inl (h.0, refused, h.2, says-same old new (h.1 ++ refusal refused ∷ []) (conversation h.0) (sym h.3) (says-more old now new h.1 (refusal refused ∷ []) h.4 says)))
+
+-- or of a line that is too long
+pub answered-cut : (old now new : Option (List Turn)) (r : Served) → IsCutShort old now [] → Declines r too_long now new → Serves r old new
+answered-cut old now new r cut = answered old now new too_long r cut (λ says. inr (cut_more old now new (refusal too_long ∷ []) cut says))

@@ -36,13 +36,13 @@ line_turns old now p first here number line more way =
     ∙ sym (append_assoc way.said (Line line ∷ []) (Answer (reply here number line).text ∷ dialogue (reply here number line).play (next_number number) more))
 
 -- a line more was heard and answered
-pub talk-more : (old now heard told : Option (List Turn)) (p : Play) (first : ℕ) (here after : Play) (number next : ℕ) (line text : List ℕ) →
-    Says now heard (Line line ∷ []) → after ≡ (reply here number line).play → text ≡ (reply here number line).text → Says heard told (Answer text ∷ []) → next ≡ next_number number →
-    IsUnderWay old now p first here number → IsUnderWay old told p first after next
-talk-more old now heard told p first here after number next line text h a t s n way = record {
+pub talk-more : (old now heard answered : Option (List Turn)) (p : Play) (first : ℕ) (here after : Play) (number next : ℕ) (line text : List ℕ) →
+    Says now heard (Line line ∷ []) → after ≡ (reply here number line).play → text ≡ (reply here number line).text → Says heard answered (Answer text ∷ []) → next ≡ next_number number →
+    IsUnderWay old now p first here number → IsUnderWay old answered p first after next
+talk-more old now heard answered p first here after number next line text h a t s n way = record {
   lines = way.lines ++ line ∷ [];
   said = (way.said ++ Line line ∷ []) ++ Answer text ∷ [];
-  says = says-more old heard told (way.said ++ Line line ∷ []) (Answer text ∷ []) (heard_turns old now heard p first here number line way h) s;
+  says = says-more old heard answered (way.said ++ Line line ∷ []) (Answer text ∷ []) (heard_turns old now heard p first here number line way h) s;
   goes_on = λ more. line_turns old now p first here number line more way
       ∙ ap (λ (answer : List ℕ). (way.said ++ Line line ∷ []) ++ (Answer answer ∷ dialogue (reply here number line).play (next_number number) more)) (sym t)
       ∙ ap (λ (q : Play). (way.said ++ Line line ∷ []) ++ (Answer text ∷ dialogue q (next_number number) more)) (sym a)

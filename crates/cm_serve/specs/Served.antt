@@ -36,11 +36,11 @@ Serves other old new = IsCutShort old new []
 abbrev pub IsNearlyHeld : Refused → Option (List Turn) → Option (List Turn) → Type 0
 IsNearlyHeld refused old new = (lines : List (List ℕ)) × (cut : List Turn) × (setting_said lines ≡ Err refused) × (conversation lines ≡ cut ++ refusal refused ∷ []) × Says old new cut
 
--- the same before the answer says why the client is refused
+-- the same before an answer says why the client is refused
 abbrev pub Holds : Result (Unit {0}) ServeStop → Option (List Turn) → Option (List Turn) → Type 0
 Holds (Ok done) old new = IsHeld old new
-Holds (Err (stops.Refused refused)) old new = IsNearlyHeld refused old new ⊎ ((refused ≡ too_long) × IsCutShort old new [])
-Holds (Err other) old new = IsCutShort old new []
+Holds (Err (stops.Refused refused)) old new = IsNearlyHeld refused old new
+Holds (Err (stops.Cut stop)) old new = IsCutShort old new []
 
 -- an answer said why the client is refused, or nothing was said
 abbrev pub Declines : Served → Refused → Option (List Turn) → Option (List Turn) → Type 0

@@ -16,18 +16,11 @@ heard_stop hears.NoMemory = stops.NoMemory
 heard_stop hears.ReadFault = stops.ReadFault
 heard_stop hears.TooLong = stops.TooLong
 
--- what is told where a line is too long
+-- what is reported where a line is too long
 abbrev pub too_long : Refused
 too_long = record { line = 0; cause = TooLong }
 
--- where a dialogue is cut short
-abbrev pub talk_stop : TalkStop → ServeStop
-talk_stop stops.NoMemory = serves.NoMemory
-talk_stop stops.ReadFault = serves.ReadFault
-talk_stop stops.WriteFault = serves.WriteFault
-talk_stop stops.TooLong = serves.Refused too_long
-
 -- where the board or the signals are not read
 abbrev pub read_stop : ReadStop → ServeStop
-read_stop reads.NoMemory = serves.NoMemory
+read_stop reads.NoMemory = serves.Cut stops.NoMemory
 read_stop (reads.Refused refused) = serves.Refused refused

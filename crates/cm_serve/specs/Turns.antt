@@ -1,4 +1,4 @@
--- What a client hears and is told.
+-- What a client says, and what is reported to it.
 use Rattle.std.specs.Prelude.{◌≡◌, ℕ, Bool, true, false, List, ◌++◌, [], ◌∷◌, Option, Result, Ok, Err}
 use Rattle.std.specs.Option.{option_map}
 use Rattle.cm_serve.specs.declared.client.HearStop.{HearStop}

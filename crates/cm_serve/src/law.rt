@@ -1,7 +1,13 @@
 // What holds of the definitions alone.
-ghost use Rattle.cm_serve.specs.Law.{AnswersAsReplay};
+ghost use Rattle.cm_serve.specs.Law.{AnswersAsReplay, RecordReplays};
 
 /// A dialogue whose lines are those of a session answers as `replay` does.
 pub fn a_dialogue_replays()
     ensures { AnswersAsReplay }
+{}
+
+/// The record of a dialogue, with each question as the line that it is in other words, is a session
+/// whose replay gives the dialogue's answers to lines of the session, and leaves the same state.
+pub fn the_record_replays()
+    ensures { RecordReplays }
 {}

@@ -9,8 +9,8 @@ ghost use Rattle.cm_serve.specs.Serving.{setting_of};
 use crate::client::Client;
 use crate::conversing::converse;
 use crate::heading::hear_head;
-use crate::stop::ServeStop;
-use cm_base::faults::{ReadStop, Refused};
+use crate::stop::{ServeStop, TalkStop};
+use cm_base::faults::{Fault, ReadStop, Refused};
 use cm_base::lines::split_lines;
 use cm_base::transfer::{NoMemory, WriteFault};
 use cm_board::board::BoardDesc;
@@ -20,6 +20,12 @@ use cm_signal::reading::read_signals;
 use cm_signal::signals::Signals;
 use std::alloc::Global;
 use std::sync::Wait;
+
+// What is reported where a line, or the part before the session, is too long.
+const TOO_LONG: Refused = Refused {
+    line: 0,
+    cause: Fault::TooLong,
+};
 
 /// How a dialogue ended.
 #[derive(Clone, Copy, Debug, PartialEq, Eq)]
@@ -45,18 +51,19 @@ pub fn serve<R: Wait, C: Client>(rt: &R, alloc: Global, client: &mut C) -> Serve
 {
     match hold(rt, alloc, client) {
         Ok(()) => Served::Done,
-        Err(ServeStop::NoMemory) => Served::NoMemory,
-        Err(ServeStop::ReadFault) => Served::ReadFault,
-        Err(ServeStop::WriteFault) => Served::WriteFault,
         Err(ServeStop::Refused(refused)) => decline(alloc, client, refused),
+        Err(ServeStop::Cut(TalkStop::NoMemory)) => Served::NoMemory,
+        Err(ServeStop::Cut(TalkStop::ReadFault)) => Served::ReadFault,
+        Err(ServeStop::Cut(TalkStop::WriteFault)) => Served::WriteFault,
+        Err(ServeStop::Cut(TalkStop::TooLong)) => decline(alloc, client, TOO_LONG),
     }
 }
 
-// The same, before the client is told why it is refused.
+// The same, before it is reported to the client why it is refused.
 fn hold<R: Wait, C: Client>(rt: &R, alloc: Global, client: &mut C) -> Result<(), ServeStop>
     ensures said { Holds result (C.turns client.old) (C.turns client.new) }
-    ensures read_fault { IsErrOf result ServeStop.ReadFault → Rose (C.faults client.old) (C.faults client.new) }
-    ensures write_fault { IsErrOf result ServeStop.WriteFault → Rose (C.faults client.old) (C.faults client.new) }
+    ensures read_fault { IsErrOf result (ServeStop.Cut TalkStop.ReadFault) → Rose (C.faults client.old) (C.faults client.new) }
+    ensures write_fault { IsErrOf result (ServeStop.Cut TalkStop.WriteFault) → Rose (C.faults client.old) (C.faults client.new) }
     ensures later { C.faults client.old ≤ C.faults client.new }
 {
     let mut text = Vec::new(alloc);
@@ -81,7 +88,7 @@ fn read_setting(alloc: Global, text: &[u8]) -> Result<(BoardDesc, Signals), Read
     Ok((board, signals))
 }
 
-// Tells a client why it is refused.
+// Reports to a client why it is refused.
 fn decline<C: Client>(alloc: Global, client: &mut C, refused: Refused) -> Served
     ensures said { Declines result refused (C.turns client.old) (C.turns client.new) }
     ensures write_fault { result ≡ Served.WriteFault → Rose (C.faults client.old) (C.faults client.new) }

@@ -1,10 +1,11 @@
 // Why a dialogue is cut short, and why it ends.
 ghost use Rattle.std.specs.Prelude.{◌≡◌};
-ghost use Rattle.cm_serve.specs.Stops.{heard_stop, read_stop, talk_stop};
+ghost use Rattle.cm_serve.specs.Stops.{heard_stop, read_stop};
+ghost use Rattle.cm_serve.specs.declared.stop.ServeStop.TheVariants as serves;
 ghost use Rattle.cm_serve.specs.declared.stop.TalkStop.TheVariants as stops;
 
 use crate::client::HearStop;
-use cm_base::faults::{Fault, ReadStop, Refused};
+use cm_base::faults::{ReadStop, Refused};
 use cm_base::transfer::{NoMemory, WriteFault};
 use std::alloc::{AllocError, AllocFailed};
 
@@ -65,10 +66,9 @@ impl From<HearStop> for TalkStop {
 /// Why a whole dialogue isn't held to the end of its input.
 #[derive(Clone, Copy, Debug, PartialEq, Eq)]
 pub(crate) enum ServeStop {
-    NoMemory,
-    ReadFault,
-    WriteFault,
-    /// The client is told this.
+    /// It was cut short.
+    Cut(TalkStop),
+    /// The board or the signals are refused, which is reported to the client.
     Refused(Refused),
 }
 
@@ -77,24 +77,16 @@ impl From<ReadStop> for ServeStop {
 
     fn from(stop: ReadStop) -> ServeStop {
         match stop {
-            ReadStop::NoMemory => ServeStop::NoMemory,
+            ReadStop::NoMemory => ServeStop::Cut(TalkStop::NoMemory),
             ReadStop::Refused(refused) => ServeStop::Refused(refused),
         }
     }
 }
 
 impl From<TalkStop> for ServeStop {
-    ghost from_gives = { λ stop e. e ≡ talk_stop stop };
+    ghost from_gives = { λ stop e. e ≡ serves.Cut stop };
 
     fn from(stop: TalkStop) -> ServeStop {
-        match stop {
-            TalkStop::NoMemory => ServeStop::NoMemory,
-            TalkStop::ReadFault => ServeStop::ReadFault,
-            TalkStop::WriteFault => ServeStop::WriteFault,
-            TalkStop::TooLong => ServeStop::Refused(Refused {
-                line: 0,
-                cause: Fault::TooLong,
-            }),
-        }
+        ServeStop::Cut(stop)
     }
 }

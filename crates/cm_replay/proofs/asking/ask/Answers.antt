@@ -3,7 +3,7 @@ use Rattle.std.proofs.lemmas.Result.{on_ok_weaker}
 use Rattle.cm_replay.specs.Asking.{line_of}
 use Rattle.cm_replay.specs.Replies.{CanStep}
 use Rattle.cm_replay.specs.State.{Device, State}
-use Rattle.cm_replay.proofs.Told.{asked-said, asked-state}
+use Rattle.cm_replay.proofs.Reports.{asked-said, asked-state}
 use Rattle.cm_replay.proofs.asking.ask.Goals as goal
 
 pub ask_on-requires : goal.ask_on-requires
@@ -12,9 +12,9 @@ ask_on-requires c = subst (λ (ds : List Device). CanStep c.args.setting.now (li
 pub returns-clause-after : goal.returns-clause-after
 returns-clause-after c =
     let state : State = record { files = c.args.files.now; devices = c.args.seats.now.items } in
-    on_ok_weaker c.ask_on.result (λ told. asked-state c.args.setting.now c.args.asked.now state c.bring_all.new.seats.items _ c.bring_all.new.text.items c.ask_on.new.text.items c.in_ok-bring_all.ensures.after told) c.ask_on.ensures
+    on_ok_weaker c.ask_on.result (λ reports. asked-state c.args.setting.now c.args.asked.now state c.bring_all.new.seats.items _ c.bring_all.new.text.items c.ask_on.new.text.items c.in_ok-bring_all.ensures.after reports) c.ask_on.ensures
 
 pub returns-clause-text : goal.returns-clause-text
 returns-clause-text c =
     let state : State = record { files = c.args.files.now; devices = c.args.seats.now.items } in
-    on_ok_weaker c.ask_on.result (λ told. asked-said c.args.setting.now c.args.asked.now state c.bring_all.new.seats.items _ c.args.text.now.items c.bring_all.new.text.items c.ask_on.new.text.items c.in_ok-bring_all.ensures.after c.in_ok-bring_all.ensures.text told) c.ask_on.ensures
+    on_ok_weaker c.ask_on.result (λ reports. asked-said c.args.setting.now c.args.asked.now state c.bring_all.new.seats.items _ c.args.text.now.items c.bring_all.new.text.items c.ask_on.new.text.items c.in_ok-bring_all.ensures.after c.in_ok-bring_all.ensures.text reports) c.ask_on.ensures

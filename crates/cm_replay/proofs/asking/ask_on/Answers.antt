@@ -5,7 +5,7 @@ use Rattle.cm_sub.specs.Files.{reach_checks}
 use Rattle.cm_replay.specs.Asking.{line_of}
 use Rattle.cm_replay.specs.State.{Setting, State}
 use Rattle.cm_replay.proofs.Acted.{can-act, same-here}
-use Rattle.cm_replay.proofs.Told.{asked-acted, asked-sub}
+use Rattle.cm_replay.proofs.Reports.{asked-acted, asked-sub}
 use Rattle.cm_replay.proofs.Checks.{reached-within}
 use Rattle.cm_replay.proofs.asking.ask_on.Goals as goal
 

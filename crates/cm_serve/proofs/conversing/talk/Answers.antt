@@ -44,7 +44,8 @@ loop-preserved g c =
       way = talk-more _ (g.C.Client.turns c.loop.client) (g.C.Client.turns c.hear.new.self) _ _ _ here c.in_ok-playing-2.playing n c.saturating_add-number.result line c.put_reply.new.text.items
           (heard_line c.in_ok-hear.field-0 _ _ _ c.if-not-branch.false c.in_ok-hear.ensures.heard)
           (c.in_ok-playing-2.ensures.after ∙ ap (λ (bytes : List ℕ). (reply here n bytes).play) c.deref.ensures.value)
-          (c.in_ok-playing-2.ensures.text ∙ ap (λ (bytes : List ℕ). c.clear-in-loop.new.self.items ++ (reply here n bytes).text) c.deref.ensures.value ∙ ap (λ (before : List ℕ). before ++ (reply here n line).text) c.clear-in-loop.ensures.items)
+          (c.in_ok-playing-2.ensures.text ∙ ap (λ (bytes : List ℕ). c.clear-in-loop.new.self.items ++ (reply here n bytes).text) c.deref.ensures.value
+          ∙ ap (λ (before : List ℕ). before ++ (reply here n line).text) c.clear-in-loop.ensures.items)
           (said_text _ _ c.deref-in-loop.result.now c.put_reply.new.text.items c.deref-in-loop.ensures.value c.in_ok-say.ensures.said)
           c.saturating_add-number.ensures c.loop.invariant.way;
       later = omega (arith, c.loop.invariant.later, c.hear.ensures.later, c.say.ensures.later);

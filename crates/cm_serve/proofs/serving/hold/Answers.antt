@@ -8,7 +8,8 @@ returns-in_err-head-clause-said g c =
 
 pub returns-in_err-board-clause-said : goal.returns-in_err-board-clause-said
 returns-in_err-board-clause-said g c =
-    head-refused _ _ c.hear_head.new.text.items c.deref.result.now c.in_ok-head.head c.from_residual-in_err-board.result c.in_err-board.field-0.0 c.from_residual-in_err-board.ensures.1 c.deref.ensures.value c.in_err-board.ensures.value c.in_ok-head.ensures.head
+    head-refused _ _ c.hear_head.new.text.items c.deref.result.now c.in_ok-head.head c.from_residual-in_err-board.result c.in_err-board.field-0.0
+    c.from_residual-in_err-board.ensures.1 c.deref.ensures.value c.in_err-board.ensures.value c.in_ok-head.ensures.head
 
 pub returns-in_err-converse-clause-said : goal.returns-in_err-converse-clause-said
 returns-in_err-converse-clause-said g c =

@@ -1,15 +1,15 @@
--- What a client is told, against the line that its question is in other words.
+-- What is reported to a client, against the line that its question is in other words.
 use Rattle.std.proofs.Common.{◌≡◌, ℕ, List, [], ◌++◌, map, set, None, Result, Ok, Err, OnOk, refl, sym, ap, ap₂, ◌∙◌, subst, append_assoc}
 use Rattle.cm_sub.specs.Checks.{first_refusal}
 use Rattle.cm_sub.specs.Files.{FilesText, reach_checks}
 use Rattle.cm_session.specs.declared.op.SessionLine.{SessionLine}
 use Rattle.cm_text.specs.Outputs.{output_texts}
-use Rattle.cm_replay.specs.Asking.{asked_op, asked_text, line_of, told}
+use Rattle.cm_replay.specs.Asking.{asked_op, asked_text, line_of, report}
 use Rattle.cm_replay.specs.Forms.{named_sub}
 use Rattle.cm_replay.specs.Replies.{Replies, seat_reply}
 use Rattle.cm_replay.specs.Session.{Outcome, act, act_on, brought_all, brought_device, due_from, here, step, with_reply}
 use Rattle.cm_replay.specs.State.{Device, Here, Setting, State, device_at, idle_device}
-use Rattle.cm_replay.specs.Telling.{Explains, Tells}
+use Rattle.cm_replay.specs.Reporting.{Reports, ReportsAll}
 use Rattle.cm_replay.specs.Texts.{answer_text}
 use Rattle.cm_replay.specs.declared.asked.Asked.{Asked}
 use Rattle.cm_replay.specs.declared.asked.Question.{Question}
@@ -31,10 +31,10 @@ asked-acts s line sub Info state = refl
 asked-acts s line sub (Codes n) state = refl
 asked-acts s line sub (Peek from n) state = refl
 
--- what is told of its subdevice is what the question's line leads to
+-- what is reported of its subdevice is what the question's line leads to
 pub asked-acted : {E : Type 0} (s : Setting) (asked : Asked) (state : State) (i : ℕ) (h : Here) (result : Result (Unit {0}) E) (files : FilesText) (device : Device) (old new : List ℕ) → h ≡ here s (line_of asked) state → h.index ≡ i →
-    first_refusal (reach_checks asked.file i state.files) ≡ None → OnOk result (Tells asked.question h (seat_reply (line_of asked).op h) files device old new) →
-    OnOk result (Explains asked.question asked.time (device_at state.devices asked.sub).running (act s (line_of asked) (line_of asked).op state) (record { files = files; devices = set state.devices i device }) old new)
+    first_refusal (reach_checks asked.file i state.files) ≡ None → OnOk result (Reports asked.question h (seat_reply (line_of asked).op h) files device old new) →
+    OnOk result (ReportsAll asked.question asked.time (device_at state.devices asked.sub).running (act s (line_of asked) (line_of asked).op state) (record { files = files; devices = set state.devices i device }) old new)
 asked-acted s asked state i h (Err e) files device old new same index reached tells = tt
 asked-acted s asked state i h (Ok u) files device old new same index reached tells =
     let line = line_of asked in
@@ -48,25 +48,25 @@ asked-acted s asked state i h (Ok u) files device old new same index reached tel
     let replies : Replies (seat_reply op h) files device [] (answer_text (seat_reply op h).answer) = record { its_files = tells.its_files; its_device = tells.its_device; reported = refl } in
     record {
       after = (acted {E = Unit {0}} s line state i h (Ok u) files device [] (answer_text (seat_reply op h).answer) same index reached replies).after ∙ ap (λ (t : Outcome). t.state) (sym acts);
-      reported = tells.reported ∙ ap (λ (x : Here). old ++ told q x.time x.device.running (seat_reply op x).answer) same
-          ∙ ap (λ k. old ++ told q asked.time (device_at state.devices k).running (seat_reply op n).answer) (asked-sub asked.sub q)
-          ∙ ap (λ (t : Outcome). old ++ told q asked.time (device_at state.devices asked.sub).running t.answer) (sym (acts ∙ led));
+      reported = tells.reported ∙ ap (λ (x : Here). old ++ report q x.time x.device.running (seat_reply op x).answer) same
+          ∙ ap (λ k. old ++ report q asked.time (device_at state.devices k).running (seat_reply op n).answer) (asked-sub asked.sub q)
+          ∙ ap (λ (t : Outcome). old ++ report q asked.time (device_at state.devices asked.sub).running t.answer) (sym (acts ∙ led));
     }
 
 -- a question after all commands were brought to its time
 pub asked-state : (s : Setting) (asked : Asked) (state : State) (devices : List Device) (after : State) (before new : List ℕ) → devices ≡ map (brought_device asked.time) state.devices →
-    Explains asked.question asked.time (device_at devices asked.sub).running (act s (line_of asked) (line_of asked).op (record { files = state.files; devices = devices })) after before new →
+    ReportsAll asked.question asked.time (device_at devices asked.sub).running (act s (line_of asked) (line_of asked).op (record { files = state.files; devices = devices })) after before new →
     after ≡ (step s (line_of asked) state).state
 asked-state s asked state devices after before new brought explained = explained.after ∙ ap (λ (ds : List Device). (act s (line_of asked) (line_of asked).op (record { files = state.files; devices = ds })).state) brought
 
 pub asked-said : (s : Setting) (asked : Asked) (state : State) (devices : List Device) (after : State) (old before new : List ℕ) → devices ≡ map (brought_device asked.time) state.devices →
     before ≡ old ++ output_texts (due_from 0 asked.time state.devices) →
-    Explains asked.question asked.time (device_at devices asked.sub).running (act s (line_of asked) (line_of asked).op (record { files = state.files; devices = devices })) after before new →
+    ReportsAll asked.question asked.time (device_at devices asked.sub).running (act s (line_of asked) (line_of asked).op (record { files = state.files; devices = devices })) after before new →
     new ≡ old ++ asked_text s asked state
 asked-said s asked state devices after old before new brought put explained =
     let line = line_of asked in
     let outputs = output_texts (due_from 0 asked.time state.devices) in
-    let said : List ℕ = told asked.question asked.time (device_at (brought_all asked.time state).devices asked.sub).running (step s line state).answer in
+    let said : List ℕ = report asked.question asked.time (device_at (brought_all asked.time state).devices asked.sub).running (step s line state).answer in
     explained.reported
-    ∙ ap₂ (λ xs (ds : List Device). xs ++ told asked.question asked.time (device_at ds asked.sub).running (act s line line.op (record { files = state.files; devices = ds })).answer) put brought
+    ∙ ap₂ (λ xs (ds : List Device). xs ++ report asked.question asked.time (device_at ds asked.sub).running (act s line line.op (record { files = state.files; devices = ds })).answer) put brought
     ∙ append_assoc old outputs said

@@ -1,17 +1,17 @@
 use Rattle.std.proofs.Common.{sym, ap, ap₂, ◌∙◌, arith, List}
 use Rattle.cm_expand.specs.Taking.{come}
 use Rattle.cm_expand.specs.declared.conv.Conv.{Conv}
-use Rattle.cm_fifo.specs.Handed.{last_time}
+use Rattle.cm_replay.specs.Asking.{last_after}
 use Rattle.cm_replay.specs.ToCome.{ToCome}
 use Rattle.cm_replay.proofs.Awaited.{passed-all, passed-more}
-use Rattle.cm_replay.proofs.waiting.pass.Goals as goal
+use Rattle.cm_replay.proofs.look_ahead.pass.Goals as goal
 
 pub loop-passed-preserved : goal.loop-passed-preserved
 loop-passed-preserved c =
     let way = c.loop-passed.invariant in
     let all = c.args.coming.now.conversions in
     let left = sym (ap (λ (t : ToCome). t.conversions) way.left) ∙ c.in-Some.ensures.conversions.0 in
-    let more = passed-more all c.loop-passed.passed c.in-Some.conversion c.next_by.new.self.conversions left in
+    let more = passed-more c.args.before all c.loop-passed.passed c.in-Some.conversion c.next_by.new.self.conversions left in
     record {
       few = omega (arith, c.loop-passed-test.true);
       last = more.1;
@@ -22,7 +22,7 @@ pub returns-in_default-clause-last : goal.returns-in_default-clause-last
 returns-in_default-clause-last c =
     let way = c.loop-passed.invariant in
     let none = sym (ap (λ (t : ToCome). come c.args.horizon t.conversions) way.left) ∙ c.in_default.ensures.conversions.1 in
-    way.last ∙ ap last_time (passed-all c.args.horizon c.args.coming.now.conversions c.loop-passed.passed c.args.count c.requires way.few none).1
+    way.last ∙ ap (last_after c.args.before) (passed-all c.args.horizon c.args.coming.now.conversions c.loop-passed.passed c.args.count c.requires way.few none).1
 
 pub returns-in_default-clause-after : goal.returns-in_default-clause-after
 returns-in_default-clause-after c =

@@ -1,12 +1,12 @@
 use Rattle.std.proofs.Common.{◌≡◌, ◌-◌, ◌≤◌, take, drop}
-use Rattle.cm_fifo.specs.Handed.{last_time}
-use Rattle.cm_replay.proofs.waiting.pass.Given as goal
+use Rattle.cm_replay.specs.Asking.{last_after}
+use Rattle.cm_replay.proofs.look_ahead.pass.Given as goal
 
 -- the first conversions were passed
 abbrev pub invariant-loop-passed : goal.invariant-loop-passed
 invariant-loop-passed l = record {
   few : l.passed ≤ l.count;
-  last : l.last ≡ last_time (take l.passed l.initial.coming.conversions);
+  last : l.last ≡ last_after l.before (take l.passed l.initial.coming.conversions);
   left : l.coming ≡ record l.initial.coming { conversions = drop l.passed l.initial.coming.conversions };
 }
 

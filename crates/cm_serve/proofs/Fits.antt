@@ -1,0 +1,92 @@
+-- What a line says isn't before the line before it nor after the horizon, and has its limits.
+use Rattle.std.proofs.Common.{◌≡◌, ℕ, ◌≤◌, Bool, true, false, List, [], ◌∷◌, codes, Option, Some, None, Result, Ok, Err, refl}
+use Rattle.std.specs.Prelude.{nat_le, drop, IfOk, IfSome, if◌then◌else◌}
+use Rattle.std.proofs.lemmas.Bool.{leb-true}
+use Rattle.cm_base.specs.Lines.{LineText}
+use Rattle.cm_base.specs.Parts.{begins}
+use Rattle.cm_base.specs.Words.{four_words, listed, no_words, number_in}
+use Rattle.cm_base.specs.declared.faults.Fault.{Fault}
+use Rattle.cm_base.specs.declared.faults.Fault.TheVariants.{Bad, BadLine}
+use Rattle.cm_cmd.specs.CommandText.{command_of}
+use Rattle.cm_cmd.specs.PrintedReads.{HasText}
+use Rattle.cm_session.specs.Forms.{number_words, place_of, sub_words}
+use Rattle.cm_session.specs.Limits.{HasLimits, IsLimited}
+use Rattle.cm_session.specs.SessionPart.{line_after, line_words}
+use Rattle.cm_replay.specs.Asking.{asked_op, line_of}
+use Rattle.cm_replay.specs.declared.asked.Asked.{Asked}
+use Rattle.cm_replay.specs.declared.asked.Question.{Question}
+use Rattle.cm_replay.specs.declared.asked.Question.TheVariants.{Await, Info, Codes, Peek}
+use Rattle.cm_serve.specs.Lines.{QuestionForm, counted, next_line, plain, questions, ranged, ranged_words, said_by, timed, worded}
+use Rattle.cm_serve.specs.Reading.{IsFit}
+use Rattle.cm_serve.specs.declared.said.Said.TheVariants as says
+use Rattle.cm_serve.proofs.Limited.{Each, command_said, line_limited, listed_has, number_most, number_timed, place_timed, sub_timed, then_any, then_has}
+
+-- one of two
+if_has : {X : Type 0} (P : X → Type 0) (b : Bool) (r t : Result X Fault) → IfOk r P → IfOk t P → IfOk (if b then r else t) P
+if_has P true r t h k = h
+if_has P false r t h k = k
+
+-- what may not be below a time isn't
+after_has : {X : Type 0} (P : X → Type 0) (before time : ℕ) (x : X) → (before ≤ time → P x) → IfOk (let r : Result X Fault = if nat_le before time then Ok x else Err Bad in r) P
+after_has {X} P before time x h = by (nat_le before time) refl
+  where
+    by : (b : Bool) → nat_le before time ≡ b → IfOk (let r : Result X Fault = if b then Ok x else Err Bad in r) P
+    by true e = h (leb-true before time e)
+    by false e = tt
+
+-- what is asked has the limits of the line that it is in other words
+abbrev pub IsAskable : ℕ → Asked → Type 0
+IsAskable horizon asked = IsLimited horizon (line_of asked)
+
+-- the forms of questions, with the limits on what stands after their subdevices
+module _ (horizon : ℕ) (time : List ℕ) (words : List (List ℕ)) where
+  plain-limited : (question : Question) → ((sub : ℕ) → HasLimits (asked_op sub question)) → IfOk (plain question horizon time words) (IsAskable horizon)
+  plain-limited question limits = then_has (λ w. w.0.time ≤ horizon) _ (sub_words horizon time words) _ (sub_timed _ horizon time (number_most 0 horizon time) words) (λ w within. (within, limits w.1))
+
+  counted-limited : (make : ℕ → Question) → ((sub n : ℕ) → n ≤ 65536 → HasLimits (asked_op sub (make n))) → IfOk (counted make horizon time words) (IsAskable horizon)
+  counted-limited make limits =
+      then_has (λ w. (w.0.time ≤ horizon) × (w.2 ≤ 65536)) _ (number_words 65536 horizon time words) _ (number_timed _ horizon time (number_most 0 horizon time) 65536 words)
+      (λ w within. (within.0, limits w.1 w.2 within.1))
+
+  ranged_within : IfOk (ranged_words horizon time words) (λ w. w.0.time ≤ horizon)
+  ranged_within =
+      then_any _ (four_words words) _ (λ w. then_has (λ at. at.0.time ≤ horizon) _ (place_of horizon time w.0 w.1) _ (place_timed _ horizon time (number_most 0 horizon time) w.0 w.1)
+      (λ at within. then_any _ (number_in 0 65536 w.2) _ (λ from. then_any _ (number_in 0 65536 w.3) _ (λ n. within))))
+
+  ranged-limited : (make : ℕ → ℕ → Question) → ((sub from n : ℕ) → HasLimits (asked_op sub (make from n))) → IfOk (ranged make horizon time words) (IsAskable horizon)
+  ranged-limited make limits = then_has (λ w. w.0.time ≤ horizon) _ (ranged_words horizon time words) _ ranged_within (λ w within. (within, limits w.1 w.2 w.3))
+
+  questions-limited : Each (λ (form : QuestionForm). IfOk (form horizon time words) (IsAskable horizon)) questions
+  questions-limited = (
+    counted-limited Await (λ sub n few. tt),
+    (plain-limited Info (λ sub. tt), (counted-limited Codes (λ sub n few. few), (ranged-limited Peek (λ sub from n. tt), tt))),
+  )
+
+-- a line of the session
+next_fits : (horizon before : ℕ) (line : LineText) → IfOk (next_line horizon before line) (IsFit horizon before)
+next_fits horizon before line =
+    then_has (λ next. (before ≤ next.time) × IsLimited horizon next) (IsFit horizon before) (line_after false horizon before line) (λ next. Ok (says.Session next))
+    (if_has _ line.bad (Err BadLine) _ tt
+    (then_has (IsLimited horizon) _ (line_words false horizon line.words) _ (line_limited horizon line.words) (λ next limits. after_has _ before next.time next (λ after. (after, limits)))))
+    (λ next fits. fits)
+
+-- or a question
+timed_fits : (horizon before : ℕ) (line : LineText) (time : List ℕ) (words : List (List ℕ)) (form : Option QuestionForm) → IfSome form (λ f. IfOk (f horizon time words) (IsAskable horizon)) →
+    IfOk (timed horizon before line time words form) (IsFit horizon before)
+timed_fits horizon before line time words None is = next_fits horizon before line
+timed_fits horizon before line time words (Some form) is =
+    then_has (IsAskable horizon) _ (form horizon time words) _ is (λ asked limits. after_has _ before asked.time (says.Question asked) (λ after. (after, limits)))
+
+worded_fits : (horizon before : ℕ) (line : LineText) (words : List (List ℕ)) → IfOk (worded horizon before line words) (IsFit horizon before)
+worded_fits horizon before line [] = tt
+worded_fits horizon before line (time ∷ []) = tt
+worded_fits horizon before line (time ∷ key ∷ words) =
+    timed_fits horizon before line time words (listed questions key) (listed_has (λ (form : QuestionForm). IfOk (form horizon time words) (IsAskable horizon)) questions key (questions-limited horizon time words))
+
+-- or what has no time
+pub said_fits : (horizon before : ℕ) (line : LineText) → IfOk (said_by horizon before line) (IsFit horizon before)
+said_fits horizon before line =
+    if_has _ line.bad (Err BadLine) _ tt
+    (if_has _ (begins (codes "describe") line) _ _ (then_any _ (no_words (drop 1 line.words)) _ (λ none. tt))
+    (if_has _ (begins (codes "test") line) _ _ (then_has HasText _ (command_of (drop 1 line.words)) _ (command_said (drop 1 line.words)) (λ cmd text. text))
+    (worded_fits horizon before line line.words)))
