@@ -1,6 +1,7 @@
 -- What a client has read once it has found the end: of a paced ring without a stop the whole plan.
 use Rattle.std.proofs.Common.{◌≡◌, ℕ, ◌≤◌, List, length, refl, sym, subst, true, false, Option, Some, None, ap, ◌∙◌, inl, inr, arith}
 use Rattle.std.proofs.Math.Seq.{take-length}
+use Rattle.std.proofs.lemmas.List.{length-take-le}
 use Rattle.cm_ring_core.specs.declared.view.RingConstants.{RingConstants}
 use Rattle.cm_ring_core.specs.declared.view.ReaderPart.{ReaderPart}
 use Rattle.cm_ring_core.specs.declared.view.End.{End}
@@ -10,7 +11,7 @@ use Rattle.cm_ring_core.specs.Lawful.{IsFoundEnd}
 use Rattle.cm_sample.specs.Rule.{munged_word}
 use Rattle.cm_ring.specs.Roles.{Reading}
 use Rattle.cm_client.specs.Samples.{munged_plan, first_munged}
-use Rattle.cm_client.specs.Progress.{up_to, IsTaken, IsSameRing, HasAll, Stops, IsReadToEnd}
+use Rattle.cm_client.specs.Progress.{up_to, IsTaken, IsSameRing, Stops, IsReadToEnd}
 use Rattle.cm_client.proofs.Pieces.{length-map_from, up_to_taken, is_taken}
 
 -- as many munged samples as the plan has are the whole munged plan
@@ -24,43 +25,45 @@ whole_plan ring r Done count paced asked found = (refl, ap (λ (n : ℕ). first_
 whole_plan ring r Overrun count paced asked found = absurd (let free = found.3 in cc)
 whole_plan ring r Cancelled count paced asked found = absurd cc
 
+-- there are as many first munged samples as are asked for
+length-first : (ring : RingConstants) (count : ℕ) → count ≤ length ring.samples → length (first_munged ring count) ≡ count
+length-first ring count within = length-take-le count (munged_plan ring) (omega (arith, within, length-map_from (munged_word ring.rule) 0 ring.samples))
+
 -- a client that stopped at the end that it found has read to the end
-pub read_at_end : (old r : Reading) (most : Option ℕ) (words : List ℕ) (e : End) → IsSameRing old r → r.part.asked ≡ old.part.asked → HasAll r words → Stops r most (Some e)
-    → IsReadToEnd old r most words e
-read_at_end old r most words e of asked all stops =
-    let within : r.part.released ≤ length r.ring.samples = all.within in
+pub read_at_end : (old r : Reading) (most : Option ℕ) (e : End) → IsSameRing old r → r.part.asked ≡ old.part.asked → r.mapped ≡ 0 → r.part.released ≤ length r.ring.samples → Stops r most (Some e)
+    → IsReadToEnd old r most (first_munged old.ring (up_to e.count most)) e
+read_at_end old r most e of asked unmapped inside stops =
     let same : length r.ring.samples ≡ length old.ring.samples = ap (λ (x : RingConstants). length x.samples) of.1 in
     let at : r.part.released ≡ up_to e.count most = stops.2 in
     record {
-      are = all.are ∙ (ap (λ (n : ℕ). first_munged r.ring n) at ∙ ap (λ (x : RingConstants). first_munged x (up_to e.count most)) of.1);
-      count = all.count ∙ at;
+      are = refl;
+      count = length-first old.ring (up_to e.count most) (omega (arith, inside, same, at));
       released = at;
-      none_mapped = all.none_mapped;
-      within = omega arith;
+      none_mapped = unmapped;
+      within = omega (arith, inside, same, at);
       found = stops.0;
       says = stops.3;
       cancelled = λ kind unasked. absurd (let is_asked : r.part.asked ≡ true = subst (λ (k : EndKind). IsFoundEnd r.ring r.part k e.count) kind stops.3 in cc);
       asked = inl asked;
       whole = λ paced unasked _.
           let whole = whole_plan r.ring r.part e.kind e.count (ap (λ (x : RingConstants). x.paced) of.1 ∙ paced) (asked ∙ unasked) stops.3 in
-          (whole.0, all.are ∙ (ap (λ (n : ℕ). first_munged r.ring n) stops.1 ∙ (whole.1 ∙ ap (λ (x : RingConstants). munged_plan x) of.1)));
+          (whole.0, ap (λ (n : ℕ). first_munged old.ring n) (sym at ∙ stops.1) ∙ ap (λ (x : RingConstants). first_munged x e.count) (sym of.1) ∙ whole.1 ∙ ap (λ (x : RingConstants). munged_plan x) of.1);
     }
 
 -- a client that has as many samples as it takes, and then asked for the stop and found the end, has read to the end
-pub read_taken : (old r new : Reading) (most : Option ℕ) (words : List ℕ) (e : End) → IsSameRing old r → HasAll r words → Stops r most None
+pub read_taken : (old r new : Reading) (most : Option ℕ) (e : End) → IsSameRing old r → r.mapped ≡ 0 → r.part.released ≤ length r.ring.samples → Stops r most None
     → new ≡ record r { part = record r.part { asked = true; found = Some e; end_looks = new.part.end_looks } } → r.part.released ≤ e.count → IsFoundEnd new.ring new.part e.kind e.count
-    → IsReadToEnd old new most words e
-read_taken old r new most words e of all stops same above says =
+    → IsReadToEnd old new most (first_munged old.ring (up_to e.count most)) e
+read_taken old r new most e of unmapped inside stops same above says =
     let at : up_to e.count most ≡ r.part.released = up_to_taken most r.part.released e.count stops above in
     let taken : IsTaken most e.count = is_taken most r.part.released e.count stops above in
-    let within : r.part.released ≤ length r.ring.samples = all.within in
     let ring : length r.ring.samples ≡ length old.ring.samples = ap (λ (x : RingConstants). length x.samples) of.1 in
     record {
-      are = all.are ∙ (ap (λ (n : ℕ). first_munged r.ring n) (sym at) ∙ ap (λ (x : RingConstants). first_munged x (up_to e.count most)) of.1);
-      count = all.count ∙ sym at;
+      are = refl;
+      count = length-first old.ring (up_to e.count most) (omega (arith, inside, ring, at));
       released = ap (λ (x : Reading). x.part.released) same ∙ sym at;
-      none_mapped = ap (λ (x : Reading). x.mapped) same ∙ all.none_mapped;
-      within = omega arith;
+      none_mapped = ap (λ (x : Reading). x.mapped) same ∙ unmapped;
+      within = omega (arith, inside, ring, at);
       found = ap (λ (x : Reading). x.part.found) same;
       says = says;
       cancelled = λ _ _. taken;

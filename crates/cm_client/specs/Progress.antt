@@ -1,10 +1,11 @@
 -- What a client has read of a ring, and where it stops.
-use Rattle.std.specs.Prelude.{◌≡◌, ◌⊎◌, ℕ, ◌+◌, ◌≤◌, min, List, ◌++◌, length, true, false, Option, Some, None}
+use Rattle.std.specs.Prelude.{◌≡◌, ◌⊎◌, ℕ, ◌+◌, ◌<◌, ◌≤◌, min, List, length, true, false, Option, Some, None}
 use Rattle.cm_ring_core.specs.declared.view.End.{End}
 use Rattle.cm_ring_core.specs.declared.view.EndKind.TheVariants.{Done, Cancelled}
-use Rattle.cm_ring_core.specs.Lawful.{IsFoundEnd}
+use Rattle.cm_ring_core.specs.declared.view.RingConstants.{RingConstants}
+use Rattle.cm_ring_core.specs.Lawful.{IsFoundEnd, munged_at}
 use Rattle.cm_ring.specs.Roles.{Reading}
-use Rattle.cm_client.specs.Samples.{first_munged, munged_plan, piece}
+use Rattle.cm_client.specs.Samples.{first_munged, munged_plan}
 
 -- the smaller of a count and a number that may be missing
 abbrev pub up_to : ℕ → Option ℕ → ℕ
@@ -20,18 +21,22 @@ IsTaken (Some most) count = most ≤ count
 abbrev pub IsSameRing : Reading → Reading → Type 0
 IsSameRing old new = (new.table ≡ old.table) × (new.ring ≡ old.ring)
 
--- a reader has released so many samples more, which stand at the end of its words
-pub record HasRead (old new : Reading) (had has : List ℕ) (count : ℕ) : Type 0 where
+-- a reader has released so many samples more
+pub record HasRead (old new : Reading) (count : ℕ) : Type 0 where
   pub same : new ≡ record old { part = record old.part { released = old.part.released + count; known = new.part.known; munged_looks = new.part.munged_looks } }
-  pub words : has ≡ had ++ piece old.ring old.part.released count
   pub within : old.part.released + count ≤ length old.ring.samples
 
--- the words are all those that the reader has released
-pub record HasAll (r : Reading) (words : List ℕ) : Type 0 where
+-- a word may be the sample of a place, for each munged sample of a ring
+abbrev pub Accepts : (ℕ → ℕ → Type 0) → RingConstants → Type 0
+Accepts accepts ring = (place : ℕ) → place < length ring.samples → accepts place (munged_at ring place)
+
+-- all samples that the reader has released were handed over, and each sample of its ring may be
+pub record HasAll (count : ℕ) (made : List ℕ) (makes : List ℕ → List ℕ) (may : ℕ → ℕ → Type 0) (r : Reading) : Type 0 where
   pub none_mapped : r.mapped ≡ 0
-  pub are : words ≡ first_munged r.ring r.part.released
-  pub count : length words ≡ r.part.released
+  pub are : made ≡ makes (first_munged r.ring r.part.released)
+  pub counted : count ≡ r.part.released
   pub within : r.part.released ≤ length r.ring.samples
+  pub accepts : Accepts may r.ring
 
 -- why a client reads no further: it has as many samples as it takes, or all up to the end that it found
 abbrev pub Stops : Reading → Option ℕ → Option End → Type 0

@@ -25,8 +25,10 @@ pub fn copy_read<P: Planned>(reader: &mut Reader<P>, out: &mut [u32]) -> usize
     }
     let most = out.len().min(65536) as u32;
     let count = reader.map(most);
-    copy_mapped(reader, out, count);
-    reader.release(count);
+    if count > 0 {
+        copy_mapped(reader, out, count);
+        reader.release(count);
+    }
     count as usize
 }
 

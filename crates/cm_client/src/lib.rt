@@ -2,6 +2,7 @@
 // it, and clients that read by copying or in place.
 #![tactic(auto)]
 
+pub mod consuming;
 pub mod copying;
 pub mod feeding;
 pub mod mapping;

@@ -1,9 +1,10 @@
 // Reads to the end of a ring.
-ghost use Rattle.std.specs.Prelude.{◌≡◌, ◌+◌, ◌-◌, ◌<◌, ◌≤◌, ◌++◌, ◌≢◌, min, length, take, true, Some, None, IfOk, IfSome, IsTrue, IsFalse, OnErr, MatchOption, ⊤};
-ghost use Rattle.cm_client.specs.Samples.{piece};
-ghost use Rattle.cm_client.specs.Progress.{HasRead, HasAll, IsReadToEnd, IsSameRing, Stops};
+ghost use Rattle.std.specs.Prelude.{◌≡◌, ◌+◌, ◌-◌, ◌<◌, ◌≤◌, ◌++◌, ◌≢◌, [], min, length, drop, take, true, Some, None, IfOk, IfSome, IsTrue, IsFalse, OnErr, MatchOption, ⊤};
+ghost use Rattle.cm_client.specs.Samples.{first_munged, piece};
+ghost use Rattle.cm_client.specs.Progress.{Accepts, HasRead, HasAll, IsReadToEnd, IsSameRing, Stops, up_to};
 ghost use Rattle.cm_ring_core.specs.Lawful.{IsFoundEnd};
 
+use crate::consuming::Consumer;
 use crate::copying::copy_read;
 use crate::mapping::MapReader;
 use cm_base::gate::Gate;
@@ -12,92 +13,120 @@ use cm_ring::reader::Reader;
 use cm_ring_core::view::End;
 use cm_sample::planned::Planned;
 use crossbeam_utils::Backoff;
-use std::alloc::{AllocError, Global};
+use std::alloc::Global;
 use std::sync::Wait;
 
 const PIECE: usize = 64;
 
 // Reads a piece by copying, by way of `room`.
-#[tactic(auto, using(crate::proofs::Pieces::copied_piece))]
-fn copy_piece<P: Planned>(
+fn copy_piece<P: Planned, C: Consumer>(
     reader: &mut Reader<P>,
-    words: &mut Vec<u32>,
+    consumer: &mut C,
     room: &mut [u32],
-) -> Result<u32, AllocError>
-    requires mapped { reader.old.mapped ≡ 0 }
-    requires some { (0 < length room.old) × (length room.old ≤ 64) }
-    ensures read { IfOk result (HasRead reader.old reader.new words.old.items words.new.items) }
+) -> Result<u32, NoMemory>
+    requires all { HasAll (C.count consumer.old) (C.made consumer.old) (C.makes consumer.old) (C.accepts consumer.old) reader.old }
+    requires some { 0 < length room.old }
+    requires small { length room.old ≤ 64 }
+    ensures all { IfOk result (λ _. HasAll (C.count consumer.new) (C.made consumer.new) (C.makes consumer.new) (C.accepts consumer.new) reader.new) }
+    ensures read { IfOk result (λ count. HasRead reader.old reader.new count) }
     ensures few { IfOk result (λ count. count ≤ length room.old) }
+    ensures makes { C.makes consumer.new ≡ C.makes consumer.old }
     ensures of { IsSameRing reader.old reader.new }
 {
     let count = copy_read(reader, room);
-    words.extend_from_slice(&room[..count])?;
+    if count == 0 {
+        return Ok(0);
+    }
+    consumer.consume(&room[..count])?;
     Ok(count as u32)
 }
 
 // Reads a piece in place.
-fn map_piece<P: Planned, G: Gate>(
+fn map_piece<P: Planned, C: Consumer, G: Gate>(
     reader: &mut Reader<P>,
-    words: &mut Vec<u32>,
-    most: u32,
+    consumer: &mut C,
+    room: &mut [u32],
     gate: &G,
     who: u32,
-) -> Result<u32, AllocError>
-    requires { reader.old.mapped ≡ 0 }
-    ensures read { IfOk result (HasRead reader.old reader.new words.old.items words.new.items) }
-    ensures few { IfOk result (λ count. count ≤ most) }
+) -> Result<u32, NoMemory>
+    requires all { HasAll (C.count consumer.old) (C.made consumer.old) (C.makes consumer.old) (C.accepts consumer.old) reader.old }
+    requires small { length room.old ≤ 64 }
+    ensures all { IfOk result (λ _. HasAll (C.count consumer.new) (C.made consumer.new) (C.makes consumer.new) (C.accepts consumer.new) reader.new) }
+    ensures read { IfOk result (λ count. HasRead reader.old reader.new count) }
+    ensures few { IfOk result (λ count. count ≤ length room.old) }
+    ensures makes { C.makes consumer.new ≡ C.makes consumer.old }
     ensures of { IsSameRing reader.old reader.new }
 {
     let mut map = MapReader::new(reader);
-    let count = map.contents(most);
-    push_words(&mut map, words, count)?;
-    if count > 0 {
-        gate.pass(who, 3);
-        map.release(count);
+    hand_over(&mut map, consumer, room, gate, who)
+}
+
+// Maps a piece, hands its words over by way of `room`, and releases it.
+fn hand_over<P: Planned, C: Consumer, G: Gate>(
+    map: &mut MapReader<'_, P>,
+    consumer: &mut C,
+    room: &mut [u32],
+    gate: &G,
+    who: u32,
+) -> Result<u32, NoMemory>
+    requires all { HasAll (C.count consumer.old) (C.made consumer.old) (C.makes consumer.old) (C.accepts consumer.old) map.old.reader.now }
+    requires small { length room.old ≤ 64 }
+    ensures same_reader { map.new.reader.ghost_name ≡ map.old.reader.ghost_name }
+    ensures all { IfOk result (λ _. HasAll (C.count consumer.new) (C.made consumer.new) (C.makes consumer.new) (C.accepts consumer.new) map.new.reader.now) }
+    ensures read { IfOk result (λ count. HasRead map.old.reader.now map.new.reader.now count) }
+    ensures few { IfOk result (λ count. count ≤ length room.old) }
+    ensures makes { C.makes consumer.new ≡ C.makes consumer.old }
+    ensures of { IsSameRing map.old.reader.now map.new.reader.now }
+{
+    let count = map.contents(room.len() as u32);
+    if count == 0 {
+        return Ok(0);
     }
+    copy_words(map, room, count);
+    consumer.consume(&room[..count as usize])?;
+    gate.pass(who, 3);
+    map.release(count);
     Ok(count)
 }
 
-// The words of the mapped samples.
-#[tactic(auto, using(crate::proofs::Pieces::pushed_more))]
-fn push_words<P: Planned>(
-    map: &mut MapReader<'_, P>,
-    words: &mut Vec<u32>,
-    count: u32,
-) -> Result<(), AllocError>
+// Copies the mapped samples.
+#[tactic(auto, using(crate::proofs::Pieces::copied_more))]
+fn copy_words<P: Planned>(map: &mut MapReader<'_, P>, out: &mut [u32], count: u32)
     requires mapped { count ≡ map.old.reader.now.mapped }
+    requires room { count ≤ length out.old }
     requires within { map.old.reader.now.part.released + count ≤ length map.old.reader.now.ring.samples }
     ensures same_reader { map.new.reader.ghost_name ≡ map.old.reader.ghost_name }
     ensures reader { map.new.reader.now ≡ map.old.reader.now }
-    ensures words { IfOk result (λ _. words.new.items ≡ words.old.items ++ piece map.old.reader.now.ring map.old.reader.now.part.released count) }
+    ensures copied { out.new ≡ piece map.old.reader.now.ring map.old.reader.now.part.released count ++ drop count out.old }
 {
     for i in 0..count {
-        words.push(map.word(i))?;
+        out[i as usize] = map.word(i);
     }
-    Ok(())
 }
 
-fn read_piece<P: Planned, G: Gate>(
+fn read_piece<P: Planned, C: Consumer, G: Gate>(
     reader: &mut Reader<P>,
-    words: &mut Vec<u32>,
+    consumer: &mut C,
     most: u32,
     by_map: bool,
     gate: &G,
     who: u32,
-) -> Result<u32, AllocError>
-    requires mapped { reader.old.mapped ≡ 0 }
+) -> Result<u32, NoMemory>
+    requires all { HasAll (C.count consumer.old) (C.made consumer.old) (C.makes consumer.old) (C.accepts consumer.old) reader.old }
     requires some { 0 < most }
-    ensures read { IfOk result (HasRead reader.old reader.new words.old.items words.new.items) }
+    ensures all { IfOk result (λ _. HasAll (C.count consumer.new) (C.made consumer.new) (C.makes consumer.new) (C.accepts consumer.new) reader.new) }
+    ensures read { IfOk result (λ count. HasRead reader.old reader.new count) }
     ensures few { IfOk result (λ count. count ≤ most) }
+    ensures makes { C.makes consumer.new ≡ C.makes consumer.old }
     ensures of { IsSameRing reader.old reader.new }
 {
+    let mut room = [0u32; PIECE];
+    let size = (most as usize).min(PIECE);
     if by_map {
-        map_piece(reader, words, most, gate, who)
+        map_piece(reader, consumer, &mut room[..size], gate, who)
     } else {
         gate.pass(who, 3);
-        let mut copied = [0u32; PIECE];
-        let room = (most as usize).min(PIECE);
-        copy_piece(reader, words, &mut copied[..room])
+        copy_piece(reader, consumer, &mut room[..size])
     }
 }
 
@@ -128,25 +157,26 @@ fn is_enough(most: Option<u64>, count: u64) -> bool
 
 // Reads one piece more, and says whether it is a full one. After one that isn't the client steps back,
 // so that the munger gets ahead of it.
-fn read_more<P: Planned, G: Gate>(
+fn read_more<P: Planned, C: Consumer, G: Gate>(
     reader: &mut Reader<P>,
-    words: &mut Vec<u32>,
+    consumer: &mut C,
     chunk: u32,
     by_map: bool,
     most: Option<u64>,
     gate: &G,
     who: u32,
-) -> Result<bool, AllocError>
+) -> Result<bool, NoMemory>
     requires chunk { 1 ≤ chunk }
-    requires all { HasAll reader.old words.old.items }
+    requires all { HasAll (C.count consumer.old) (C.made consumer.old) (C.makes consumer.old) (C.accepts consumer.old) reader.old }
     requires most { MatchOption most ⊤ (λ m. reader.old.part.released < m) }
-    ensures all { IfOk result (λ _. HasAll reader.new words.new.items) }
+    ensures all { IfOk result (λ _. HasAll (C.count consumer.new) (C.made consumer.new) (C.makes consumer.new) (C.accepts consumer.new) reader.new) }
     ensures most { IfOk result (λ _. MatchOption most ⊤ (λ m. reader.new.part.released ≤ m)) }
     ensures asked { IfOk result (λ _. reader.new.part.asked ≡ reader.old.part.asked) }
+    ensures makes { C.makes consumer.new ≡ C.makes consumer.old }
     ensures of { IsSameRing reader.old reader.new }
 {
-    let piece = next_piece(chunk, most, words.len() as u64);
-    let count = read_piece(reader, words, piece, by_map, gate, who)?;
+    let piece = next_piece(chunk, most, reader.released());
+    let count = read_piece(reader, consumer, piece, by_map, gate, who)?;
     if count == 0 {
         return Ok(false);
     }
@@ -164,34 +194,35 @@ fn end_at<P: Planned>(reader: &mut Reader<P>, count: u64) -> Option<End>
 }
 
 // Reads up to the end, or up to so many samples.
-fn read_up_to<R: Wait + Sync, P: Planned, G: Gate>(
+fn read_up_to<R: Wait + Sync, P: Planned, C: Consumer, G: Gate>(
     rt: &R,
     reader: &mut Reader<P>,
-    words: &mut Vec<u32>,
+    consumer: &mut C,
     chunk: u32,
     by_map: bool,
     most: Option<u64>,
     gate: &G,
     who: u32,
-) -> Result<Option<End>, AllocError>
+) -> Result<Option<End>, NoMemory>
     requires chunk { 1 ≤ chunk }
-    requires all { HasAll reader.old words.old.items }
+    requires all { HasAll (C.count consumer.old) (C.made consumer.old) (C.makes consumer.old) (C.accepts consumer.old) reader.old }
     requires most { MatchOption most ⊤ (λ m. reader.old.part.released ≤ m) }
-    ensures all { IfOk result (λ _. HasAll reader.new words.new.items) }
+    ensures all { IfOk result (λ _. HasAll (C.count consumer.new) (C.made consumer.new) (C.makes consumer.new) (C.accepts consumer.new) reader.new) }
     ensures stops { IfOk result (Stops reader.new most) }
     ensures asked { IfOk result (λ _. reader.new.part.asked ≡ reader.old.part.asked) }
+    ensures makes { C.makes consumer.new ≡ C.makes consumer.old }
     ensures of { IsSameRing reader.old reader.new }
 {
     let backoff = Backoff::new();
     for _ in rt.forever() {
-        let count = words.len() as u64;
+        let count = reader.released();
         if is_enough(most, count) {
             return Ok(None);
         }
         if let Some(end) = end_at(reader, count) {
             return Ok(Some(end));
         }
-        if !read_more(reader, words, chunk, by_map, most, gate, who)? {
+        if !read_more(reader, consumer, chunk, by_map, most, gate, who)? {
             backoff.snooze();
         }
     }
@@ -243,38 +274,35 @@ pub fn read_to_end<R: Wait + Sync, P: Planned, G: Gate>(
     ensures of { IsSameRing reader.old reader.new }
     ensures no_memory { OnErr result (reader.new.part.asked ≡ true) }
 {
-    read_to_end_with_room(rt, alloc, reader, chunk, by_map, take, 0, gate, who)
+    let mut words = Vec::new(alloc);
+    let end = consume_to_end(rt, reader, &mut words, chunk, by_map, take, gate, who)?;
+    Ok((words, end))
 }
 
-/// Reads as `read_to_end` does. `room` is the number of words that are made ready for, so that a long
-/// list is seldom moved. It's no limit.
-pub fn read_to_end_with_room<R: Wait + Sync, P: Planned, G: Gate>(
+/// Reads as `read_to_end` does, and hands the samples to a consumer in place of keeping them.
+pub fn consume_to_end<R: Wait + Sync, P: Planned, C: Consumer, G: Gate>(
     rt: &R,
-    alloc: Global,
     reader: &mut Reader<P>,
+    consumer: &mut C,
     chunk: u32,
     by_map: bool,
     take: Option<u64>,
-    room: usize,
     gate: &G,
     who: u32,
-) -> Result<(Vec<u32>, End), NoMemory>
+) -> Result<End, NoMemory>
     requires chunk { 1 ≤ chunk }
     requires fresh { (reader.old.part.released ≡ 0) × (reader.old.mapped ≡ 0) }
-    ensures read { IfOk result (λ t. IsReadToEnd reader.old reader.new take t.0.items t.1) }
+    requires new { (C.count consumer.old ≡ 0) × (C.made consumer.old ≡ C.makes consumer.old []) }
+    requires accepts { Accepts (C.accepts consumer.old) reader.old.ring }
+    ensures read { IfOk result (λ e. IsReadToEnd reader.old reader.new take (first_munged reader.old.ring (up_to e.count take)) e) }
+    ensures made { IfOk result (λ e. C.made consumer.new ≡ C.makes consumer.old (first_munged reader.old.ring (up_to e.count take))) }
+    ensures makes { C.makes consumer.new ≡ C.makes consumer.old }
     ensures of { IsSameRing reader.old reader.new }
     ensures no_memory { OnErr result (reader.new.part.asked ≡ true) }
 {
-    let Ok(mut words) = Vec::with_capacity(alloc, room) else {
-        reader.ask_stop();
-        return Err(NoMemory);
-    };
-    match read_up_to(rt, reader, &mut words, chunk, by_map, take, gate, who) {
-        Ok(Some(end)) => Ok((words, end)),
-        Ok(None) => {
-            let end = stop_and_wait(rt, reader);
-            Ok((words, end))
-        }
+    match read_up_to(rt, reader, consumer, chunk, by_map, take, gate, who) {
+        Ok(Some(end)) => Ok(end),
+        Ok(None) => Ok(stop_and_wait(rt, reader)),
         Err(_) => {
             reader.ask_stop();
             Err(NoMemory)

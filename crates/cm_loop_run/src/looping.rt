@@ -11,7 +11,6 @@ use crate::text::text_of;
 use cm_base::gate::Gate;
 use cm_base::transfer::NoMemory;
 use cm_expand::board::Board;
-use cm_expand::plan::Plan;
 use cm_expand::rule::rule_of;
 use cm_loop::looped::Looped;
 use cm_loop::rule::LoopRule;
@@ -22,7 +21,7 @@ use cm_run::blocks::Blocks;
 use cm_run::ending::count_of;
 use cm_run::opening::{PacedRing, open_paced};
 use cm_run_core::client::{ClientSide, Reads};
-use cm_run_core::streaming::{BASE, room_of};
+use cm_run_core::streaming::BASE;
 use std::alloc::Global;
 use std::sync::Wait;
 use std::thread::Threads;
@@ -40,14 +39,12 @@ fn take_of(samples: u64, outputs: u64) -> Option<u64>
 }
 
 // How the output's client reads, where the input has so many samples and the output so many conversions.
-fn reads_of(output: &Plan<'_>, samples: u64, outputs: u64) -> Reads
+fn reads_of(samples: u64, outputs: u64) -> Reads
     ensures { result.take ≡ spec.take_of samples outputs }
 {
-    let take = take_of(samples, outputs);
     Reads {
         by_map: false,
-        take,
-        room: room_of(output, take),
+        take: take_of(samples, outputs),
     }
 }
 
@@ -93,9 +90,11 @@ fn loop_words<R: Threads + Wait + Sync, G: Gate + Sync>(
             reader: out_reader,
         },
     };
-    let reads = reads_of(&output, samples, count_of(&output));
-    let streamed = stream_loop(rt, alloc, board, side, reads, gate)?;
-    Ok(streamed.words)
+    let outputs = count_of(&output);
+    let words = Vec::with_capacity(alloc, samples.min(outputs) as usize)?;
+    let reads = reads_of(samples, outputs);
+    let streamed = stream_loop(rt, board, side, words, reads, gate)?;
+    Ok(streamed.samples)
 }
 
 /// Runs the loop of a job, and gives its text, after all threads have ended: the filtered samples of

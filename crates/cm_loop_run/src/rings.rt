@@ -1,6 +1,6 @@
 // The threads of a loop.
-ghost use Rattle.std.specs.Prelude.{◌≡◌, IfOk};
-ghost use Rattle.cm_run_core.specs.Streamed.{HasStreamed, IsFresh};
+ghost use Rattle.std.specs.Prelude.{◌≡◌, [], IfOk};
+ghost use Rattle.cm_run_core.specs.Streamed.{IsFresh, StreamsTo};
 
 use crate::side::FilterSide;
 use cm_base::gate::Gate;
@@ -12,7 +12,6 @@ use cm_run_core::paced::PacedBoard;
 use cm_run_core::starting::Started;
 use cm_run_core::words::Words;
 use cm_sample::planned::Planned;
-use std::alloc::Global;
 use std::sync::Wait;
 use std::thread::{Threads, join};
 
@@ -42,27 +41,28 @@ pub(crate) fn stream_loop<
     G: Gate + Sync,
 >(
     rt: &R,
-    alloc: Global,
     board: PacedBoard<P, W>,
     side: LoopSide<'_, P, Q>,
+    words: Vec<u32>,
     reads: Reads,
     gate: &G,
-) -> Result<Streamed<Q>, NoMemory>
-    requires { IsFresh side.client.reader }
-    ensures { IfOk result (λ s. HasStreamed side.entry.client.reader.ring reads.take s.words.items s.end s.reader) }
+) -> Result<Streamed<Q, Vec<u32>>, NoMemory>
+    requires fresh { IsFresh side.client.reader }
+    requires words { words.items ≡ [] }
+    ensures { IfOk result (λ s. StreamsTo s.samples.items (λ words. words) side.entry.client.reader.ring reads.take s.end s.reader) }
 {
     let started = Started::new();
     let writing = &started;
     let (_, streamed) = join(
         rt,
         move || {
-            writing.tell();
+            writing.report();
             board.put_all(rt, gate, BOARD)
         },
-        move || -> Result<Streamed<Q>, NoMemory>
-            requires { IsFresh side.client.reader }
-            ensures { IfOk result (λ s. HasStreamed side.entry.client.reader.ring reads.take s.words.items s.end s.reader) }
-        { munge_beside(rt, alloc, side, writing, reads, gate) },
+        move || -> Result<Streamed<Q, Vec<u32>>, NoMemory>
+            requires { IsFresh side.client.reader × (words.items ≡ []) }
+            ensures { IfOk result (λ s. StreamsTo s.samples.items (λ words. words) side.entry.client.reader.ring reads.take s.end s.reader) }
+        { munge_beside(rt, side, words, writing, reads, gate) },
     );
     streamed
 }
@@ -75,14 +75,15 @@ fn munge_beside<
     G: Gate + Sync,
 >(
     rt: &R,
-    alloc: Global,
     side: LoopSide<'_, P, Q>,
+    words: Vec<u32>,
     writing: &Started,
     reads: Reads,
     gate: &G,
-) -> Result<Streamed<Q>, NoMemory>
-    requires { IsFresh side.client.reader }
-    ensures { IfOk result (λ s. HasStreamed side.entry.client.reader.ring reads.take s.words.items s.end s.reader) }
+) -> Result<Streamed<Q, Vec<u32>>, NoMemory>
+    requires fresh { IsFresh side.client.reader }
+    requires words { words.items ≡ [] }
+    ensures { IfOk result (λ s. StreamsTo s.samples.items (λ words. words) side.entry.client.reader.ring reads.take s.end s.reader) }
 {
     let LoopSide {
         munger,
@@ -98,13 +99,13 @@ fn munge_beside<
     let (_, streamed) = join(
         rt,
         move || {
-            munging.tell();
+            munging.report();
             let _munger = munge_work(rt, munger);
         },
-        move || -> Result<Streamed<Q>, NoMemory>
-            requires { IsFresh client.reader }
-            ensures { IfOk result (λ s. HasStreamed client.reader.ring reads.take s.words.items s.end s.reader) }
-        { filter_beside(rt, alloc, filter, client, munging, reads, gate) },
+        move || -> Result<Streamed<Q, Vec<u32>>, NoMemory>
+            requires { IsFresh client.reader × (words.items ≡ []) }
+            ensures { IfOk result (λ s. StreamsTo s.samples.items (λ words. words) client.reader.ring reads.take s.end s.reader) }
+        { filter_beside(rt, filter, client, words, munging, reads, gate) },
     );
     streamed
 }
@@ -117,15 +118,16 @@ fn filter_beside<
     G: Gate + Sync,
 >(
     rt: &R,
-    alloc: Global,
     filter: FilterSide<'_, P, Q>,
     client: ClientSide<Q>,
+    words: Vec<u32>,
     munging: &Started,
     reads: Reads,
     gate: &G,
-) -> Result<Streamed<Q>, NoMemory>
-    requires { IsFresh client.reader }
-    ensures { IfOk result (λ s. HasStreamed client.reader.ring reads.take s.words.items s.end s.reader) }
+) -> Result<Streamed<Q, Vec<u32>>, NoMemory>
+    requires fresh { IsFresh client.reader }
+    requires words { words.items ≡ [] }
+    ensures { IfOk result (λ s. StreamsTo s.samples.items (λ words. words) client.reader.ring reads.take s.end s.reader) }
 {
     if !munging.wait() {
         filter.stop();
@@ -136,13 +138,13 @@ fn filter_beside<
     let (_, streamed) = join(
         rt,
         move || {
-            filtering.tell();
+            filtering.report();
             filter.filter_all(rt)
         },
-        move || -> Result<Streamed<Q>, NoMemory>
-            requires { IsFresh client.reader }
-            ensures { IfOk result (λ s. HasStreamed client.reader.ring reads.take s.words.items s.end s.reader) }
-        { run_client(rt, alloc, client, filtering, reads, gate, CLIENT) },
+        move || -> Result<Streamed<Q, Vec<u32>>, NoMemory>
+            requires { IsFresh client.reader × (words.items ≡ []) }
+            ensures { IfOk result (λ s. StreamsTo s.samples.items (λ words. words) client.reader.ring reads.take s.end s.reader) }
+        { run_client(rt, client, words, filtering, reads, gate, CLIENT) },
     );
     streamed
 }

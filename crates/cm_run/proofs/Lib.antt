@@ -2,6 +2,7 @@ pub mod Cuts
 pub mod Ends
 pub mod Order
 pub mod Outs
+pub mod Joined
 pub mod Reported
 pub mod Streams
 pub mod Wholes

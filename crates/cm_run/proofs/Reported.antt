@@ -1,8 +1,8 @@
 -- The words that a client reads: that they are the munged expansion's, and that each can be reported.
-use Rattle.std.proofs.Common.{◌≡◌, ℕ, ◌<◌, ◌≤◌, false, List, length, length-take, get_or, take, sym, ap, ◌∙◌, subst, arith}
+use Rattle.std.proofs.Common.{◌≡◌, ℕ, ◌+◌, ◌<◌, ◌≤◌, ◌^◌, false, List, length, length-take, get_or, take, sym, ap, ◌∙◌, subst, arith}
 use Rattle.std.specs.Prelude.{min}
 use Rattle.std.proofs.lemmas.List.{get_or-take}
-use Rattle.cm_sample.proofs.Mapped.{length-map_from}
+use Rattle.cm_sample.proofs.Mapped.{get_or-map_from, length-map_from}
 use Rattle.cm_sample.specs.Rule.{map_from, munged_word}
 use Rattle.cm_expand.specs.Fit.{IsExpansion}
 use Rattle.cm_expand.specs.Items.{samples_of}
@@ -11,7 +11,11 @@ use Rattle.cm_expand.specs.Rule.{is_output, munged_at, rule_of}
 use Rattle.cm_expand.proofs.Rules.{rule_munges}
 use Rattle.cm_text.specs.Format.{IsSample, format_of}
 use Rattle.cm_text.proofs.Codes.{sample_from}
+use Rattle.cm_client.specs.Progress.{Accepts}
+use Rattle.cm_ring_core.specs.Lawful.{munged_at as munged_at_ring}
+use Rattle.cm_run_lines.specs.declared.line.Mode.{Mode}
 use Rattle.cm_run.specs.Blocks.{munged_words, munged_samples, count_of}
+use Rattle.cm_run.specs.Ran.{ring_of}
 use Rattle.cm_run.proofs.Ends.{length-samples}
 
 -- what the rule of a command makes of words
@@ -21,11 +25,30 @@ munged_by_rule p words some = ap (λ (f : ℕ → ℕ → ℕ). map_from f 0 wor
 pub length-munged : (p : PlanText) → length (munged_samples p) ≡ count_of p
 length-munged p = length-map_from (munged_at p.sub p.cmd) 0 (samples_of p) ∙ length-samples p
 
--- each word of the first ones can be reported
-pub words_reported : (p : PlanText) → IsExpansion p → 1 ≤ length p.cmd.list → is_output p.sub.kind ≡ false → (n : ℕ) (words : List ℕ) → words ≡ take n (munged_samples p)
-    → (i : ℕ) → i < length words → IsSample (format_of p) i (get_or words i 0)
-words_reported p is some input n words are i below =
+-- the munged sample of a place in a line's ring is that of the expansion
+munged_there : (p : PlanText) (mode : Mode) → 1 ≤ length p.cmd.list → (place : ℕ) → place < length (samples_of p) → munged_at_ring (ring_of p mode) place ≡ get_or (munged_samples p) place 0
+munged_there p mode some place below =
+    let here : 0 + place ≡ place = omega arith in
+    ap (λ (n : ℕ). munged_word (rule_of p.sub p.cmd) n (get_or (samples_of p) place 0)) (sym here)
+    ∙ sym (get_or-map_from (munged_word (rule_of p.sub p.cmd)) 0 (samples_of p) place 0 0 below)
+    ∙ ap (λ (l : List ℕ). get_or l place 0) (munged_by_rule p (samples_of p) some)
+
+-- each munged sample in a line's ring can be reported
+pub all_reported : (p : PlanText) (mode : Mode) → IsExpansion p → 1 ≤ length p.cmd.list → is_output p.sub.kind ≡ false → count_of p ≤ 4000000 → (place : ℕ) → place < length (samples_of p) →
+    (place < 2 ^ 60) × IsSample (format_of p) place (munged_at_ring (ring_of p mode) place)
+all_reported p mode is some input few place below =
+    let many = length-samples p in (
+      omega (arith, below, few, many),
+      subst (IsSample (format_of p) place) (sym (munged_there p mode some place below)) (sample_from p is some input place (omega (arith, below, many))),
+    )
+
+-- what may be the samples of a line's ring may be the first of them
+pub first_accepted : (p : PlanText) (mode : Mode) (may : ℕ → ℕ → Type 0) → 1 ≤ length p.cmd.list → Accepts may (ring_of p mode) → (n : ℕ) (words : List ℕ) → words ≡ take n (munged_samples p) →
+    (i : ℕ) → i < length words → may i (get_or words i 0)
+first_accepted p mode may some accepts n words are i below =
     let all = length-munged p in
+    let many = length-samples p in
     let count : length words ≡ min n (length (munged_samples p)) = ap (λ (l : List ℕ). length l) are ∙ length-take n (munged_samples p) in
-    let here : get_or words i 0 ≡ get_or (munged_samples p) i 0 = ap (λ (l : List ℕ). get_or l i 0) are ∙ get_or-take n (munged_samples p) i 0 (omega arith) in
-    subst (IsSample (format_of p) i) (sym here) (sample_from p is some input i (omega arith))
+    let there : i < length (samples_of p) = omega (arith, below, count, all, many) in
+    let here : get_or words i 0 ≡ get_or (munged_samples p) i 0 = ap (λ (l : List ℕ). get_or l i 0) are ∙ get_or-take n (munged_samples p) i 0 (omega (arith, below, count)) in
+    subst (may i) (munged_there p mode some i there ∙ sym here) (accepts i there)

@@ -1,8 +1,8 @@
 -- What a stream through a line's ring says of the line.
-use Rattle.std.proofs.Common.{◌≡◌, ℕ, ◌≤◌, ◌++◌, List, length, take, refl, sym, ap, ◌∙◌, subst, arith, eqb, Option, Some}
+use Rattle.std.proofs.Common.{◌≡◌, ℕ, ◌≤◌, Bool, ◌++◌, List, length, take, refl, sym, ap, ◌∙◌, subst, arith, eqb, Option, Some}
 use Rattle.cm_board.specs.Board.{SubText, IsSoundSub}
 use Rattle.cm_cmd.specs.Command.{CmdText}
-use Rattle.cm_sample.specs.Rule.{IsRule}
+use Rattle.cm_sample.specs.Rule.{IsRule, RuleText}
 use Rattle.cm_client.specs.Progress.{up_to}
 use Rattle.cm_expand.specs.Items.{samples_of}
 use Rattle.cm_expand.specs.Plan.{PlanText, is_complete, is_complete_by, whole_count}
@@ -26,7 +26,7 @@ use Rattle.cm_text.specs.Format.{format_of, sample_lines}
 use Rattle.cm_text.specs.Tails.{tail_text}
 use Rattle.cm_run.specs.Blocks.{block, count_of, munged_samples}
 use Rattle.cm_run.specs.Limits.{FitsCount}
-use Rattle.cm_run.specs.Ran.{GoRan, ring_of, tail_after}
+use Rattle.cm_run.specs.Ran.{GoRan, is_paced, ring_of, tail_after}
 use Rattle.cm_run.proofs.Ends.{length-samples}
 use Rattle.cm_run.proofs.Reported.{munged_by_rule}
 
@@ -46,6 +46,11 @@ length-plan_words plan = ap (λ (l : List ℕ). length l) (plan_samples plan) �
 pub complete_count : (p : PlanText) (whole count : ℕ) → whole_count p ≡ Some whole → count ≡ count_of p → eqb count whole ≡ is_complete p
 complete_count p whole count is many =
     ap (λ (n : ℕ). eqb n whole) (many ∙ items_counted p) ∙ ap (λ (o : Option ℕ). is_complete_by o p) (sym is)
+
+-- the ring that a line is streamed through
+pub ring_built : (p : PlanText) (mode : Mode) (size : ℕ) (rule : RuleText) (words : List ℕ) (paced : Bool) → size ≡ p.sub.buffer → rule ≡ rule_of p.sub p.cmd → words ≡ samples_of p → paced ≡ is_paced mode →
+    ◌≡◌ {A = RingConstants} (record { size = size; rule = rule; samples = words; paced = paced; base = 4294967290 }) (ring_of p mode)
+ring_built p mode size rule words paced its_size its_rule its_words its_paced = λ i. record { size = its_size i; rule = its_rule i; samples = its_words i; paced = its_paced i; base = 4294967290 }
 
 module _ (p : PlanText) (mode : Mode) (most : Option ℕ) (words : List ℕ) (e : End) (r : Reading) (s : HasStreamed (ring_of p mode) most words e r) where
   pub words_are : 1 ≤ length p.cmd.list → words ≡ take (up_to e.count most) (munged_samples p)

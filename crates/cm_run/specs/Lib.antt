@@ -6,4 +6,5 @@ pub mod Joined
 pub mod Limits
 pub mod Lines
 pub mod Ran
+pub mod SampleText
 pub mod Whole

@@ -1,11 +1,11 @@
 // Output commands, whose words stand in the job.
-ghost use Rattle.std.specs.Prelude.{◌≡◌, ◌≤◌, ◌++◌, true, length, IfOk, None};
+ghost use Rattle.std.specs.Prelude.{◌≡◌, ◌≤◌, ◌++◌, [], true, length, IfOk, None};
 ghost use Rattle.cm_client.specs.Samples.{munged_plan};
 ghost use Rattle.cm_expand.specs.Items.{items_of};
 ghost use Rattle.cm_expand.specs.PlanView.{plan_text};
 ghost use Rattle.cm_run.specs.Blocks as blocks;
 ghost use Rattle.cm_run.specs.Driving.{IsDrive, IsFeedSide};
-ghost use Rattle.cm_run_core.specs.Streamed.{HasStreamed, IsFresh};
+ghost use Rattle.cm_run_core.specs.Streamed.{IsFresh, StreamsTo};
 ghost use Rattle.cm_sample.specs.Rule.{IsRule};
 ghost use Rattle.cm_text.specs.Outputs.{output_texts};
 ghost use Rattle.cm_text.specs.Tails.{tail_text};
@@ -66,13 +66,13 @@ fn move_words<R: Threads + Wait + Sync, G: Gate + Sync>(
     requires few { length words.now ≤ 1024 }
     ensures { IfOk result (λ v. v.items ≡ munged_plan (record { size = size; rule = rule; samples = words.now; paced = true; base = 4294967290 })) }
 {
+    let kept = Vec::with_capacity(alloc, words.len())?;
     let (writer, munger, reader) = open(alloc, size, rule, true, BASE, words)?;
     let feeder = FeedSide { writer, words };
     let client = ClientSide { munger, reader };
     let reads = Reads {
         by_map: false,
         take: None,
-        room: words.len(),
     };
     let started = Started::new();
     let writing = &started;
@@ -81,20 +81,20 @@ fn move_words<R: Threads + Wait + Sync, G: Gate + Sync>(
         move ||
             requires { IsFeedSide feeder }
         {
-            writing.tell();
+            writing.report();
             run_feed(rt, feeder)
         },
-        move || -> Result<Streamed<&[u32]>, NoMemory>
-            requires { IsFresh client.reader }
-            ensures { IfOk result (λ s. HasStreamed client.entry.reader.ring reads.take s.words.items s.end s.reader) }
-        { run_client(rt, alloc, client, writing, reads, gate, who) },
+        move || -> Result<Streamed<&[u32], Vec<u32>>, NoMemory>
+            requires { IsFresh client.reader × (kept.items ≡ []) }
+            ensures { IfOk result (λ s. StreamsTo s.samples.items (λ words. words) client.entry.reader.ring reads.take s.end s.reader) }
+        { run_client(rt, client, kept, writing, reads, gate, who) },
     );
     let Streamed {
-        words,
+        samples,
         end: _,
         reader: _,
     } = streamed?;
-    Ok(words)
+    Ok(samples)
 }
 
 // The munged words of a line, by way of a ring of the size of its subdevice's buffer.

@@ -1,36 +1,37 @@
 // Input commands, whose samples a client reads.
-ghost use Rattle.std.specs.Prelude.{◌≡◌, ◌<◌, ◌≤◌, ◌++◌, ℕ, length, slice_index, take, IfOk};
+ghost use Rattle.std.specs.Prelude.{◌≡◌, ◌++◌, [], ℕ, take, IfOk};
+ghost use Rattle.cm_client.specs.Progress.{Accepts};
 ghost use Rattle.cm_expand.specs.PlanView.{plan_text};
 ghost use Rattle.cm_run.specs.Blocks as blocks;
 ghost use Rattle.cm_run.specs.Going.{IsGo};
 ghost use Rattle.cm_run.specs.Ran as ran;
 ghost use Rattle.cm_run.specs.Limits.{FitsCount};
-ghost use Rattle.cm_run_core.specs.Streamed.{HasStreamed};
-ghost use Rattle.cm_text.specs.Format.{IsFormat, IsSample, format_of, sample_lines};
+ghost use Rattle.cm_run.specs.SampleText.{CanReport};
+ghost use Rattle.cm_run_core.specs.Streamed.{StreamsTo};
+ghost use Rattle.cm_text.specs.Format.{format_of, sample_lines};
 ghost use Rattle.cm_text.specs.Tails.{tail_text};
 
 use crate::done::LineDone;
 use crate::ending::tail_after;
+use crate::sample_text::SampleText;
 use cm_base::gate::Gate;
 use cm_base::transfer::NoMemory;
-use cm_board::board::Sub;
+use cm_client::consuming::Consumer;
 use cm_expand::board::Board;
 use cm_expand::plan::Plan;
-use cm_expand::rule::{is_raw, rule_of};
+use cm_expand::rule::rule_of;
 use cm_ring_core::view::End;
-use cm_run_core::client::Streamed;
+use cm_run_core::client::{Reads, Streamed};
 use cm_run_core::streaming::stream;
 use cm_run_lines::line::{Access, Mode};
 use cm_test::test::Accepted;
-use cm_text::samples::put_samples;
-use cm_text::scales::scales_of;
 use cm_text::tail::put_tail;
 use std::alloc::Global;
 use std::sync::Wait;
 use std::thread::Threads;
 
-// How many bytes are made ready for a sample's line, so that a long text is seldom moved.
-const LINE: usize = 12;
+// How many samples a client makes ready for at most.
+const MOST_ROOM: u64 = 4_000_000;
 
 /// A `go` line: an input command with its plan, and what its client does.
 #[derive(Clone, Copy)]
@@ -53,41 +54,38 @@ fn is_paced(mode: Mode) -> bool
     }
 }
 
-/// Streams the line through a ring of the size of its subdevice's buffer.
-pub fn stream_go<'a, R: Threads + Wait + Sync, G: Gate + Sync>(
+/// How many samples a client makes ready for: as many as the stop count says, and no more than it takes.
+/// Without a stop count it makes ready for none.
+pub fn room_of(go: &Go<'_>) -> usize {
+    let whole = go.plan.whole_count().unwrap_or(0);
+    let taken = whole.min(go.take.unwrap_or(whole));
+    taken.min(MOST_ROOM) as usize
+}
+
+/// Streams the line through a ring of the size of its subdevice's buffer to a consumer.
+pub fn stream_go<'a, R: Threads + Wait + Sync, C: Consumer + Send, G: Gate + Sync>(
     rt: &R,
     alloc: Global,
     go: Go<'a>,
+    consumer: C,
     gate: &G,
     who: u32,
-) -> Result<Streamed<Plan<'a>>, NoMemory>
-    requires { IsGo (plan_text go.plan) go.cmd.now }
-    ensures { IfOk result (λ s. HasStreamed (ran.ring_of (plan_text go.entry.plan) go.entry.mode) go.entry.take s.words.items s.end s.reader) }
+) -> Result<Streamed<Plan<'a>, C>, NoMemory>
+    requires go { IsGo (plan_text go.plan) go.cmd.now }
+    requires new { (C.count consumer ≡ 0) × (C.made consumer ≡ C.makes consumer []) }
+    requires accepts { Accepts (C.accepts consumer) (ran.ring_of (plan_text go.plan) go.mode) }
+    ensures { IfOk result (λ s. StreamsTo (C.made s.samples) (C.makes consumer) (ran.ring_of (plan_text go.entry.plan) go.entry.mode) go.entry.take s.end s.reader) }
 {
     let sub = go.plan.sub();
     let rule = rule_of(alloc, sub, go.cmd)?;
     let paced = is_paced(go.mode);
-    let by_map = go.access == Access::Map;
+    let reads = Reads {
+        by_map: go.access == Access::Map,
+        take: go.take,
+    };
     stream(
-        rt, alloc, go.plan, sub.buffer, rule, paced, by_map, go.take, gate, who,
+        rt, alloc, go.plan, consumer, sub.buffer, rule, paced, reads, gate, who,
     )
-}
-
-// Appends the lines of a command's samples from its first one on.
-fn put_words(
-    alloc: Global,
-    text: &mut Vec<u8>,
-    sub: &Sub,
-    list: &[u32],
-    raw: bool,
-    words: &[u32],
-) -> Result<(), NoMemory>
-    requires format { IsFormat (record { sub = sub.now; list = list.now; raw = raw }) }
-    requires codes { (i : ℕ) → i < length words.now → IsSample (record { sub = sub.now; list = list.now; raw = raw }) i (slice_index words.now i) }
-    ensures { IfOk result (λ _. text.new.items ≡ text.old.items ++ sample_lines (record { sub = sub.now; list = list.now; raw = raw }) 0 words.now) }
-{
-    let scales = scales_of(alloc, sub, list)?;
-    put_samples(text, sub, list, raw, Some(&scales), 0, words, &[])
 }
 
 /// The block of a line whose words were read up to an end.
@@ -102,21 +100,22 @@ pub(crate) fn go_block(
     requires end { FitsCount (plan_text go.plan) end.kind end.count }
     ensures { IfOk result (λ v. v.items ≡ sample_lines (format_of (plan_text go.entry.plan)) 0 words.now ++ tail_text (ran.tail_after (plan_text go.entry.plan) go.entry.take end.kind end.count)) }
 {
-    let plan = go.plan;
-    // The board tells what holds of each expansion: that the words are codes of their channels.
-    let _place = Board::new(plan).place();
-    let cmd = plan.command();
-    let mut block = Vec::with_capacity(alloc, words.len().saturating_mul(LINE))?;
-    put_words(
-        alloc,
-        &mut block,
-        plan.sub(),
-        &cmd.list,
-        is_raw(cmd.flags),
-        words,
-    )?;
-    put_tail(&mut block, tail_after(plan, go.take, end))?;
+    let mut lines = lines_of(alloc, go, words.len())?;
+    lines.consume(words)?;
+    let mut block = lines.into_text();
+    put_tail(&mut block, tail_after(go.plan, go.take, end))?;
     Ok(block)
+}
+
+// The lines of the line's samples, before the first.
+fn lines_of<'a>(alloc: Global, go: Go<'a>, room: usize) -> Result<SampleText<'a>, NoMemory>
+    requires { IsGo (plan_text go.plan) go.cmd.now }
+    ensures new { IfOk result (λ t. t ≡ record { format = format_of (plan_text go.entry.plan); text = []; count = 0 }) }
+    ensures accepts { IfOk result (λ t. Accepts (CanReport t) (ran.ring_of (plan_text go.entry.plan) go.entry.mode)) }
+{
+    // The board tells what holds of each expansion: that the words are codes of their channels.
+    let _place = Board::new(go.plan).place();
+    SampleText::new(alloc, go.plan, room)
 }
 
 /// Streams the line, and makes its block.
@@ -130,8 +129,10 @@ pub(crate) fn go_line<'a, R: Threads + Wait + Sync, G: Gate + Sync>(
     requires { IsGo (plan_text go.plan) go.cmd.now }
     ensures { IfOk result (λ d. ran.HasGone (plan_text go.entry.plan) go.entry.mode go.entry.take d.block.items d.reader) }
 {
-    let streamed = stream_go(rt, alloc, go, gate, who)?;
-    let block = go_block(alloc, go, &streamed.words, streamed.end)?;
+    let lines = lines_of(alloc, go, room_of(&go))?;
+    let streamed = stream_go(rt, alloc, go, lines, gate, who)?;
+    let mut block = streamed.samples.into_text();
+    put_tail(&mut block, tail_after(go.plan, go.take, streamed.end))?;
     Ok(LineDone {
         block,
         reader: Some(streamed.reader),

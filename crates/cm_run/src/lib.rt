@@ -12,4 +12,5 @@ pub mod lines;
 pub mod opening;
 pub mod outputs;
 pub mod running;
+pub mod sample_text;
 pub mod whole;

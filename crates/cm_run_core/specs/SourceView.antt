@@ -1,5 +1,5 @@
 -- How contracts see the words of a plan.
-use Rattle.std.specs.Prelude.{◌≡◌, ℕ, ◌+◌, ◌-◌, ◌<◌, ◌≤◌, drop, length, take}
+use Rattle.std.specs.Prelude.{◌≡◌, ◌+◌, ◌-◌, ◌<◌, ◌≤◌, drop, length, take}
 use Rattle.cm_expand.specs.Items.{items_of}
 use Rattle.cm_expand.specs.PlanView.{words_of}
 use Rattle.cm_expand.specs.Taking.{raw_words}

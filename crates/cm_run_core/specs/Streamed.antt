@@ -27,3 +27,9 @@ pub record HasStreamed (ring : RingConstants) (most : Option ℕ) (words : List 
   pub says : IsFoundEnd r.ring r.part e.kind e.count
   pub cancelled : e.kind ≡ Cancelled → IsTaken most e.count
   pub whole : ring.paced ≡ true → most ≡ None → (e.kind ≡ Done) × (words ≡ munged_plan ring)
+
+-- what was made of a stream's samples, up to the end that was found
+pub record StreamsTo (made : List ℕ) (makes : List ℕ → List ℕ) (ring : RingConstants) (most : Option ℕ) (e : End) (r : Reading) : Type 0 where
+  pub words : List ℕ
+  pub are : made ≡ makes words
+  pub streamed : HasStreamed ring most words e r

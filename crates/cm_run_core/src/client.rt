@@ -1,57 +1,57 @@
 // The client's worker, and the munger's beside it.
-ghost use Rattle.std.specs.Prelude.{◌≡◌, ◌+◌, ◌≤◌, length, IfOk, OnErr, true};
-ghost use Rattle.cm_client.specs.Progress.{IsSameRing};
-ghost use Rattle.cm_run_core.specs.Streamed.{HasStreamed, IsFresh};
+ghost use Rattle.std.specs.Prelude.{◌≡◌, [], IfOk, OnErr, true};
+ghost use Rattle.cm_client.specs.Progress.{Accepts, IsSameRing};
+ghost use Rattle.cm_run_core.specs.Streamed.{IsFresh, StreamsTo};
 
 use crate::starting::Started;
 use cm_base::gate::Gate;
 use cm_base::transfer::NoMemory;
+use cm_client::consuming::Consumer;
 use cm_client::munging::munge_work;
-use cm_client::reading::read_to_end_with_room;
+use cm_client::reading::consume_to_end;
 use cm_ring::munger::Munger;
 use cm_ring::reader::Reader;
 use cm_ring_core::view::End;
 use cm_sample::planned::Planned;
-use std::alloc::Global;
 use std::sync::Wait;
 use std::thread::{Threads, join};
 
 // How many samples a client reads at once.
 const CHUNK: u32 = 64;
 
-/// What a client has read, the end that it found, and its reader.
+/// What became of the samples that a client has read, the end that it found, and its reader.
 #[derive(Drop)]
-pub struct Streamed<P: Planned> {
-    pub words: Vec<u32>,
+pub struct Streamed<P: Planned, C: Consumer> {
+    pub samples: C,
     pub end: End,
     pub reader: Reader<P>,
 }
 
-/// How a client reads: in place or by copying, how many samples it takes, or all, and how many words it
-/// makes ready for, so that a long list is seldom moved. The last is no limit.
+/// How a client reads: in place or by copying, and how many samples it takes, or all.
 #[derive(Clone, Copy)]
 pub struct Reads {
     pub by_map: bool,
     pub take: Option<u64>,
-    pub room: usize,
 }
 
-/// Reads to the end in pieces of 64, or up to as many samples as it takes.
-pub fn client_work<R: Wait + Sync, P: Planned, G: Gate>(
+/// Reads to the end in pieces of 64, or up to as many samples as it takes, and hands them to a consumer.
+pub fn client_work<R: Wait + Sync, P: Planned, C: Consumer, G: Gate>(
     rt: &R,
-    alloc: Global,
     reader: &mut Reader<P>,
+    consumer: &mut C,
     reads: Reads,
     gate: &G,
     who: u32,
-) -> Result<(Vec<u32>, End), NoMemory>
+) -> Result<End, NoMemory>
     requires fresh { IsFresh reader.old }
-    ensures streamed { IfOk result (λ t. HasStreamed reader.old.ring reads.take t.0.items t.1 reader.new) }
+    requires new { (C.count consumer.old ≡ 0) × (C.made consumer.old ≡ C.makes consumer.old []) }
+    requires accepts { Accepts (C.accepts consumer.old) reader.old.ring }
+    ensures streamed { IfOk result (λ e. StreamsTo (C.made consumer.new) (C.makes consumer.old) reader.old.ring reads.take e reader.new) }
     ensures of { IsSameRing reader.old reader.new }
     ensures no_memory { OnErr result (reader.new.part.asked ≡ true) }
 {
-    let Reads { by_map, take, room } = reads;
-    read_to_end_with_room(rt, alloc, reader, CHUNK, by_map, take, room, gate, who)
+    let Reads { by_map, take } = reads;
+    consume_to_end(rt, reader, consumer, CHUNK, by_map, take, gate, who)
 }
 
 /// The two ends of a ring that a client's side has.
@@ -62,73 +62,93 @@ pub struct ClientSide<P: Planned> {
 }
 
 // The client's thread, which owns its reader. It reads where the munger's thread has started.
-fn read_line<R: Wait + Sync, P: Planned, G: Gate>(
+fn read_line<R: Wait + Sync, P: Planned, C: Consumer, G: Gate>(
     rt: &R,
-    alloc: Global,
     mut reader: Reader<P>,
+    mut consumer: C,
     munging: &Started,
     reads: Reads,
     gate: &G,
     who: u32,
-) -> Result<Streamed<P>, NoMemory>
+) -> Result<Streamed<P, C>, NoMemory>
     requires fresh { IsFresh reader }
-    ensures { IfOk result (λ s. HasStreamed reader.ring reads.take s.words.items s.end s.reader) }
+    requires new { (C.count consumer ≡ 0) × (C.made consumer ≡ C.makes consumer []) }
+    requires accepts { Accepts (C.accepts consumer) reader.ring }
+    ensures { IfOk result (λ s. StreamsTo (C.made s.samples) (C.makes consumer) reader.ring reads.take s.end s.reader) }
 {
     if !munging.wait() {
         reader.ask_stop();
         return Err(NoMemory);
     }
-    let (words, end) = client_work(rt, alloc, &mut reader, reads, gate, who)?;
-    Ok(Streamed { words, end, reader })
+    let end = client_work(rt, &mut reader, &mut consumer, reads, gate, who)?;
+    Ok(Streamed {
+        samples: consumer,
+        end,
+        reader,
+    })
 }
 
 /// Munges and reads to the end, each in a thread of its own, where the writer's thread has started.
 /// It gives NoMemory where that one, or the munger's, can't be made, and has asked for the stop then.
-pub fn run_client<R: Threads + Wait + Sync, P: Planned + Send + Sync, G: Gate + Sync>(
+pub fn run_client<
+    R: Threads + Wait + Sync,
+    P: Planned + Send + Sync,
+    C: Consumer + Send,
+    G: Gate + Sync,
+>(
     rt: &R,
-    alloc: Global,
     side: ClientSide<P>,
+    consumer: C,
     writing: &Started,
     reads: Reads,
     gate: &G,
     who: u32,
-) -> Result<Streamed<P>, NoMemory>
+) -> Result<Streamed<P, C>, NoMemory>
     requires fresh { IsFresh side.reader }
-    ensures { IfOk result (λ s. HasStreamed side.reader.ring reads.take s.words.items s.end s.reader) }
+    requires new { (C.count consumer ≡ 0) × (C.made consumer ≡ C.makes consumer []) }
+    requires accepts { Accepts (C.accepts consumer) side.reader.ring }
+    ensures { IfOk result (λ s. StreamsTo (C.made s.samples) (C.makes consumer) side.reader.ring reads.take s.end s.reader) }
 {
     let ClientSide { munger, mut reader } = side;
     if !writing.wait() {
         reader.ask_stop();
         return Err(NoMemory);
     }
-    munge_and_read(rt, alloc, munger, reader, reads, gate, who)
+    munge_and_read(rt, munger, reader, consumer, reads, gate, who)
 }
 
 // Munges and reads to the end, each in a thread of its own.
-fn munge_and_read<R: Threads + Wait + Sync, P: Planned + Send + Sync, G: Gate + Sync>(
+fn munge_and_read<
+    R: Threads + Wait + Sync,
+    P: Planned + Send + Sync,
+    C: Consumer + Send,
+    G: Gate + Sync,
+>(
     rt: &R,
-    alloc: Global,
     munger: Munger<P>,
     reader: Reader<P>,
+    consumer: C,
     reads: Reads,
     gate: &G,
     who: u32,
-) -> Result<Streamed<P>, NoMemory>
+) -> Result<Streamed<P, C>, NoMemory>
     requires fresh { IsFresh reader }
-    ensures { IfOk result (λ s. HasStreamed reader.ring reads.take s.words.items s.end s.reader) }
+    requires new { (C.count consumer ≡ 0) × (C.made consumer ≡ C.makes consumer []) }
+    requires accepts { Accepts (C.accepts consumer) reader.ring }
+    ensures { IfOk result (λ s. StreamsTo (C.made s.samples) (C.makes consumer) reader.ring reads.take s.end s.reader) }
 {
     let started = Started::new();
     let munging = &started;
     let (_, streamed) = join(
         rt,
         move || {
-            munging.tell();
+            munging.report();
             let _munger = munge_work(rt, munger);
         },
-        move || -> Result<Streamed<P>, NoMemory>
-            requires { IsFresh reader }
-            ensures { IfOk result (λ s. HasStreamed reader.ring reads.take s.words.items s.end s.reader) }
-        { read_line(rt, alloc, reader, munging, reads, gate, who) },
+        move || -> Result<Streamed<P, C>, NoMemory>
+            requires { IsFresh reader × (C.count consumer ≡ 0) × (C.made consumer ≡ C.makes consumer []) × Accepts (C.accepts consumer) reader.ring }
+            ensures { IfOk result (λ s. StreamsTo (C.made s.samples) (C.makes consumer) reader.ring reads.take s.end s.reader) }
+        { read_line(rt, reader, consumer, munging, reads, gate, who) },
     );
     streamed
 }

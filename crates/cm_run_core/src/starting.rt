@@ -6,30 +6,30 @@ use std::thread;
 // for one that can't be made.
 const TURNS: u32 = 4_000_000;
 
-/// Tells one thread that another has started. Where no thread can be made for it, the other one's
+/// Reports to one thread that another has started. Where no thread can be made for it, the other one's
 /// work would come only after that of the first, which mustn't wait for it then.
 #[derive(Drop)]
 pub struct Started {
-    told: AtomicU64,
+    reported: AtomicU64,
 }
 
 impl Started {
     /// It hasn't started yet.
     pub fn new() -> Started {
         Started {
-            told: AtomicU64::new(0),
+            reported: AtomicU64::new(0),
         }
     }
 
     /// It has started.
-    pub fn tell(&self) {
-        self.told.store(1, Ordering::SeqCst);
+    pub fn report(&self) {
+        self.reported.store(1, Ordering::SeqCst);
     }
 
     /// Waits until it has started, and reports whether it has within some seconds.
     pub fn wait(&self) -> bool {
         for _ in 0..TURNS {
-            if self.told.load(Ordering::SeqCst) == 1 {
+            if self.reported.load(Ordering::SeqCst) == 1 {
                 return true;
             }
             thread::yield_now();

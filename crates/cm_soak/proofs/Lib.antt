@@ -1,4 +1,5 @@
 pub mod Accepted
+pub mod Adding
 pub mod Jobs
 pub mod Texts
 pub mod Totals

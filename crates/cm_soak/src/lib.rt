@@ -5,6 +5,7 @@ pub mod job;
 pub mod lines;
 pub mod part;
 pub mod soaking;
+pub mod sum;
 pub mod summing;
 #[cfg(test)]
 mod tests;

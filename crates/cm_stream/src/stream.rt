@@ -17,7 +17,7 @@ use std::alloc::{AllocError, Global};
 use std::marker::Model;
 
 // Appends the first samples that are mapped.
-#[tactic(auto, using(cm_client::proofs::Pieces::pushed_more))]
+#[tactic(auto, using(crate::proofs::Appends::pushed_more))]
 fn append_mapped<P: Planned>(
     reader: &mut Reader<P>,
     words: &mut Vec<u32>,

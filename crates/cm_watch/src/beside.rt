@@ -91,7 +91,7 @@ pub(crate) fn watch_sides<
         move ||
             requires { IsIdle owners.now theirs × (sub < length owners.now.channels) }
         {
-            writing.tell();
+            writing.report();
             board_thread(rt, owners, theirs, sub, board, gate, who)
         },
         move || -> Result<Watched<P>, NoMemory>
@@ -133,7 +133,7 @@ fn munge_beside<
     let (_, watched) = join(
         rt,
         move || {
-            munging.tell();
+            munging.report();
             let _munger = munge_work(rt, munger);
         },
         move || -> Result<Watched<P>, NoMemory>

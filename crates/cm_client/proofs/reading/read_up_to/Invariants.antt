@@ -5,7 +5,8 @@ use Rattle.cm_client.proofs.reading.read_up_to.Given as goal
 
 abbrev pub invariant-loop : goal.invariant-loop
 invariant-loop g l = record {
-  all : HasAll l.reader l.words.items;
+  all : HasAll (g.C.Consumer.count l.consumer) (g.C.Consumer.made l.consumer) (g.C.Consumer.makes l.consumer) (g.C.Consumer.accepts l.consumer) l.reader;
+  makes : g.C.Consumer.makes l.consumer ≡ g.C.Consumer.makes l.initial.consumer;
   most : MatchOption l.most ⊤ (λ m. l.reader.part.released ≤ m);
   asked : l.reader.part.asked ≡ l.initial.reader.part.asked;
   of : IsSameRing l.initial.reader l.reader;

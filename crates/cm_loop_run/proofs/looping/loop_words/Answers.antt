@@ -61,8 +61,8 @@ new-requires-3-clause-plan g c =
     let munged = ring_samples (plan_text c.input_plan-input.result) (input_of job) ring c.in_ok-board.ensures.ring plan some in
     ap (λ (x : RingConstants). x.samples) c.in_ok-writer.ensures.ring ∙ words ∙ sym (filtered_ring job ring c.args.filter.now c.requires.filter munged)
 
-pub count_of-requires : goal.count_of-requires
-count_of-requires g c = few_of (plan_text c.output_plan-output.result) (output_of c.args.job.now) c.output_plan-output.ensures.plan c.output_plan-output.ensures.job.output.few
+pub count_of-outputs-requires : goal.count_of-outputs-requires
+count_of-outputs-requires g c = few_of (plan_text c.output_plan-output.result) (output_of c.args.job.now) c.output_plan-output.ensures.plan c.output_plan-output.ensures.job.output.few
 
 pub returns : goal.returns
 returns g c =
@@ -76,6 +76,7 @@ returns g c =
     let words = c.new-looped.ensures ∙ looped_is job (plan_words c.input_plan-input.result) c.in_ok-munge.munge c.args.filter.now (plan_samples c.input_plan-input.result ∙ ap samples_of plan) munge c.requires.filter some in
     let ring = c.in_ok-writer.ensures.one.3 ∙ c.in_ok-writer.ensures.ring in
     let samples = c.requires.samples in
-    let outputs = c.count_of.ensures ∙ ap count_of out in
-    loop_out job c.in_ok-writer.out_reader.ring _ _ c.in_ok-streamed.streamed.end _ some_out (ap (λ (x : RingConstants). x.paced) ring) (ap (λ (x : RingConstants). x.rule) ring ∙ rule) (ap (λ (x : RingConstants). x.samples) ring ∙ words)
-    (c.reads_of-reads.ensures ∙ λ j. take_of (samples j) (outputs j)) c.in_ok-streamed.ensures
+    let outputs = c.count_of-outputs.ensures ∙ ap count_of out in
+    let s = c.in_ok-streamed.ensures in
+    s.are ∙ loop_out job c.in_ok-writer.out_reader.ring _ s.words c.in_ok-streamed.streamed.end _ some_out (ap (λ (x : RingConstants). x.paced) ring) (ap (λ (x : RingConstants). x.rule) ring ∙ rule) (ap (λ (x : RingConstants). x.samples) ring ∙ words)
+    (c.reads_of-reads.ensures ∙ λ j. take_of (samples j) (outputs j)) s.streamed

@@ -1,4 +1,4 @@
-use Rattle.std.proofs.Common.{◌≤◌, ◌+◌, arith}
+use Rattle.std.proofs.Common.{arith}
 use Rattle.cm_base.proofs.UnderWay.{on_err}
 use Rattle.cm_run.proofs.Writing.{block_failed, block_written}
 use Rattle.cm_run.proofs.blocks.write_blocks.Goals as goal

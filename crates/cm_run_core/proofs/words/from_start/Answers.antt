@@ -1,4 +1,4 @@
-use Rattle.std.proofs.Common.{refl, ap, ◌∙◌, arith}
+use Rattle.std.proofs.Common.{refl}
 use Rattle.cm_run_core.proofs.Sources.{filled}
 use Rattle.cm_run_core.proofs.words.from_start.Goals as goal
 

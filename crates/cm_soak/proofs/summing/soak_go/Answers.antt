@@ -1,7 +1,6 @@
-use Rattle.std.proofs.Common.{sym, subst}
+use Rattle.std.proofs.Common.{◌∙◌}
 use Rattle.cm_expand.specs.PlanView.{plan_text}
-use Rattle.cm_ring.specs.Roles.{Reading}
-use Rattle.cm_soak.specs.Sums as spec
+use Rattle.cm_soak.proofs.Adding.{part_is}
 use Rattle.cm_soak.proofs.Totals.{as_paced, has_summed}
 use Rattle.cm_soak.proofs.summing.soak_go.Goals as goal
 
@@ -9,6 +8,6 @@ pub returns : goal.returns
 returns g c =
     let p = plan_text c.args.go.plan in
     let e = c.in_ok-streamed.streamed.end in
-    let s = as_paced p c.args.go.mode c.args.go.take _ e _ c.requires.paced c.requires.all c.in_ok-streamed.ensures in
-    subst (λ (x : Reading). spec.HasSummed p c.sum_up.result.part x) (sym c.sum_up.ensures.reader)
-    (has_summed p _ e _ s c.args.go.plan.fits.some c.sum_up.result.part c.sum_up.ensures.part)
+    let streamed = c.in_ok-streamed.ensures in
+    let s = as_paced p c.args.go.mode c.args.go.take streamed.words e _ c.requires.paced c.requires.all streamed.streamed in
+    has_summed p streamed.words e _ s c.args.go.plan.fits.some c.part.result (c.part.ensures ∙ part_is c.in_ok-streamed.streamed.samples streamed.words streamed.are)

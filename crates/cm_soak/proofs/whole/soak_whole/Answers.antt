@@ -1,4 +1,4 @@
-use Rattle.std.proofs.Common.{◌≡◌, ℕ, List, ◌++◌, ◌∙◌, ap}
+use Rattle.std.proofs.Common.{ℕ, List, ◌++◌, ◌∙◌, ap}
 use Rattle.cm_soak.specs.Soak.{soak_text}
 use Rattle.cm_soak.specs.Text.{summary_text}
 use Rattle.cm_soak.specs.declared.part.Part.{Part}

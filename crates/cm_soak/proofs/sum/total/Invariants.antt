@@ -1,6 +1,6 @@
 use Rattle.std.proofs.Common.{◌≡◌, ◌≤◌, ◌*◌, take}
 use Rattle.std.specs.List.{sum}
-use Rattle.cm_soak.proofs.summing.total.Given as goal
+use Rattle.cm_soak.proofs.sum.total.Given as goal
 
 -- the total is the sum of the words so far, and not too large
 abbrev pub invariant-loop-i : goal.invariant-loop-i

@@ -1,0 +1,105 @@
+// The lines of a command's samples, made as the samples come.
+ghost use Rattle.std.specs.Prelude.{◌≡◌, [], IfOk};
+ghost use Rattle.cm_expand.specs.PlanView.{plan_text};
+ghost use Rattle.cm_text.specs.Format.{IsFormat, format_of};
+
+use cm_base::transfer::NoMemory;
+use cm_board::board::Sub;
+use cm_client::consuming::Consumer;
+use cm_expand::plan::Plan;
+use cm_expand::rule::is_raw;
+use cm_sample::scale::Scale;
+use cm_text::samples::put_samples;
+use cm_text::scales::scales_of;
+use std::alloc::Global;
+use std::marker::Model;
+
+// How many bytes are made ready for a sample's line, so that a long text is seldom moved.
+const LINE: usize = 12;
+
+/// The lines of a command's samples, made as the samples come.
+#[derive(Drop)]
+pub struct SampleText<'a> {
+    sub: &'a Sub,
+    list: &'a [u32],
+    raw: bool,
+    scales: Vec<Scale>,
+    text: Vec<u8>,
+    count: u64,
+}
+
+impl<'a> Model for SampleText<'a> {
+    ghost use Rattle.cm_run.specs.SampleText.{LinesText, lines_text, IsSampleText};
+
+    ghost Value = { LinesText };
+
+    ghost view = { lines_text };
+
+    ghost invariant = { IsSampleText };
+}
+
+impl<'a> SampleText<'a> {
+    ghost use Rattle.std.specs.Prelude.{◌≡◌, [], IfOk};
+    ghost use Rattle.cm_expand.specs.PlanView.{plan_text};
+    ghost use Rattle.cm_text.specs.Format.{IsFormat, format_of};
+
+    /// Before the first sample of a plan's command. It makes ready for `room` samples, which is no limit.
+    pub fn new(alloc: Global, plan: Plan<'a>, room: usize) -> Result<SampleText<'a>, NoMemory>
+        requires { IsFormat (format_of (plan_text plan)) }
+        ensures { IfOk result (λ t. t ≡ record { format = format_of (plan_text plan.entry); text = []; count = 0 }) }
+    {
+        let sub = plan.sub();
+        let cmd = plan.command();
+        Ok(SampleText {
+            sub,
+            list: &cmd.list,
+            raw: is_raw(cmd.flags),
+            scales: scales_of(alloc, sub, &cmd.list)?,
+            text: Vec::with_capacity(alloc, room.saturating_mul(LINE))?,
+            count: 0,
+        })
+    }
+
+    /// The text of all samples.
+    pub fn into_text(self) -> Vec<u8>
+        ensures { result.items ≡ self.entry.text }
+    {
+        let SampleText {
+            sub: _,
+            list: _,
+            raw: _,
+            scales: _,
+            text,
+            count: _,
+        } = self;
+        text
+    }
+}
+
+impl Consumer for SampleText<'_> {
+    ghost use Rattle.cm_run.specs.SampleText.{CanReport};
+    ghost use Rattle.cm_text.specs.Format.{sample_lines};
+
+    ghost count = { λ t. t.count };
+
+    ghost makes = { λ t. sample_lines t.format 0 };
+
+    ghost made = { λ t. t.text };
+
+    ghost accepts = { CanReport };
+
+    fn consume(&mut self, words: &[u32]) -> Result<(), NoMemory> {
+        put_samples(
+            &mut self.text,
+            self.sub,
+            self.list,
+            self.raw,
+            Some(&self.scales),
+            self.count,
+            words,
+            &[],
+        )?;
+        self.count += words.len() as u64;
+        Ok(())
+    }
+}
