@@ -30,7 +30,7 @@ void board_clear(void)
 	device->subdevices = 0;
 }
 
-static void begin_subdevice(char **words)
+static void start_subdevice(char **words)
 {
 	if (device->subdevices == MOST_SUBDEVICES)
 		return;
@@ -84,7 +84,7 @@ void board_line(char *line)
 	if (!strcmp(words[0], "board"))
 		snprintf(device->name, sizeof device->name, "%s", words[1]);
 	if (!strcmp(words[0], "subdevice"))
-		begin_subdevice(words);
+		start_subdevice(words);
 	if (!device->subdevices)
 		return;
 	struct subdevice *s = &device->subdevice[device->subdevices - 1];

@@ -196,7 +196,7 @@ static int input_info(int file, int number, comedi_bufinfo *info, uint64_t count
 	if (ended && !(failed && released)) {
 		uint32_t none;
 		int result = take_samples(file, number, 0, &none);
-		return result == END_TOLD ? 0 : result;
+		return result == END_REPORTED ? 0 : result;
 	}
 	return fill_memory(file, number, counts);
 }
@@ -211,7 +211,7 @@ static int output_info(int file, int number, comedi_bufinfo *info, uint64_t coun
 	if (!answer_says(" runs")) {
 		info->bytes_written = 0;
 		int result = put_values(file, number, 1, &last);
-		return result == END_TOLD ? 0 : result;
+		return result == END_REPORTED ? 0 : result;
 	}
 	int marked = mark_words(file, number, counts[1], info->bytes_written / s->sample_bytes);
 	if (marked < 0)

@@ -126,7 +126,7 @@ static int start_program(const char *path)
 }
 
 /* Says why a board isn't there: the program refuses its text, or can't be run. */
-static int tell_failure(const char *path)
+static int report_failure(const char *path)
 {
 	if (*server_answer())
 		fprintf(stderr, "zendrouz: %s: %s\n", path, server_answer());
@@ -144,14 +144,14 @@ static int load(const char *path)
 		return result;
 	board_clear();
 	if (question_describe(board_line))
-		return tell_failure(path);
+		return report_failure(path);
 	board_settle();
 	result = buffer_make_memory();
 	if (result)
 		return result;
 	for (int i = 0; i < MOST_FILES; i++)
 		device->file[i].is_open = 0;
-	time_begin();
+	time_start();
 	if (getenv("ZENDROUZ_LOG") && *getenv("ZENDROUZ_LOG"))
 		record_open(getenv("ZENDROUZ_LOG"));
 	return 0;

@@ -29,7 +29,7 @@
 #define NO_FILE (-1)
 #define NO_SUBDEVICE (-1)
 /* what a take answers where the end of a command was reported: a read then gives 0 bytes */
-#define END_TOLD (-ENODATA)
+#define END_REPORTED (-ENODATA)
 
 struct channel {
 	unsigned maxdata, ranges;
@@ -126,7 +126,7 @@ int instruction_list(int file, const comedi_insnlist *list);
 int instruction_one(int file, const comedi_insn *instruction);
 
 /* time.c */
-void time_begin(void);
+void time_start(void);
 void time_call(void);
 void time_to(uint64_t time);
 int time_wait(uint64_t time);

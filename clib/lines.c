@@ -27,6 +27,15 @@ const char *answer_words(void)
 	return text;
 }
 
+/* Whether a count and this word are all that is answered. */
+int answer_is(const char *word)
+{
+	const char *text = answer_words();
+	text += strspn(text, "0123456789");
+	text += strspn(text, " ");
+	return !strcmp(text, word);
+}
+
 int answer_says(const char *word)
 {
 	const char *found = strstr(server_answer(), word);
@@ -37,10 +46,10 @@ int answer_numbers(uint64_t *numbers, int most)
 {
 	const char *at = answer_words();
 	int count = 0;
-	for (char *end; count < most; count++, at = end) {
-		numbers[count] = strtoull(at, &end, 10);
-		if (end == at)
-			break;
+	for (; count < most && *at >= '0' && *at <= '9'; count++) {
+		for (numbers[count] = 0; *at >= '0' && *at <= '9'; at++)
+			numbers[count] = numbers[count] * 10 + (*at - '0');
+		at += *at == ' ';
 	}
 	return count;
 }

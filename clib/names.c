@@ -243,8 +243,12 @@ PUBLIC ssize_t read(int descriptor, void *to, size_t bytes)
 	int waits = names_waits(descriptor);
 	device_enter();
 	time_call();
+	uint64_t start = device->now;
 	ssize_t result = device_read(file, to, bytes, waits);
+	int waited = device->now > start;
 	device_leave();
+	if (waited && result > 0)
+		signals_send();
 	return names_answer(result);
 }
 
@@ -261,8 +265,12 @@ PUBLIC ssize_t write(int descriptor, const void *from, size_t bytes)
 	int waits = names_waits(descriptor);
 	device_enter();
 	time_call();
+	uint64_t start = device->now;
 	ssize_t result = device_write(file, from, bytes, waits);
+	int waited = device->now > start;
 	device_leave();
+	if (waited && result > 0)
+		signals_send();
 	return names_answer(result);
 }
 

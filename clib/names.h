@@ -33,6 +33,7 @@ int waits_poll(struct pollfd *asked, nfds_t count, int64_t nanoseconds);
 /* signals.c */
 int64_t signals_sleep(uint64_t nanoseconds);
 int signals_exchange(const sigset_t *mask, sigset_t *old);
+void signals_send(void);
 
 /* sets.c */
 void sets_forget(int descriptor);

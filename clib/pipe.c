@@ -6,6 +6,7 @@
 #include "server.h"
 #include <errno.h>
 #include <fcntl.h>
+#include <sched.h>
 #include <signal.h>
 #include <stdio.h>
 #include <stdlib.h>
@@ -20,6 +21,8 @@
 extern char **environ;
 
 static int channel = -1;
+/* the program, and the process that started it */
+static pid_t program_process, its_parent;
 static char input[1 << 17];
 static size_t from, upto;
 static char *answer = "";
@@ -63,6 +66,23 @@ static void become_server(const char *program, char **environment, int socket)
 	_exit(127);
 }
 
+/*
+ * The program is kept on the processor that asks. Its turn comes at once there when the client waits for the answer,
+ * and no second processor has to wake up for each line.
+ */
+static void stay_beside(void)
+{
+	static int kept_on = -1;
+	int processor = sched_getcpu();
+	cpu_set_t set;
+	if (processor < 0 || processor >= CPU_SETSIZE || processor == kept_on || getpid() != its_parent)
+		return;
+	CPU_ZERO(&set);
+	CPU_SET(processor, &set);
+	sched_setaffinity(program_process, sizeof set, &set);
+	kept_on = processor;
+}
+
 static int send_all(const char *text, size_t length)
 {
 	while (length) {
@@ -103,6 +123,8 @@ int server_start(const char *program, const char *head, size_t length)
 	from = upto = 0;
 	if (child < 0)
 		return -EAGAIN;
+	program_process = child;
+	its_parent = getpid();
 	/* an answer takes microseconds: a program that keeps silent so long is taken for dead */
 	struct timeval silence = { SECONDS_OF_SILENCE, 0 };
 	setsockopt(channel, SOL_SOCKET, SO_RCVTIMEO, &silence, sizeof silence);
@@ -172,6 +194,7 @@ int server_ask(const char *line, size_t length, void (*each)(char *line))
 		return -EIO;
 	/* answers are read whole; what is here after a fork belongs to a call of the parent */
 	from = upto = 0;
+	stay_beside();
 	int sent = send_all(line, length);
 	for (;;) {
 		char *heard = next_line();

@@ -26,6 +26,7 @@ int question_test(const char *command);
 int question_describe(void (*each)(char *line));
 const char *answer_words(void);
 int answer_numbers(uint64_t *numbers, int most);
+int answer_is(const char *word);
 int answer_says(const char *word);
 
 /* record.c */

@@ -1,7 +1,8 @@
 /*
  * SIGIO, and the names that wait for a signal. A descriptor with O_ASYNC has the signal sent where samples come while the
- * client sleeps, pauses or waits for signals in board time; as from the system, the signal ends that wait. It isn't sent
- * in other calls, and not where waits are real (ZENDROUZ_PACE).
+ * client sleeps, pauses or waits for signals in board time; as from the system, the signal ends that wait. A read, a write
+ * or a poll that waited for what came has it sent at its end, and is answered as without it. It isn't sent in other calls,
+ * and not where waits are real (ZENDROUZ_PACE).
  */
 #define _GNU_SOURCE
 #include "device.h"
@@ -27,6 +28,14 @@ static int ends_waits(int number)
 	pthread_sigmask(SIG_SETMASK, NULL, &blocked);
 	sigaction(number, NULL, &action);
 	return !sigismember(&blocked, number) && action.sa_handler != SIG_IGN;
+}
+
+/* Sends the signal, where a descriptor wants one, since something came while a call waited. */
+void signals_send(void)
+{
+	int descriptor = time_is_board_time() ? names_asynchronous() : -1;
+	if (descriptor >= 0)
+		raise(signal_of(descriptor));
 }
 
 /* Goes on to the next samples of a descriptor, if they come by a time. Answers whether they did. */

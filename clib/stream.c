@@ -10,17 +10,17 @@
 #include <string.h>
 
 /* An answer that ends a command: what the client gets for it. */
-static int told_end(struct subdevice *s, int result)
+static int reported_end(struct subdevice *s, int result)
 {
-	if (result == -EPIPE || (!result && (answer_says(" done") || answer_says(" dry")))) {
+	if (result == -EPIPE || (!result && (answer_is("done") || answer_is("dry")))) {
 		record_note("%llu end: %s", (unsigned long long)device->now, server_answer());
 		s->runner = NO_FILE;
-		return result ? result : END_TOLD;
+		return result ? result : END_REPORTED;
 	}
 	return 0;
 }
 
-/* Takes up to `most` samples. Answers how many, -EAGAIN where none is there yet, END_TOLD, or an error number. */
+/* Takes up to `most` samples. Answers how many, -EAGAIN where none is there yet, END_REPORTED, or an error number. */
 int take_samples(int file, int number, unsigned most, uint32_t *codes)
 {
 	struct subdevice *s = &device->subdevice[number];
@@ -29,12 +29,12 @@ int take_samples(int file, int number, unsigned most, uint32_t *codes)
 	if (mapped)
 		return mapped;
 	int result = question_codes(file, number, most);
-	int end = told_end(s, result);
+	int end = reported_end(s, result);
 	if (end)
 		return end;
 	if (result)
 		return kernel_result(CALL_READ, result);
-	if (answer_says(" idle"))
+	if (answer_is("idle"))
 		return -EINVAL;
 	int count = answer_numbers(numbers, 1 + SAMPLES_OF_A_LINE) - 1;
 	if (count < 0 || (uint64_t)count != numbers[0])
@@ -146,7 +146,7 @@ ssize_t device_read(int file, void *to, size_t bytes, int waits)
 	for (;;) {
 		unsigned wanted = 0;
 		ssize_t result = read_present(file, number, to, bytes);
-		if (result == END_TOLD)
+		if (result == END_REPORTED)
 			return 0;
 		if (result != -EAGAIN || !waits)
 			return result;
@@ -166,12 +166,12 @@ int put_values(int file, int number, unsigned count, const uint32_t *values)
 	uint64_t stored;
 	snprintf(start, sizeof start, "write %d %d", file, number);
 	int result = line_of_values(start, values, count);
-	int end = told_end(s, result);
+	int end = reported_end(s, result);
 	if (end)
 		return end;
 	if (result)
 		return kernel_result(CALL_WRITE, result);
-	if (answer_says(" idle"))
+	if (answer_is("idle"))
 		return -EINVAL;
 	if (answer_numbers(&stored, 1) != 1)
 		return -EIO;
@@ -225,7 +225,7 @@ ssize_t device_write(int file, const void *from, size_t bytes, int waits)
 		return -EINVAL;
 	for (;;) {
 		ssize_t result = write_present(file, number, from, bytes);
-		if (result == END_TOLD)
+		if (result == END_REPORTED)
 			return 0;
 		if (result != -EAGAIN || !waits)
 			return result;

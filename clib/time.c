@@ -28,7 +28,7 @@ static uint64_t paced_time(void)
 	return (time_of_wall() - device->wall_start) * device->pace;
 }
 
-void time_begin(void)
+void time_start(void)
 {
 	const char *calls = getenv("ZENDROUZ_CALL_NS"), *pace = getenv("ZENDROUZ_PACE"), *wake = getenv("ZENDROUZ_WAKE");
 	device->call_time = calls ? strtoull(calls, NULL, 10) : 1000;

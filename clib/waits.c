@@ -70,7 +70,6 @@ static uint64_t next_time(const struct pollfd *asked, nfds_t count)
 /* Board time goes on to the next sample, or to the end of the wait. At the horizon nothing more comes. */
 static int poll_device(struct pollfd *asked, nfds_t count, int64_t nanoseconds)
 {
-	time_call();
 	uint64_t until = nanoseconds < 0 ? UINT64_MAX : device->now + nanoseconds;
 	for (;;) {
 		int ready = ask_ready(asked, count);
@@ -90,8 +89,13 @@ int waits_poll(struct pollfd *asked, nfds_t count, int64_t nanoseconds)
 	if (count > MOST_POLLED)
 		return names_answer(-EINVAL);
 	device_enter();
+	time_call();
+	uint64_t start = device->now;
 	int result = poll_device(asked, count, nanoseconds);
+	int waited = device->now > start;
 	device_leave();
+	if (waited && result > 0)
+		signals_send();
 	return names_answer(result);
 }
 

@@ -44,7 +44,7 @@ static inline int give_command(comedi_t *device, unsigned subdevice, unsigned st
 }
 
 /* Prints a result, or the error of a call that failed. Answers 1 where it failed. */
-static inline int tell(const char *what, long result)
+static inline int report(const char *what, long result)
 {
 	if (result >= 0)
 		printf("%s: %ld\n", what, result);

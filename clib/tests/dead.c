@@ -6,7 +6,7 @@
 #include <poll.h>
 #include <sys/mman.h>
 
-static void tell_call(const char *what, long result)
+static void report_call(const char *what, long result)
 {
 	printf("%s: %s\n", what, result >= 0 ? "done" : strerror(errno));
 }
@@ -19,21 +19,21 @@ int main(void)
 	sampl_t sample[4] = { 0 };
 	lsampl_t code;
 	comedi_cmd command = { .subdev = 0 };
-	tell_call("command", give_command(device, 0, TRIG_NOW, MILLISECOND, 0));
+	report_call("command", give_command(device, 0, TRIG_NOW, MILLISECOND, 0));
 	while (read(descriptor, sample, sizeof sample) > 0)
 		;
-	tell_call("read", -1);
-	tell_call("read again", read(descriptor, sample, sizeof sample));
-	tell_call("write", write(descriptor, sample, sizeof sample));
-	tell_call("poll", poll(&asked, 1, -1));
-	tell_call("map", mmap(NULL, 4096, PROT_READ, MAP_SHARED, descriptor, 0) == MAP_FAILED ? -1 : 0);
-	tell_call("command", give_command(device, 0, TRIG_NOW, MILLISECOND, 0));
-	tell_call("test", comedi_command_test(device, &command));
-	tell_call("value", comedi_data_read(device, 0, 0, 0, AREF_GROUND, &code));
-	tell_call("lock", comedi_lock(device, 0));
-	tell_call("cancel", comedi_cancel(device, 0));
-	tell_call("contents", comedi_get_buffer_contents(device, 0));
-	tell_call("flags", comedi_get_subdevice_flags(device, 0));
+	report_call("read", -1);
+	report_call("read again", read(descriptor, sample, sizeof sample));
+	report_call("write", write(descriptor, sample, sizeof sample));
+	report_call("poll", poll(&asked, 1, -1));
+	report_call("map", mmap(NULL, 4096, PROT_READ, MAP_SHARED, descriptor, 0) == MAP_FAILED ? -1 : 0);
+	report_call("command", give_command(device, 0, TRIG_NOW, MILLISECOND, 0));
+	report_call("test", comedi_command_test(device, &command));
+	report_call("value", comedi_data_read(device, 0, 0, 0, AREF_GROUND, &code));
+	report_call("lock", comedi_lock(device, 0));
+	report_call("cancel", comedi_cancel(device, 0));
+	report_call("contents", comedi_get_buffer_contents(device, 0));
+	report_call("flags", comedi_get_subdevice_flags(device, 0));
 	usleep(1000);
 	comedi_close(device);
 	return 0;

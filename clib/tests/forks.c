@@ -11,7 +11,7 @@
 int main(void)
 {
 	comedi_t *device = open_board();
-	if (tell("command", give_command(device, 0, TRIG_NOW, MILLISECOND, 8)))
+	if (report("command", give_command(device, 0, TRIG_NOW, MILLISECOND, 8)))
 		return 1;
 	fflush(stdout);
 	pid_t child = fork();

@@ -15,7 +15,7 @@ int main(void)
 {
 	comedi_t *device = open_board();
 	int total = 0, count = 0;
-	if (tell("command", give_command(device, 0, TRIG_NOW, MILLISECOND, 100)))
+	if (report("command", give_command(device, 0, TRIG_NOW, MILLISECOND, 100)))
 		return 1;
 	for (int turn = 0; count >= 0; turn++) {
 		usleep(turn == 2 ? 20000 : 2500);

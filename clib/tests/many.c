@@ -22,7 +22,7 @@ int main(int argc, char **argv)
 	sampl_t *samples = malloc(bytes);
 	ssize_t got;
 	comedi_t *device = open_board();
-	if (tell("command", give_command(device, 0, TRIG_NOW, 10000, count)))
+	if (report("command", give_command(device, 0, TRIG_NOW, 10000, count)))
 		return 1;
 	double began = seconds();
 	while ((got = read(comedi_fileno(device), samples, bytes)) > 0) {
@@ -32,7 +32,7 @@ int main(int argc, char **argv)
 		reads++;
 	}
 	double took = seconds() - began;
-	tell("the last read", got);
+	report("the last read", got);
 	printf("%zu samples, sum %lu\n", total, sum);
 	fprintf(stderr, "%zu reads, %.0f samples a second\n", reads, total / took);
 	comedi_close(device);

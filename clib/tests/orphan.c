@@ -14,7 +14,7 @@ int main(void)
 	sampl_t sample;
 	sigset_t none;
 	sigemptyset(&none);
-	if (tell("command", give_command(device, 0, TRIG_NOW, MILLISECOND, 0)))
+	if (report("command", give_command(device, 0, TRIG_NOW, MILLISECOND, 0)))
 		return 1;
 	fflush(stdout);
 	pid_t child = fork();
@@ -27,8 +27,8 @@ int main(void)
 	kill(child, SIGKILL);
 	waitpid(child, &status, 0);
 	printf("the child was %s\n", WIFSIGNALED(status) ? "killed" : "not killed");
-	tell("read", read(comedi_fileno(device), &sample, sizeof sample));
-	tell("lock", comedi_lock(device, 0));
+	report("read", read(comedi_fileno(device), &sample, sizeof sample));
+	report("lock", comedi_lock(device, 0));
 	comedi_close(device);
 	return 0;
 }

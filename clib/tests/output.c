@@ -5,7 +5,7 @@
  * at 4,000, the trigger is given at 5,000, and word k goes out at 5,000 + k * 1,000,000: the first at the trigger itself.
  * After a sleep of 2.5 ms, at 2,506,000, the words 0, 1 and 2 are out, so there is room for 3 of the next 4. A write that
  * doesn't wait finds none then. One that waits does so until 3,005,000, when word 3 is out.
- * The command has 12 scans and 12 words. So a write after 20 ms more tells a good end with 0, and the next is EINVAL.
+ * The command has 12 scans and 12 words. So a write after 20 ms more reports a good end with 0, and the next is EINVAL.
  */
 #include "client.h"
 #include <fcntl.h>
@@ -21,19 +21,19 @@ static ssize_t put(comedi_t *device, int from, int count)
 int main(void)
 {
 	comedi_t *device = open_board();
-	if (tell("command", give_command(device, 1, TRIG_INT, MILLISECOND, 12)))
+	if (report("command", give_command(device, 1, TRIG_INT, MILLISECOND, 12)))
 		return 1;
-	tell("write 8", put(device, 0, 8));
-	tell("trigger", comedi_internal_trigger(device, 1, 0));
+	report("write 8", put(device, 0, 8));
+	report("trigger", comedi_internal_trigger(device, 1, 0));
 	fcntl(comedi_fileno(device), F_SETFL, O_NONBLOCK);
 	usleep(2500);
-	tell("write 4", put(device, 8, 4));
-	tell("write 1, not waiting", put(device, 11, 1));
+	report("write 4", put(device, 8, 4));
+	report("write 1, not waiting", put(device, 11, 1));
 	fcntl(comedi_fileno(device), F_SETFL, 0);
-	tell("write 1, waiting", put(device, 11, 1));
+	report("write 1, waiting", put(device, 11, 1));
 	usleep(20000);
-	tell("write after the end", put(device, 0, 1));
-	tell("write without a command", put(device, 0, 1));
+	report("write after the end", put(device, 0, 1));
+	report("write without a command", put(device, 0, 1));
 	comedi_close(device);
 	return 0;
 }

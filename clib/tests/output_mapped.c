@@ -14,23 +14,23 @@
 int main(void)
 {
 	comedi_t *device = open_board();
-	if (tell("command", give_command(device, 1, TRIG_INT, MILLISECOND, 10)))
+	if (report("command", give_command(device, 1, TRIG_INT, MILLISECOND, 10)))
 		return 1;
 	sampl_t *words = mmap(NULL, PLACES * sizeof *words, PROT_READ | PROT_WRITE, MAP_SHARED, comedi_fileno(device), 0);
-	if (tell("map", words == MAP_FAILED ? -1 : 0))
+	if (report("map", words == MAP_FAILED ? -1 : 0))
 		return 1;
 	for (int i = 0; i < 6; i++)
 		words[i] = 10 * (i + 1);
-	tell("mark 6", comedi_mark_buffer_written(device, 1, 6 * sizeof *words));
-	tell("trigger", comedi_internal_trigger(device, 1, 0));
+	report("mark 6", comedi_mark_buffer_written(device, 1, 6 * sizeof *words));
+	report("trigger", comedi_internal_trigger(device, 1, 0));
 	usleep(3500);
-	tell("left", comedi_get_buffer_contents(device, 1));
+	report("left", comedi_get_buffer_contents(device, 1));
 	for (int i = 6; i < 10; i++)
 		words[i % PLACES] = 10 * (i + 1);
-	tell("mark 4", comedi_mark_buffer_written(device, 1, 4 * sizeof *words));
-	tell("left", comedi_get_buffer_contents(device, 1));
+	report("mark 4", comedi_mark_buffer_written(device, 1, 4 * sizeof *words));
+	report("left", comedi_get_buffer_contents(device, 1));
 	usleep(20000);
-	tell("left", comedi_get_buffer_contents(device, 1));
+	report("left", comedi_get_buffer_contents(device, 1));
 	if (comedi_get_buffer_contents(device, 1) < 0)
 		printf("after the end: %s\n", comedi_strerror(comedi_errno()));
 	comedi_close(device);

@@ -1,7 +1,7 @@
 /*
  * A run whose waits are real: with ZENDROUZ_PACE=10 the last of 51 samples, a millisecond apart, comes after 5 ms of the
  * wall clock. How many a read finds depends on the machine, and so does the first code, which is the millisecond of the
- * command. So what is told is how many there are, and the sum of what each is above the first: 0 + 1 + .. + 50 = 1,275.
+ * command. So what is reported is how many there are, and the sum of what each is above the first: 0 + 1 + .. + 50 = 1,275.
  */
 #include "client.h"
 #include <time.h>
@@ -13,7 +13,7 @@ int main(void)
 	sampl_t samples[64];
 	int total = 0, sum = 0, first = 0;
 	clock_gettime(CLOCK_MONOTONIC, &began);
-	if (tell("command", give_command(device, 0, TRIG_NOW, MILLISECOND, 51)))
+	if (report("command", give_command(device, 0, TRIG_NOW, MILLISECOND, 51)))
 		return 1;
 	for (ssize_t bytes; (bytes = read(comedi_fileno(device), samples, sizeof samples)) > 0;)
 		for (size_t i = 0; i < bytes / sizeof *samples; i++, total++) {

@@ -6,7 +6,7 @@
  *     make sanitized && ZENDROUZ_BOARD=tests/wide.board ZENDROUZ_CORE=.. out/sanitized/random 1000000
  *
  * runs a million calls. The same seed makes the same calls. A call must answer within its bounds, and mustn't write
- * outside the memory that it was given; the program of answers mustn't refuse a line, which would be told on standard
+ * outside the memory that it was given; the program of answers mustn't refuse a line, which would be reported on standard
  * error.
  */
 #define _GNU_SOURCE
@@ -231,7 +231,7 @@ static int run_calls(unsigned calls)
 	set = epoll_create1(0);
 	for (int i = 0; i < FILES; i++)
 		if ((files[i] = open("/dev/comedi0", O_RDWR | O_NONBLOCK)) < 0)
-			return tell("open", -1);
+			return report("open", -1);
 	for (unsigned i = 0; i < calls; i++) {
 		int which = below(FILES), kind = below(18);
 		memset(memory + ROOM, 0xa5, GUARD);

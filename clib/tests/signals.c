@@ -1,12 +1,16 @@
 /*
- * SIGIO, in calls that sleep. On wide.board sample k comes at 3,000 + k * 1,000,000 ns and has the code k.
+ * SIGIO, in calls that sleep or wait. On wide.board sample k comes at 3,000 + k * 1,000,000 ns and has the code k.
  *
- * A sleep of 10 ms that begins at 3,000 is ended by sample 1, with 9,000,000 ns left. A pause is ended by sample 2. With
+ * A sleep of 10 ms that starts at 3,000 is ended by sample 1, with 9,000,000 ns left. A pause is ended by sample 2. With
  * the signal blocked a sleep lasts as long as it says; the signal waits, and is let in by the mask of sigsuspend.
+ *
+ * The second command is given at 12,007,000 ns. A read finds its first sample there, 12, and sends no signal. The next
+ * read waits for 13, and a poll for 14: each is answered with what it waited for, and the signal comes with it.
  */
 #define _GNU_SOURCE
 #include "client.h"
 #include <fcntl.h>
+#include <poll.h>
 #include <signal.h>
 #include <time.h>
 
@@ -18,9 +22,9 @@ static void note(int number)
 	signals++;
 }
 
-static void tell_wait(const char *what, int result)
+static void report_wait(const char *what, int result)
 {
-	tell(what, result);
+	report(what, result);
 	printf("signals: %d\n", signals);
 }
 
@@ -29,6 +33,7 @@ int main(void)
 	comedi_t *device = open_board();
 	struct sigaction action = { .sa_handler = note };
 	struct timespec time = { 0, 10000000 }, left = { 0, 0 };
+	struct pollfd asked = { .events = POLLIN };
 	sigset_t io, none;
 	sigemptyset(&none);
 	sigemptyset(&io);
@@ -37,17 +42,26 @@ int main(void)
 	fcntl(comedi_fileno(device), F_SETOWN, getpid());
 	fcntl(comedi_fileno(device), F_SETFL, fcntl(comedi_fileno(device), F_GETFL) | O_ASYNC);
 	printf("asynchronous: %s\n", fcntl(comedi_fileno(device), F_GETFL) & O_ASYNC ? "yes" : "no");
-	if (tell("command", give_command(device, 0, TRIG_NOW, MILLISECOND, 5)))
+	if (report("command", give_command(device, 0, TRIG_NOW, MILLISECOND, 5)))
 		return 1;
-	tell_wait("nanosleep", nanosleep(&time, &left));
+	report_wait("nanosleep", nanosleep(&time, &left));
 	printf("left: %ld\n", left.tv_nsec);
 	read_and_print(device, 8);
-	tell_wait("pause", pause());
+	report_wait("pause", pause());
 	read_and_print(device, 8);
 	sigprocmask(SIG_BLOCK, &io, NULL);
-	tell_wait("usleep", usleep(10000));
-	tell_wait("sigsuspend", sigsuspend(&none));
+	report_wait("usleep", usleep(10000));
+	report_wait("sigsuspend", sigsuspend(&none));
 	read_and_print(device, 8);
+	sigprocmask(SIG_UNBLOCK, &io, NULL);
+	read_and_print(device, 8);
+	if (report("command", give_command(device, 0, TRIG_NOW, MILLISECOND, 3)))
+		return 1;
+	report_wait("samples", read_and_print(device, 1));
+	report_wait("samples", read_and_print(device, 1));
+	asked.fd = comedi_fileno(device);
+	report_wait("poll", poll(&asked, 1, -1));
+	read_and_print(device, 1);
 	comedi_close(device);
 	return 0;
 }

@@ -18,11 +18,11 @@ static void note(int number)
 	(void)number;
 }
 
-static void tell_set(int set, int milliseconds)
+static void report_set(int set, int milliseconds)
 {
 	struct epoll_event events[4];
 	int count = epoll_wait(set, events, 4, milliseconds);
-	tell("set", count);
+	report("set", count);
 	for (int i = 0; i < count; i++)
 		printf("    member %d%s\n", events[i].data.fd, events[i].events & EPOLLIN ? " can be read" : "");
 }
@@ -30,7 +30,7 @@ static void tell_set(int set, int milliseconds)
 static void add(int set, int descriptor, int number)
 {
 	struct epoll_event event = { .events = EPOLLIN, .data.fd = number };
-	tell("add", epoll_ctl(set, EPOLL_CTL_ADD, descriptor, &event));
+	report("add", epoll_ctl(set, EPOLL_CTL_ADD, descriptor, &event));
 }
 
 int main(void)
@@ -41,24 +41,24 @@ int main(void)
 	struct timeval time = { 0, 500 };
 	sigset_t none, user;
 	fd_set reads;
-	if (pipe(ends) || tell("command", give_command(device, 0, TRIG_NOW, MILLISECOND, 3)))
+	if (pipe(ends) || report("command", give_command(device, 0, TRIG_NOW, MILLISECOND, 3)))
 		return 1;
-	tell("poll", poll(&asked, 1, -1));
+	report("poll", poll(&asked, 1, -1));
 	read_and_print(device, 8);
-	tell("poll of no time", poll(&asked, 1, 0));
+	report("poll of no time", poll(&asked, 1, 0));
 	FD_ZERO(&reads);
 	FD_SET(descriptor, &reads);
-	tell("select of 500 us", select(descriptor + 1, &reads, NULL, NULL, &time));
+	report("select of 500 us", select(descriptor + 1, &reads, NULL, NULL, &time));
 	FD_SET(descriptor, &reads);
-	tell("select", select(descriptor + 1, &reads, NULL, NULL, NULL));
+	report("select", select(descriptor + 1, &reads, NULL, NULL, NULL));
 	read_and_print(device, 8);
 	add(set, descriptor, 1);
 	add(set, ends[0], 2);
-	tell_set(set, -1);
+	report_set(set, -1);
 	if (write(ends[1], "x", 1) == 1)
-		tell_set(set, 0);
+		report_set(set, 0);
 	read_and_print(device, 8);
-	tell_set(set, 10);
+	report_set(set, 10);
 	read_and_print(device, 8);
 	signal(SIGUSR1, note);
 	sigemptyset(&none);
@@ -66,7 +66,7 @@ int main(void)
 	sigaddset(&user, SIGUSR1);
 	sigprocmask(SIG_BLOCK, &user, NULL);
 	raise(SIGUSR1);
-	tell("ppoll", ppoll(&asked, 1, NULL, &none));
+	report("ppoll", ppoll(&asked, 1, NULL, &none));
 	comedi_close(device);
 	return 0;
 }

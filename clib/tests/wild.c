@@ -88,8 +88,8 @@ int main(void)
 	ask_instructions();
 	ask_commands();
 	ask_numbers();
-	if (!tell("command", give_command(device, 0, TRIG_NOW, MILLISECOND, 4)))
-		tell("read into nothing", read(descriptor, nowhere, 4));
+	if (!report("command", give_command(device, 0, TRIG_NOW, MILLISECOND, 4)))
+		report("read into nothing", read(descriptor, nowhere, 4));
 	read_and_print(device, 4);
 	comedi_close(device);
 	return 0;
