@@ -12,6 +12,8 @@ use Rattle.cm_expand.proofs.Rules.{rule_munges}
 use Rattle.cm_text.specs.Format.{IsSample, format_of}
 use Rattle.cm_text.proofs.Codes.{sample_from}
 use Rattle.cm_client.specs.Progress.{Accepts}
+use Rattle.cm_client.specs.Samples.{first_munged, munged_plan}
+use Rattle.cm_ring_core.specs.declared.view.RingConstants.{RingConstants}
 use Rattle.cm_ring_core.specs.Lawful.{munged_at as munged_at_ring}
 use Rattle.cm_run_lines.specs.declared.line.Mode.{Mode}
 use Rattle.cm_run.specs.Blocks.{munged_words, munged_samples, count_of}
@@ -42,13 +44,22 @@ all_reported p mode is some input few place below =
       subst (IsSample (format_of p) place) (sym (munged_there p mode some place below)) (sample_from p is some input place (omega (arith, below, many))),
     )
 
--- what may be the samples of a line's ring may be the first of them
+-- what may be the samples of a ring may be the first of them
+pub given_accepted : (ring : RingConstants) (may : ℕ → ℕ → Type 0) → Accepts may ring → (n : ℕ) (words : List ℕ) → words ≡ first_munged ring n → (i : ℕ) → i < length words → may i (get_or words i 0)
+given_accepted ring may accepts n words are i below =
+    let all = length-map_from (munged_word ring.rule) 0 ring.samples in
+    let count : length words ≡ min n (length (munged_plan ring)) = ap (λ (l : List ℕ). length l) are ∙ length-take n (munged_plan ring) in
+    let there : i < length ring.samples = omega (arith, below, count, all) in
+    let place : 0 + i ≡ i = omega arith in
+    let here : get_or words i 0 ≡ munged_at_ring ring i =
+    ap (λ (l : List ℕ). get_or l i 0) are
+    ∙ get_or-take n (munged_plan ring) i 0 (omega (arith, below, count))
+    ∙ get_or-map_from (munged_word ring.rule) 0 ring.samples i 0 0 there
+    ∙ ap (λ (k : ℕ). munged_word ring.rule k (get_or ring.samples i 0)) place in
+    subst (may i) (sym here) (accepts i there)
+
+-- the same of all words of a line's ring
 pub first_accepted : (p : PlanText) (mode : Mode) (may : ℕ → ℕ → Type 0) → 1 ≤ length p.cmd.list → Accepts may (ring_of p mode) → (n : ℕ) (words : List ℕ) → words ≡ take n (munged_samples p) →
     (i : ℕ) → i < length words → may i (get_or words i 0)
 first_accepted p mode may some accepts n words are i below =
-    let all = length-munged p in
-    let many = length-samples p in
-    let count : length words ≡ min n (length (munged_samples p)) = ap (λ (l : List ℕ). length l) are ∙ length-take n (munged_samples p) in
-    let there : i < length (samples_of p) = omega (arith, below, count, all, many) in
-    let here : get_or words i 0 ≡ get_or (munged_samples p) i 0 = ap (λ (l : List ℕ). get_or l i 0) are ∙ get_or-take n (munged_samples p) i 0 (omega (arith, below, count)) in
-    subst (may i) (munged_there p mode some i there ∙ sym here) (accepts i there)
+    given_accepted (ring_of p mode) may accepts n words (are ∙ ap (take n) (sym (munged_by_rule p (samples_of p) some))) i below

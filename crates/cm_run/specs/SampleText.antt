@@ -1,6 +1,6 @@
 -- How contracts see the lines of samples that are made as the samples come.
-use Rattle.std.specs.Prelude.{ℕ, ◌<◌, ◌^◌, List}
-use Rattle.cm_text.specs.Format.{Format, IsFormat, IsSample}
+use Rattle.std.specs.Prelude.{ℕ, ◌+◌, ◌<◌, ◌^◌, List, [], ◌++◌, length}
+use Rattle.cm_text.specs.Format.{Format, IsFormat, IsSample, sample_lines}
 use Rattle.cm_text.specs.Scales.{AreScales}
 use Rattle.cm_run.specs.declared.sample_text.SampleText.TheInside.{Inside}
 
@@ -21,3 +21,15 @@ pub record IsSampleText (t : Inside) : Type 0 where
 -- a word can be reported as the sample of a place
 abbrev pub CanReport : LinesText → ℕ → ℕ → Type 0
 CanReport t place word = (place < 2 ^ 60) × IsSample t.format place word
+
+-- before the first sample
+abbrev pub no_lines : Format → LinesText
+no_lines format = record { format = format; text = []; count = 0 }
+
+-- after more samples
+abbrev pub with_lines : LinesText → List ℕ → LinesText
+with_lines t words = record t { text = t.text ++ sample_lines t.format t.count words; count = t.count + length words }
+
+-- all of a command's first samples are there
+abbrev pub lines_of : Format → List ℕ → LinesText
+lines_of format words = record { format = format; text = sample_lines format 0 words; count = length words }

@@ -6,9 +6,9 @@ ghost use Rattle.cm_run.specs.Blocks as blocks;
 ghost use Rattle.cm_run.specs.Going.{IsGo};
 ghost use Rattle.cm_run.specs.Ran as ran;
 ghost use Rattle.cm_run.specs.Limits.{FitsCount};
-ghost use Rattle.cm_run.specs.SampleText.{CanReport};
+ghost use Rattle.cm_run.specs.SampleText.{CanReport, no_lines};
 ghost use Rattle.cm_run_core.specs.Streamed.{StreamsTo};
-ghost use Rattle.cm_text.specs.Format.{format_of, sample_lines};
+ghost use Rattle.cm_text.specs.Format.{format_of};
 ghost use Rattle.cm_text.specs.Tails.{tail_text};
 
 use crate::done::LineDone;
@@ -54,9 +54,9 @@ fn is_paced(mode: Mode) -> bool
     }
 }
 
-/// How many samples a client makes ready for: as many as the stop count says, and no more than it takes.
-/// Without a stop count it makes ready for none.
-pub fn room_of(go: &Go<'_>) -> usize {
+// How many samples a client makes ready for: as many as the stop count says, and no more than it takes.
+// Without a stop count it makes ready for none.
+fn room_of(go: &Go<'_>) -> usize {
     let whole = go.plan.whole_count().unwrap_or(0);
     let taken = whole.min(go.take.unwrap_or(whole));
     taken.min(MOST_ROOM) as usize
@@ -88,34 +88,26 @@ pub fn stream_go<'a, R: Threads + Wait + Sync, C: Consumer + Send, G: Gate + Syn
     )
 }
 
-/// The block of a line whose words were read up to an end.
-pub(crate) fn go_block(
-    alloc: Global,
-    go: Go<'_>,
-    words: &[u32],
-    end: End,
-) -> Result<Vec<u8>, NoMemory>
-    requires go { IsGo (plan_text go.plan) go.cmd.now }
-    requires words { (n : ℕ) × (words.now ≡ take n (blocks.munged_samples (plan_text go.plan))) }
-    requires end { FitsCount (plan_text go.plan) end.kind end.count }
-    ensures { IfOk result (λ v. v.items ≡ sample_lines (format_of (plan_text go.entry.plan)) 0 words.now ++ tail_text (ran.tail_after (plan_text go.entry.plan) go.entry.take end.kind end.count)) }
-{
-    let mut lines = lines_of(alloc, go, words.len())?;
-    lines.consume(words)?;
-    let mut block = lines.into_text();
-    put_tail(&mut block, tail_after(go.plan, go.take, end))?;
-    Ok(block)
-}
-
-// The lines of the line's samples, before the first.
-fn lines_of<'a>(alloc: Global, go: Go<'a>, room: usize) -> Result<SampleText<'a>, NoMemory>
+/// The lines of the line's samples, before the first.
+pub(crate) fn lines_of<'a>(alloc: Global, go: Go<'a>) -> Result<SampleText<'a>, NoMemory>
     requires { IsGo (plan_text go.plan) go.cmd.now }
-    ensures new { IfOk result (λ t. t ≡ record { format = format_of (plan_text go.entry.plan); text = []; count = 0 }) }
+    ensures new { IfOk result (λ t. t ≡ no_lines (format_of (plan_text go.entry.plan))) }
     ensures accepts { IfOk result (λ t. Accepts (CanReport t) (ran.ring_of (plan_text go.entry.plan) go.entry.mode)) }
 {
     // The board tells what holds of each expansion: that the words are codes of their channels.
     let _place = Board::new(go.plan).place();
-    SampleText::new(alloc, go.plan, room)
+    SampleText::new(alloc, go.plan, room_of(&go))
+}
+
+/// The block of a line: the lines of its samples, and the line of the end that its reader found.
+pub(crate) fn with_end(go: Go<'_>, lines: SampleText<'_>, end: End) -> Result<Vec<u8>, NoMemory>
+    requires go { IsGo (plan_text go.plan) go.cmd.now }
+    requires end { FitsCount (plan_text go.plan) end.kind end.count }
+    ensures { IfOk result (λ v. v.items ≡ lines.entry.text ++ tail_text (ran.tail_after (plan_text go.entry.plan) go.entry.take end.kind end.count)) }
+{
+    let mut block = lines.into_text();
+    put_tail(&mut block, tail_after(go.plan, go.take, end))?;
+    Ok(block)
 }
 
 /// Streams the line, and makes its block.
@@ -129,10 +121,9 @@ pub(crate) fn go_line<'a, R: Threads + Wait + Sync, G: Gate + Sync>(
     requires { IsGo (plan_text go.plan) go.cmd.now }
     ensures { IfOk result (λ d. ran.HasGone (plan_text go.entry.plan) go.entry.mode go.entry.take d.block.items d.reader) }
 {
-    let lines = lines_of(alloc, go, room_of(&go))?;
+    let lines = lines_of(alloc, go)?;
     let streamed = stream_go(rt, alloc, go, lines, gate, who)?;
-    let mut block = streamed.samples.into_text();
-    put_tail(&mut block, tail_after(go.plan, go.take, streamed.end))?;
+    let block = with_end(go, streamed.samples, streamed.end)?;
     Ok(LineDone {
         block,
         reader: Some(streamed.reader),

@@ -1,7 +1,4 @@
 // The lines of a command's samples, made as the samples come.
-ghost use Rattle.std.specs.Prelude.{◌≡◌, [], IfOk};
-ghost use Rattle.cm_expand.specs.PlanView.{plan_text};
-ghost use Rattle.cm_text.specs.Format.{IsFormat, format_of};
 
 use cm_base::transfer::NoMemory;
 use cm_board::board::Sub;
@@ -39,14 +36,15 @@ impl<'a> Model for SampleText<'a> {
 }
 
 impl<'a> SampleText<'a> {
-    ghost use Rattle.std.specs.Prelude.{◌≡◌, [], IfOk};
+    ghost use Rattle.std.specs.Prelude.{◌≡◌, ℕ, ◌+◌, ◌<◌, length, slice_index, IfOk, OnOk};
     ghost use Rattle.cm_expand.specs.PlanView.{plan_text};
+    ghost use Rattle.cm_run.specs.SampleText.{CanReport, no_lines, with_lines};
     ghost use Rattle.cm_text.specs.Format.{IsFormat, format_of};
 
     /// Before the first sample of a plan's command. It makes ready for `room` samples, which is no limit.
     pub fn new(alloc: Global, plan: Plan<'a>, room: usize) -> Result<SampleText<'a>, NoMemory>
         requires { IsFormat (format_of (plan_text plan)) }
-        ensures { IfOk result (λ t. t ≡ record { format = format_of (plan_text plan.entry); text = []; count = 0 }) }
+        ensures { IfOk result (λ t. t ≡ no_lines (format_of (plan_text plan.entry))) }
     {
         let sub = plan.sub();
         let cmd = plan.command();
@@ -58,6 +56,26 @@ impl<'a> SampleText<'a> {
             text: Vec::with_capacity(alloc, room.saturating_mul(LINE))?,
             count: 0,
         })
+    }
+
+    /// Appends the lines of the next samples.
+    pub fn put(&mut self, words: &[u32]) -> Result<(), NoMemory>
+        requires { (i : ℕ) → i < length words.now → CanReport self.old (self.old.count + i) (slice_index words.now i) }
+        ensures lines { OnOk result (self.new ≡ with_lines self.old words.now) }
+        ensures format { self.new.format ≡ self.old.format }
+    {
+        put_samples(
+            &mut self.text,
+            self.sub,
+            self.list,
+            self.raw,
+            Some(&self.scales),
+            self.count,
+            words,
+            &[],
+        )?;
+        self.count += words.len() as u64;
+        Ok(())
     }
 
     /// The text of all samples.
@@ -89,17 +107,7 @@ impl Consumer for SampleText<'_> {
     ghost accepts = { CanReport };
 
     fn consume(&mut self, words: &[u32]) -> Result<(), NoMemory> {
-        put_samples(
-            &mut self.text,
-            self.sub,
-            self.list,
-            self.raw,
-            Some(&self.scales),
-            self.count,
-            words,
-            &[],
-        )?;
-        self.count += words.len() as u64;
+        self.put(words)?;
         Ok(())
     }
 }

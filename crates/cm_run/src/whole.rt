@@ -1,10 +1,18 @@
-// The blocks of lines all of whose samples a client has.
-ghost use Rattle.std.specs.Prelude.{◌≡◌, ◌<◌, length, slice_get, IfOk, IfSome};
+// The blocks of lines that take all samples.
+ghost use Rattle.std.specs.Prelude.{◌≡◌, ◌<◌, length, slice_get, IfOk, IfSome, None};
+ghost use Rattle.cm_client.specs.Progress.{Accepts};
+ghost use Rattle.cm_expand.specs.PlanView.{plan_text};
 ghost use Rattle.cm_run.specs.Blocks.{line_block};
-ghost use Rattle.cm_run.specs.Whole.{IsWhole};
+ghost use Rattle.cm_run.specs.Going.{IsGo};
+ghost use Rattle.cm_run.specs.Ran.{ring_of};
+ghost use Rattle.cm_run.specs.SampleText.{CanReport, no_lines};
+ghost use Rattle.cm_run.specs.Whole.{HasWhole, IsWhole, TakesAll, line_format};
+ghost use Rattle.cm_run_lines.specs.Calls as calls;
 ghost use Rattle.cm_run_lines.specs.RunLines.{CanRun};
+ghost use Rattle.cm_run_lines.specs.declared.line.Mode.TheVariants.{Paced};
 
-use crate::going::{Go, go_block};
+use crate::going::{Go, lines_of, with_end};
+use crate::sample_text::SampleText;
 use cm_base::transfer::NoMemory;
 use cm_board::board::BoardDesc;
 use cm_ring_core::view::End;
@@ -43,6 +51,49 @@ fn whole_block(
     requires whole { IsWhole board.now signals.now line.now words.now end }
     ensures { IfOk result (λ text. text.items ≡ line_block board.now signals.now line.now) }
 {
+    let mut lines = lines_for(alloc, board, signals, line)?;
+    lines.put(words)?;
+    block_of(board, signals, line, lines, end)
+}
+
+/// The lines of the samples of a line that takes all, before the first.
+pub fn lines_for<'a>(
+    alloc: Global,
+    board: &'a BoardDesc,
+    signals: &'a Signals,
+    line: &'a RunLine,
+) -> Result<SampleText<'a>, NoMemory>
+    requires run { CanRun board.now signals.now line.now }
+    requires all { TakesAll line.now }
+    ensures new { IfOk result (λ t. t ≡ no_lines (line_format board.entry.now signals.entry.now line.entry.now)) }
+    ensures accepts { IfOk result (λ t. Accepts (CanReport t) (ring_of (calls.plan_of board.entry.now signals.entry.now line.entry.now) Paced)) }
+{
+    lines_of(alloc, go_of(board, signals, line))
+}
+
+/// The block of a line that takes all samples, whose lines are made.
+pub fn block_of(
+    board: &BoardDesc,
+    signals: &Signals,
+    line: &RunLine,
+    lines: SampleText<'_>,
+    end: End,
+) -> Result<Vec<u8>, NoMemory>
+    requires run { CanRun board.now signals.now line.now }
+    requires whole { HasWhole board.now signals.now line.now lines end }
+    ensures { IfOk result (λ text. text.items ≡ line_block board.now signals.now line.now) }
+{
+    with_end(go_of(board, signals, line), lines, end)
+}
+
+// What a `go` line that takes all samples asks.
+fn go_of<'a>(board: &'a BoardDesc, signals: &'a Signals, line: &'a RunLine) -> Go<'a>
+    requires run { CanRun board.now signals.now line.now }
+    requires all { TakesAll line.now }
+    ensures go { IsGo (plan_text result.plan) result.cmd.now }
+    ensures plan { plan_text result.plan ≡ calls.plan_of board.entry.now signals.entry.now line.entry.now }
+    ensures all { result.take ≡ None }
+{
     let plan = plan_of(board, signals, line);
     let RunLine::Go {
         mode,
@@ -54,12 +105,11 @@ fn whole_block(
     else {
         unreachable!()
     };
-    let go = Go {
+    Go {
         plan,
         cmd,
         mode: *mode,
         access: *access,
         take: *take,
-    };
-    go_block(alloc, go, words, end)
+    }
 }

@@ -45,7 +45,7 @@ last_yes true true true true false x y z w h = cc
 last_yes true true true true true x y z w h = refl
 
 -- the list of a command that passes the test has an entry
-some-entry : (sub : SubText) (cmd : CmdText) → (tested sub cmd).0 ≡ 0 → 1 ≤ length cmd.list
+pub some-entry : (sub : SubText) (cmd : CmdText) → (tested sub cmd).0 ≡ 0 → 1 ≤ length cmd.list
 some-entry sub cmd passes =
     let valid = last_yes (is_narrow sub cmd) (is_compatible sub cmd) (is_within sub cmd) (is_rounded sub cmd) (is_valid_list sub cmd.list) cmd (narrowed sub cmd) (repaired sub cmd) (rounded sub cmd) passes in
     let most = and_parts (has_valid_length sub cmd.list && list_all (is_valid_entry sub) cmd.list) (has_valid_ranges sub cmd.list) valid in

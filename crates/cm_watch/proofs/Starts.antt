@@ -1,49 +1,44 @@
 -- What streams that start for lines have of them.
-use Rattle.std.proofs.Common.{◌≡◌, ℕ, ◌+◌, ◌<◌, false, true, List, [], ◌∷◌, ◌++◌, length, map, take, get_or, refl, sym, ap, ◌∙◌, Vec, arith}
+use Rattle.std.proofs.Common.{◌≡◌, inl, inr, ℕ, List, [], ◌∷◌, ◌++◌, length, length-append, map, sym, ap, ◌∙◌, subst, arith}
+use Rattle.std.specs.Prelude.{slice_get}
 use Rattle.std.specs.List.{All, AllByRecursion}
 use Rattle.std.proofs.Math.ListN.{length-map}
-use Rattle.std.proofs.lemmas.List.{take_more, map-append}
-use Rattle.std.proofs.lemmas.List.Elements.{All-append, All-from_recursion, recursion_from_All}
+use Rattle.std.proofs.lemmas.List.Elements.{All-from_recursion}
+use Rattle.std.proofs.lemmas.Option.{slice_get_within}
 use Rattle.cm_board.specs.Board.{BoardText}
-use Rattle.cm_ring_core.specs.declared.view.ReaderPart.{ReaderPart}
-use Rattle.cm_ring_core.specs.declared.view.RingConstants.{RingConstants}
+use Rattle.cm_client.specs.Progress.{Accepts}
 use Rattle.cm_client.specs.Samples.{first_munged}
 use Rattle.cm_signal.specs.Signals.{SignalsText}
+use Rattle.cm_run.specs.SampleText.{CanReport, LinesText, lines_of, no_lines}
+use Rattle.cm_run.specs.Whole.{line_format}
 use Rattle.cm_run_lines.specs.declared.line.RunLine.{RunLine}
 use Rattle.cm_stream.specs.Stream.{Streaming}
 use Rattle.cm_stream.specs.Merging.{IsFresh, IsPacedOn, given_words}
 use Rattle.cm_watch.specs.Opened.{Start, line_start, stream_start}
-use Rattle.cm_watch.specs.Watched.{HaveRead, Words, lists_of}
-use Rattle.cm_watch.proofs.Followed.{fresh_read}
-
--- one more in a list of which all are so
-pub all_more : {X : Type 0} (P : X → Type 0) (xs : List X) (x : X) → All P xs → P x → All P (xs ++ x ∷ [])
-all_more P xs x each one = All-append P xs (x ∷ []) each (All-from_recursion P (x ∷ []) (one, tt))
+use Rattle.cm_watch.specs.Watched.{AreRead, HasLines}
+use Rattle.cm_watch.proofs.Places.{all_more, snoc_cases}
 
 module _ (board : BoardText) (signals : SignalsText) where
   -- streams start for lines
   abbrev pub Start_for : List Streaming → List RunLine → Type 0
   Start_for streams lines = map stream_start streams ≡ map (line_start board signals) lines
 
-  -- one more stream, for the next line
-  pub starts_more : (streams : List Streaming) (s : Streaming) (lines : List RunLine) (i : ℕ) (d : RunLine) → i < length lines → Start_for streams (take i lines) → stream_start s ≡ line_start board signals (get_or lines i d)
-      → Start_for (streams ++ s ∷ []) (take (i + 1) lines)
-  starts_more streams s lines i d within before one =
-      map-append stream_start streams (s ∷ [])
-      ∙ (ap (λ (l : List Start). l ++ stream_start s ∷ []) before
-      ∙ (ap (λ (x : Start). map (line_start board signals) (take i lines) ++ x ∷ []) one
-      ∙ (sym (map-append (line_start board signals) (take i lines) (get_or lines i d ∷ []))
-      ∙ ap (map (line_start board signals)) (sym (take_more lines i d within)))))
-
   -- a stream that starts for a line has a paced ring, of which nothing was read
-  paced_one : (s : Streaming) (line : RunLine) → stream_start s ≡ line_start board signals line → IsPacedOn s
+  pub paced_one : (s : Streaming) (line : RunLine) → stream_start s ≡ line_start board signals line → IsPacedOn s
   paced_one s line e = (ap (λ (x : Start). x.ring.paced) e, ap (λ (x : Start). x.part.asked) e)
 
   fresh_one : (s : Streaming) (line : RunLine) → stream_start s ≡ line_start board signals line → IsFresh s
   fresh_one s line e = ap (λ (x : Start). x.part.released) e
 
-  none_given : (s : Streaming) (line : RunLine) → stream_start s ≡ line_start board signals line → given_words s ≡ []
-  none_given s line e = ap (λ (n : ℕ). first_munged s.reader.ring n) (fresh_one s line e)
+  -- and there are no lines yet
+  pub starts_with : (s : Streaming) (line : RunLine) (t : LinesText) → stream_start s ≡ line_start board signals line → t ≡ no_lines (line_format board signals line) → Accepts (CanReport t) (line_start board signals line).ring → HasLines t s
+  starts_with s line t e none report =
+      let given : given_words s ≡ [] = ap (λ (n : ℕ). first_munged s.reader.ring n) (fresh_one s line e) in
+      let format : t.format ≡ line_format board signals line = ap (λ (x : LinesText). x.format) none in
+      record {
+        lines = none ∙ ap no_lines (sym format) ∙ ap (lines_of t.format) (sym given);
+        report = subst (Accepts (CanReport t)) (sym (ap (λ (x : Start). x.ring) e)) report;
+      }
 
   -- what holds of each such stream
   each_by : (P : Streaming → Type 0) → ((s : Streaming) (line : RunLine) → stream_start s ≡ line_start board signals line → P s) → (streams : List Streaming) (lines : List RunLine) → Start_for streams lines → AllByRecursion P streams
@@ -60,24 +55,26 @@ module _ (board : BoardText) (signals : SignalsText) where
   pub counted : (streams : List Streaming) (lines : List RunLine) → Start_for streams lines → length streams ≡ length lines
   counted streams lines start = sym (length-map streams stream_start) ∙ (ap (length {A = Start}) start ∙ length-map lines (line_start board signals))
 
-  -- empty lists are all that such streams have given
-  empty_lists : (streams : List Streaming) (lines : List RunLine) (lists : List Words) → Start_for streams lines → length lists ≡ length lines → AllByRecursion (λ (w : Words). w.items ≡ []) lists
-      → lists_of lists ≡ map given_words streams
-  empty_lists [] [] [] start count empty = refl
-  empty_lists [] [] (w ∷ lists) start count empty = absurd (omega arith)
-  empty_lists [] (line ∷ lines) lists start count empty = absurd cc
-  empty_lists (s ∷ streams) [] lists start count empty = absurd cc
-  empty_lists (s ∷ streams) (line ∷ lines) [] start count empty = absurd (omega arith)
-  empty_lists (s ∷ streams) (line ∷ lines) (w ∷ lists) start count empty =
-      let head : stream_start s ≡ line_start board signals line = cc in
-      let tail : Start_for streams lines = cc in
-      let none = none_given s line head in
-      let here : w.items ≡ given_words s = empty.0 ∙ sym none in
-      let rest : lists_of lists ≡ map given_words streams = empty_lists streams lines lists tail (omega arith) empty.1 in
-      cc
-
-  pub none_read : (streams : List Streaming) (lines : List RunLine) (lists : List Words) → Start_for streams lines → length lists ≡ length lines → All (λ (w : Words). w.items ≡ []) lists
-      → HaveRead streams streams lists
-  none_read streams lines lists start count empty =
-      fresh_read streams lists (All-from_recursion IsPacedOn streams (each_by IsPacedOn paced_one streams lines start))
-      (empty_lists streams lines lists start count (recursion_from_All (λ (w : Words). w.items ≡ []) lists empty))
+-- one stream more
+pub read_more : (streams more : List Streaming) (texts longer : List LinesText) (s : Streaming) (t : LinesText) → more ≡ streams ++ s ∷ [] → longer ≡ texts ++ t ∷ [] → AreRead streams texts → IsPacedOn s → HasLines t s → AreRead more longer
+read_more streams more texts longer s t more_is longer_is read paced one =
+    let n = read.count in
+    record {
+      paced = subst (All IsPacedOn) (sym more_is) (all_more IsPacedOn streams s read.paced paced);
+      count = (let a = ap (length {A = LinesText}) longer_is ∙ length-append texts (t ∷ []) in let b = ap (length {A = Streaming}) more_is ∙ length-append streams (s ∷ []) in omega arith);
+      each = λ i x y here there.
+          let at_end = snoc_cases texts t i x (ap (λ (l : List LinesText). slice_get l i) (sym longer_is) ∙ here) in
+          let stream = snoc_cases streams s i y (ap (λ (l : List Streaming). slice_get l i) (sym more_is) ∙ there) in
+          elim at_end [
+            | inl text ↦
+                elim stream [
+                  | inl before ↦ read.each i x y text before
+                  | inr last ↦ absurd (let w = slice_get_within texts i x text in omega (arith, last.0))
+                ]
+            | inr end ↦
+                elim stream [
+                  | inl before ↦ absurd (let w = slice_get_within streams i y before in omega (arith, end.0))
+                  | inr last ↦ subst (λ (z : LinesText). HasLines z y) end.1 (subst (HasLines t) last.1 one)
+                ]
+          ];
+    }

@@ -1,39 +1,41 @@
--- That the words which were read of a line's stream are the whole line.
-use Rattle.std.proofs.Common.{◌≡◌, ◌⊎◌, inl, inr, ℕ, zero, suc, ◌+◌, ◌<◌, ◌≤◌, List, [], ◌∷◌, ◌++◌, length, map, take, get_or, refl, sym, ap, ◌∙◌, subst, Option, Some, None, append_assoc, append-nil, arith}
-use Rattle.std.specs.Prelude.{slice_get, IfSome}
+-- That the lines which were made of a line's stream are the whole line's.
+use Rattle.std.proofs.Common.{◌≡◌, inl, inr, ℕ, ◌+◌, ◌<◌, ◌≤◌, List, [], ◌∷◌, ◌++◌, length, length-append, take, get_or, refl, sym, ap, ◌∙◌, subst, Some, None, append_assoc, append-nil, arith}
+use Rattle.std.specs.Prelude.{slice_get}
 use Rattle.std.specs.List.{All}
 use Rattle.std.proofs.Math.ListN.{length-map}
 use Rattle.std.proofs.lemmas.List.{take_more}
-use Rattle.std.proofs.lemmas.Option.{slice_get_within, slice_get-get_or, get_or_from_slice_get}
-use Rattle.cm_board.specs.Board.{BoardText}
+use Rattle.std.proofs.lemmas.Option.{slice_get_within, slice_get-get_or, slice_get_read, get_or_from_slice_get}
+use Rattle.cm_board.specs.Board.{BoardText, SubText}
 use Rattle.cm_client.specs.Samples.{munged_plan}
 use Rattle.cm_client.proofs.Whole.{whole_plan}
 use Rattle.cm_expand.specs.Items.{samples_of}
 use Rattle.cm_expand.specs.Plan.{PlanText}
 use Rattle.cm_ring_core.specs.declared.view.End.{End}
 use Rattle.cm_ring_core.specs.declared.view.EndKind.{EndKind}
-use Rattle.cm_ring_core.specs.declared.view.EndKind.TheVariants as ends
 use Rattle.cm_ring_core.specs.declared.view.RingConstants.{RingConstants}
 use Rattle.cm_ring_core.specs.Lawful.{IsFoundEnd}
 use Rattle.cm_run.specs.Blocks.{line_block, munged_samples, run_text}
 use Rattle.cm_run.specs.Ran.{ring_of}
-use Rattle.cm_run.specs.Whole.{IsWhole}
+use Rattle.cm_run.specs.SampleText.{LinesText, lines_of}
+use Rattle.cm_run.specs.Whole.{HasWhole, TakesAll, line_format}
 use Rattle.cm_run.proofs.Ends.{length-samples}
 use Rattle.cm_run.proofs.Reported.{length-munged, munged_by_rule}
-use Rattle.cm_run_lines.specs.Calls.{plan_of}
-use Rattle.cm_run_lines.specs.WatchLines.{IsWatched}
+use Rattle.cm_run_lines.specs.Calls.{cmd_of, plan_of, sub_at}
+use Rattle.cm_run_lines.specs.Job.{RunJobText}
+use Rattle.cm_run_lines.specs.WatchLines.{IsWatched, WatchesSub}
 use Rattle.cm_run_lines.specs.declared.line.Mode.TheVariants.{Paced}
 use Rattle.cm_run_lines.specs.declared.line.RunLine.{RunLine}
 use Rattle.cm_run_lines.specs.declared.line.RunLine.TheVariants.{Go, Drive}
 use Rattle.cm_signal.specs.Signals.{SignalsText}
 use Rattle.cm_stream.specs.Stream.{Streaming, IsOver}
-use Rattle.cm_stream.specs.Merging.{Fixed, IsEndOf, IsPacedOn, fixed, plan_of as whole_of}
-use Rattle.cm_run_lines.specs.Job.{RunJobText}
-use Rattle.cm_watch.specs.Whole.{AreWhole, HaveEnded}
+use Rattle.cm_stream.specs.Merging.{Fixed, IsEndOf, IsPacedOn, fixed, given_words, plan_of as whole_of}
+use Rattle.cm_text.specs.Format.{Format}
+use Rattle.cm_watch.specs.Whole.{AreEnds, AreWhole}
 use Rattle.cm_watch.specs.Opened.{HaveWatched, Start, line_start, stream_start}
-use Rattle.cm_watch.specs.Watched.{HasWatched, Words, lists_of}
+use Rattle.cm_watch.specs.Watched.{text_format}
 use Rattle.cm_watch.proofs.Openings.{scan_of}
-use Rattle.cm_watch.proofs.Starts.{Start_for, counted}
+use Rattle.cm_watch.proofs.Places.{from_some, if_some, only, same_at, snoc_before, snoc_cases, snoc_last}
+use Rattle.cm_watch.proofs.Starts.{counted}
 
 -- a text of one line more
 run_text_snoc : (board : BoardText) (signals : SignalsText) (lines : List RunLine) (line : RunLine) → run_text board signals (lines ++ line ∷ []) ≡ run_text board signals lines ++ line_block board signals line
@@ -42,120 +44,105 @@ run_text_snoc board signals (first ∷ lines) line =
     ap (λ (l : List ℕ). line_block board signals first ++ l) (run_text_snoc board signals lines line)
     ∙ sym (append_assoc (line_block board signals first) (run_text board signals lines) (line_block board signals line))
 
-pub run_text_more : (board : BoardText) (signals : SignalsText) (lines : List RunLine) (i : ℕ) (d : RunLine) → i < length lines → run_text board signals (take (i + 1) lines) ≡ run_text board signals (take i lines) ++ line_block board signals (get_or lines i d)
-run_text_more board signals lines i d within = ap (run_text board signals) (take_more lines i d within) ∙ run_text_snoc board signals (take i lines) (get_or lines i d)
-
--- what a place of one list has of a list that is the same under two functions
-same_at : {A B X : Type 0} (f : A → X) (g : B → X) (xs : List A) (ys : List B) (i : ℕ) (y : B) → map f xs ≡ map g ys → slice_get ys i ≡ Some y → (x : A) × (slice_get xs i ≡ Some x) × (f x ≡ g y)
-same_at f g [] [] i y same has = absurd cc
-same_at f g [] (b ∷ ys) i y same has = absurd cc
-same_at f g (a ∷ xs) [] i y same has = absurd cc
-same_at f g (a ∷ xs) (b ∷ ys) zero y same has = let head : f a ≡ g b = cc in let is : b ≡ y = cc in (a, refl, head ∙ ap g is)
-same_at f g (a ∷ xs) (b ∷ ys) (suc i) y same has = let tail : map f xs ≡ map g ys = cc in same_at f g xs ys i y tail has
+pub run_text_more : (board : BoardText) (signals : SignalsText) (lines : List RunLine) (i : ℕ) (line : RunLine) (text block : List ℕ) → slice_get lines i ≡ Some line → text ≡ run_text board signals (take i lines) → block ≡ line_block board signals line
+    → text ++ block ≡ run_text board signals (take (i + 1) lines)
+run_text_more board signals lines i line text block here before is =
+    ap (λ (l : List ℕ). l ++ block) before
+    ∙ (ap (λ (l : List ℕ). run_text board signals (take i lines) ++ l) (is ∙ ap (line_block board signals) (sym (get_or_from_slice_get lines i line line here)))
+    ∙ (sym (run_text_snoc board signals (take i lines) (get_or lines i line))
+    ∙ ap (run_text board signals) (sym (take_more lines i line (slice_get_within lines i line here)))))
 
 -- the munged plan of a line's ring is its munged expansion
 plan_is : (p : PlanText) → 1 ≤ length p.cmd.list → munged_plan (ring_of p Paced) ≡ munged_samples p
 plan_is p some = munged_by_rule p (samples_of p) some
 
--- a line that is watched and whose words are all there is whole
-whole_line : (board : BoardText) (signals : SignalsText) (line : RunLine) (words : List ℕ) (e : End) → IsWatched board line → words ≡ munged_samples (plan_of board signals line) → e.kind ≡ ends.Done → e.count ≡ length words
-    → IsWhole board signals line words e
-whole_line board signals (Go mode access t0 None cmd) words e watched all done count = (all, done, count)
-whole_line board signals (Go mode access t0 (Some most) cmd) words e watched all done count = absurd (let none = watched.1 in cc)
-whole_line board signals (Drive t0 values cmd) words e watched all done count = absurd watched
+-- a line that is watched takes all samples
+takes_by : (sub : SubText) (line : RunLine) → WatchesSub sub line → TakesAll line
+takes_by sub (Go mode access t0 most cmd) watched = watched.1
+takes_by sub (Drive t0 values cmd) watched = absurd watched
 
-module _ (board : BoardText) (signals : SignalsText) (lines : List RunLine) (first now : List Streaming) (lists : List Words)
-    (watched : All (IsWatched board) lines) (start : Start_for board signals first lines) (read : HasWatched first now lists) (i : ℕ) (line : RunLine) (has : slice_get lines i ≡ Some line) where
-  -- the streams count as many as the lines
-  now_at : (x : Streaming) × (slice_get now i ≡ Some x) × (fixed x ≡ fixed (same_at stream_start (line_start board signals) first lines i line start has).0)
-  now_at = let f = same_at stream_start (line_start board signals) first lines i line start has in same_at fixed fixed now first i f.0 read.same f.1
+pub takes_all : (board : BoardText) (line : RunLine) → IsWatched board line → TakesAll line
+takes_all board line watched = takes_by (sub_at board (cmd_of line).sub) line watched
 
-  pub within : i < length now
-  within = slice_get_within now i now_at.0 now_at.1
+module _ (board : BoardText) (signals : SignalsText) (lines : List RunLine) (now : List Streaming) (texts : List LinesText) (watched : All (IsWatched board) lines) (have : HaveWatched board signals lines now texts) where
+  -- as many streams as lines
+  pub streams_counted : length now ≡ length lines
+  streams_counted = sym (length-map now fixed) ∙ (ap (length {A = Fixed}) have.read.same.streams ∙ (length-map have.first fixed ∙ counted board signals have.first lines have.start.streams))
 
-  -- the words and the end of a line's stream are those of the whole line
-  pub whole_at : (w : Words) (words : List ℕ) (e : End) → slice_get lists i ≡ Some w → words ≡ w.items → IsEndOf now i (Some e) → IsWhole board signals line words e
-  whole_at w words e mine are end =
+  -- the lines and the end of a line's stream are those of the whole line
+  pub whole_at : (i : ℕ) (line : RunLine) (t : LinesText) (e : End) → slice_get lines i ≡ Some line → slice_get texts i ≡ Some t → IsEndOf now i (Some e) → HasWhole board signals line t e
+  whole_at i line t e here text end =
       let p = plan_of board signals line in
-      let f = same_at stream_start (line_start board signals) first lines i line start has in
-      let ring_first : f.0.reader.ring ≡ ring_of p Paced = ap (λ (x : Start). x.ring) f.2 in
-      let here : get_or now i end.0 ≡ end.0 = get_or_from_slice_get now i end.0 end.0 end.1 in
-      let paced : IsPacedOn end.0 = subst IsPacedOn here (read.paced i end.0 within) in
+      let s = end.0 in
+      let watched_line : IsWatched board line = subst (IsWatched board) (get_or_from_slice_get lines i line line here) (watched i line (slice_get_within lines i line here)) in
+      let first = same_at stream_start (line_start board signals) have.first lines i line have.start.streams here in
+      let mine = same_at fixed fixed now have.first i first.0 have.read.same.streams first.1 in
+      let ring : s.reader.ring ≡ ring_of p Paced = ap (λ (x : Streaming). x.reader.ring) (only _ _ _ end.1 mine.1) ∙ (ap (λ (x : Fixed). x.ring) mine.2 ∙ ap (λ (x : Start). x.ring) first.2) in
+      let given = same_at given_words whole_of now now i s have.read.whole end.1 in
+      let all : given_words s ≡ munged_samples p = ap given_words (only _ _ _ end.1 given.1) ∙ (given.2 ∙ (ap munged_plan ring ∙ plan_is p (scan_of board line watched_line).0)) in
+      let text_is = same_at text_format (line_format board signals) texts lines i line (have.read.same.formats ∙ have.start.formats) here in
+      let format : t.format ≡ line_format board signals line = ap text_format (only _ _ _ text text_is.1) ∙ text_is.2 in
+      let paced : IsPacedOn s = subst IsPacedOn (get_or_from_slice_get now i s s end.1) (have.read.read.paced i s (slice_get_within now i s end.1)) in
       let says = end.3 e refl in
-      let done = (whole_plan end.0.reader.ring end.0.reader.part e.kind e.count paced.0 paced.1 says).0 in
-      let fixed_is : fixed end.0 ≡ fixed f.0 = (let a = end.1 in let b = now_at.1 in let same : end.0 ≡ now_at.0 = cc in ap fixed same) ∙ now_at.2 in
-      let ring_now : end.0.reader.ring ≡ ring_of p Paced = ap (λ (x : Fixed). x.ring) fixed_is ∙ ring_first in
-      let source = same_at (λ (x : Words). x.items) whole_of lists first i f.0 read.words f.1 in
-      let same : source.0 ≡ w = let a = source.1 in cc in
-      let watched_line : IsWatched board line = subst (IsWatched board) (get_or_from_slice_get lines i line line has) (watched i line (slice_get_within lines i line has)) in
-      let some = (scan_of board line watched_line).0 in
-      let all : words ≡ munged_samples p = are ∙ (ap (λ (x : Words). x.items) (sym same) ∙ (source.2 ∙ (ap munged_plan ring_first ∙ plan_is p some))) in
-      let count : e.count ≡ length end.0.reader.ring.samples = subst (λ (k : EndKind). IsFoundEnd end.0.reader.ring end.0.reader.part k e.count) done says in
-      let many : length end.0.reader.ring.samples ≡ length words =
-      ap (λ (r : RingConstants). length r.samples) ring_now ∙ (length-samples p ∙ (sym (length-munged p) ∙ ap (λ (l : List ℕ). length l) (sym all))) in
-      whole_line board signals line words e watched_line all done (count ∙ many)
-
--- what holds of the item at a place, where there is one
-pub if_some : {X : Type 0} (o : Option X) (P : X → Type 0) → ((x : X) → o ≡ Some x → P x) → IfSome o P
-if_some None P each = tt
-if_some (Some x) P each = each x refl
-
-none_within : {X : Type 0} (xs : List X) (i : ℕ) → i < length xs → slice_get xs i ≡ None → ⊥
-none_within [] i within none = omega arith
-none_within (x ∷ xs) zero within none = cc
-none_within (x ∷ xs) (suc i) within none = none_within xs i (omega arith) none
-
-module _ (board : BoardText) (signals : SignalsText) (lines : List RunLine) where
-  text_by : (i : ℕ) (text block : List ℕ) (o : Option RunLine) → slice_get lines i ≡ o → i < length lines → IfSome o (λ line. block ≡ line_block board signals line) → text ≡ run_text board signals (take i lines)
-      → text ++ block ≡ run_text board signals (take (i + 1) lines)
-  text_by i text block None has within is text_is = absurd (none_within lines i within has)
-  text_by i text block (Some line) has within is text_is =
-      ap (λ (l : List ℕ). l ++ block) text_is
-      ∙ (ap (λ (l : List ℕ). run_text board signals (take i lines) ++ l) (is ∙ ap (line_block board signals) (sym (get_or_from_slice_get lines i line line has)))
-      ∙ sym (run_text_more board signals lines i line within))
-
-  -- the text with one block more
-  pub text_more : (i : ℕ) (text block : List ℕ) → i < length lines → IfSome (slice_get lines i) (λ line. block ≡ line_block board signals line) → text ≡ run_text board signals (take i lines)
-      → text ++ block ≡ run_text board signals (take (i + 1) lines)
-  text_more i text block within is text_is = text_by i text block (slice_get lines i) refl within is text_is
-
-  -- the text up to a line that has this block
-  pub text_longer : (last count : ℕ) (text block all : List ℕ) → last < length lines → count ≡ last + 1 → IfSome (slice_get lines last) (λ line. block ≡ line_block board signals line) → text ≡ run_text board signals (take last lines) → all ≡ text ++ block
-      → all ≡ run_text board signals (take count lines)
-  text_longer last count text block all within next fits text_is is =
-      is ∙ (text_more last text block within fits text_is ∙ ap (λ (n : ℕ). run_text board signals (take n lines)) (sym next))
-
-  -- the words and the end of each line's stream are those of the whole line
-  pub line_whole : (now : List Streaming) (lists : List Words) → All (IsWatched board) lines → HaveWatched board signals lines now lists → (i : ℕ) (w : Words) (words : List ℕ) (e : End)
-      → i < length lines → w ≡ get_or lists i w → words ≡ w.items → IsEndOf now i (Some e) → IfSome (slice_get lines i) (λ line. IsWhole board signals line words e)
-  line_whole now lists watched have i w words e within mine are end =
-      let read = have.read in
-      let count : length lists ≡ length lines =
-      sym (length-map lists (λ (x : Words). x.items)) ∙ (ap (length {A = List ℕ}) read.words ∙ (length-map have.first whole_of ∙ counted board signals have.first lines have.start)) in
-      let has : slice_get lists i ≡ Some w = slice_get-get_or lists i w (omega arith) ∙ sym (ap (λ (x : Words). Some x) mine) in
-      if_some (slice_get lines i) (λ line. IsWhole board signals line words e)
-      (λ line at. whole_at board signals lines have.first now lists watched have.start read i line at w words e has are end)
-
-  -- as many lists of words as lines, and as many streams
-  pub lists_counted : (now : List Streaming) (lists : List Words) → HaveWatched board signals lines now lists → length lists ≡ length lines
-  lists_counted now lists have =
-      sym (length-map lists (λ (x : Words). x.items)) ∙ (ap (length {A = List ℕ}) have.read.words ∙ (length-map have.first whole_of ∙ counted board signals have.first lines have.start))
-
-  pub streams_counted : (now : List Streaming) (lists : List Words) → HaveWatched board signals lines now lists → length now ≡ length lines
-  streams_counted now lists have =
-      sym (length-map now fixed) ∙ (ap (length {A = Fixed}) have.read.same ∙ (length-map have.first fixed ∙ counted board signals have.first lines have.start))
+      let done = (whole_plan s.reader.ring s.reader.part e.kind e.count paced.0 paced.1 says).0 in
+      let count : e.count ≡ length s.reader.ring.samples = subst (λ (k : EndKind). IsFoundEnd s.reader.ring s.reader.part k e.count) done says in
+      record {
+        words = munged_samples p;
+        whole = record {
+          takes = takes_all board line watched_line;
+          all = refl;
+          done = done;
+          count = count ∙ (ap (λ (r : RingConstants). length r.samples) ring ∙ (length-samples p ∙ sym (length-munged p)));
+        };
+        lines = (have.read.read.each i t s text end.1).lines ∙ (ap (λ (f : Format). lines_of f (given_words s)) format ∙ ap (lines_of (line_format board signals line)) all);
+      }
 
 -- all lines were read to their ends
-pub are_whole : (job : RunJobText) (now : List Streaming) (lists : List Words) (ends : List End) → All (IsWatched job.board) job.lines → HaveWatched job.board job.signals job.lines now lists → HaveEnded now ends → AreWhole job lists ends
-are_whole job now lists ends watched have ended =
-    let count = lists_counted job.board job.signals job.lines now lists have in
+pub are_whole : (job : RunJobText) (now : List Streaming) (texts : List LinesText) (ends : List End) → All (IsWatched job.board) job.lines → HaveWatched job.board job.signals job.lines now texts → AreEnds now ends → AreWhole job texts ends
+are_whole job now texts ends watched have ended =
+    let count = streams_counted job.board job.signals job.lines now texts watched have in
     record {
-      lists_counted = count;
-      ends_counted = ended.count ∙ streams_counted job.board job.signals job.lines now lists have;
-      each = λ i w e here there.
-          let within : i < length job.lines = (let w_in = slice_get_within lists i w here in omega arith) in
-          line_whole job.board job.signals job.lines now lists watched have i w w.items e within (sym (get_or_from_slice_get lists i w w here)) refl (ended.each i e there);
+      count = ended.count ∙ count;
+      within = (let n = have.read.read.count in omega arith);
+      each = λ i t e text end. if_some (slice_get job.lines i) (λ line. HasWhole job.board job.signals line t e) (λ line here. whole_at job.board job.signals job.lines now texts watched have i line t e here text (ended.each i e end));
     }
+
+-- as many texts as lines
+pub texts_counted : (job : RunJobText) (now : List Streaming) (texts : List LinesText) → All (IsWatched job.board) job.lines → HaveWatched job.board job.signals job.lines now texts → length texts ≡ length job.lines
+texts_counted job now texts watched have = have.read.read.count ∙ streams_counted job.board job.signals job.lines now texts watched have
+
+-- the last text, and those before it
+module _ (job : RunJobText) (all texts : List LinesText) (last : LinesText) (is : all ≡ texts ++ last ∷ []) where
+  one_more : length all ≡ length texts + 1
+  one_more = ap (λ (l : List LinesText). length l) is ∙ length-append texts (last ∷ [])
+
+  module _ (ends : List End) (whole : AreWhole job all ends) where
+    within : length texts < length job.lines
+    within = let w = whole.within in let n = one_more in omega arith
+
+    pub whole_last : (at : ℕ) (line : RunLine) (d : End) → at ≡ length texts → line ≡ get_or job.lines at line → HasWhole job.board job.signals line last (get_or ends at d)
+    whole_last at line d at_is line_is =
+        let low : at < length job.lines = (let w = within in omega arith) in
+        let here = slice_get_read job.lines (length job.lines) at line refl low line_is in
+        let end = slice_get-get_or ends at d (let n = whole.count in omega arith) in
+        let mine : slice_get all at ≡ Some last = ap (λ (n : ℕ). slice_get all n) at_is ∙ (ap (λ (l : List LinesText). slice_get l (length texts)) is ∙ snoc_last texts last) in
+        from_some (slice_get job.lines at) (λ line. HasWhole job.board job.signals line last (get_or ends at d)) line here (whole.each at last (get_or ends at d) mine end)
+
+    pub whole_before : AreWhole job texts ends
+    whole_before = record {
+      count = whole.count;
+      within = (let w = within in omega arith);
+      each = λ i t e text end. whole.each i t e (ap (λ (l : List LinesText). slice_get l i) is ∙ snoc_before texts last i t text) end;
+    }
+
+    pub text_longer : (at : ℕ) (line : RunLine) (text block longer : List ℕ) → at ≡ length texts → line ≡ get_or job.lines at line → text ≡ run_text job.board job.signals (take (length texts) job.lines) → block ≡ line_block job.board job.signals line → longer ≡ text ++ block
+        → longer ≡ run_text job.board job.signals (take (length all) job.lines)
+    text_longer at line text block longer at_is line_is before block_is longer_is =
+        let low : at < length job.lines = (let w = within in omega arith) in
+        let here = slice_get_read job.lines (length job.lines) at line refl low line_is in
+        let first : text ≡ run_text job.board job.signals (take at job.lines) = before ∙ ap (λ (n : ℕ). run_text job.board job.signals (take n job.lines)) (sym at_is) in
+        let many : at + 1 ≡ length all = (let n = one_more in omega arith) in
+        longer_is ∙ (run_text_more job.board job.signals job.lines at line text block here first block_is ∙ ap (λ (n : ℕ). run_text job.board job.signals (take n job.lines)) many)
 
 -- each source of streams that are over has found an end
 pub some_end : (streams : List Streaming) (i : ℕ) → All IsOver streams → IsEndOf streams i None → ⊥
@@ -163,13 +150,6 @@ some_end streams i over end =
     let here : get_or streams i end.0 ≡ end.0 = get_or_from_slice_get streams i end.0 end.0 end.1 in
     let is : IsOver end.0 = subst IsOver here (over i end.0 (slice_get_within streams i end.0 end.1)) in
     let found = is.found in let none = end.2 in cc
-
--- where an item of a list with one more at its end stands
-snoc_cases : {X : Type 0} (xs : List X) (y : X) (i : ℕ) (x : X) → slice_get (xs ++ y ∷ []) i ≡ Some x → (slice_get xs i ≡ Some x) ⊎ ((i ≡ length xs) × (y ≡ x))
-snoc_cases [] y zero x is = inr (refl, cc)
-snoc_cases [] y (suc i) x is = absurd cc
-snoc_cases (z ∷ xs) y zero x is = inl is
-snoc_cases (z ∷ xs) y (suc i) x is = elim (snoc_cases xs y i x is) [ inl before ↦ inl before | inr last ↦ inr (omega (arith, last.0), last.1) ]
 
 -- the ends of some sources, and of one more
 pub ended_more : (streams : List Streaming) (ends : List End) (e : End) → ((i : ℕ) (x : End) → slice_get ends i ≡ Some x → IsEndOf streams i (Some x)) → IsEndOf streams (length ends) (Some e)

@@ -9,8 +9,10 @@ use Rattle.cm_run_lines.specs.Calls.{cmd_of, plan_of}
 use Rattle.cm_run_lines.specs.declared.line.Mode.TheVariants.{Paced}
 use Rattle.cm_run_lines.specs.declared.line.RunLine.{RunLine}
 use Rattle.cm_run.specs.Ran.{ring_of}
+use Rattle.cm_run.specs.SampleText.{LinesText}
+use Rattle.cm_run.specs.Whole.{line_format}
 use Rattle.cm_stream.specs.Stream.{Streaming}
-use Rattle.cm_watch.specs.Watched.{HasWatched, Words}
+use Rattle.cm_watch.specs.Watched.{HasWatched, text_format}
 
 -- a stream, whichever table its ring has: the length of its scans, its ring, and its reader
 pub record Start : Type 0 where
@@ -27,8 +29,14 @@ stream_start s = record { scan = s.n; ring = s.reader.ring; part = s.reader.part
 abbrev pub line_start : BoardText → SignalsText → RunLine → Start
 line_start board signals line = record { scan = length (cmd_of line).list; ring = ring_of (plan_of board signals line) Paced; part = first_reader; mapped = 0 }
 
--- streams that started for the lines have been read to their ends, and the words are those of each
-pub record HaveWatched (board : BoardText) (signals : SignalsText) (lines : List RunLine) (now : List Streaming) (lists : List Words) : Type 0 where
+-- streams as they start for lines, and lines of text in their formats
+pub record AreFor (board : BoardText) (signals : SignalsText) (lines : List RunLine) (first : List Streaming) (texts : List LinesText) : Type 0 where
+  pub streams : map stream_start first ≡ map (line_start board signals) lines
+  pub formats : map text_format texts ≡ map (line_format board signals) lines
+
+-- streams that started for the lines have been read to their ends
+pub record HaveWatched (board : BoardText) (signals : SignalsText) (lines : List RunLine) (now : List Streaming) (texts : List LinesText) : Type 0 where
   pub first : List Streaming
-  pub start : map stream_start first ≡ map (line_start board signals) lines
-  pub read : HasWatched first now lists
+  pub before : List LinesText
+  pub start : AreFor board signals lines first before
+  pub read : HasWatched first now before texts

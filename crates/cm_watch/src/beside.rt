@@ -3,7 +3,7 @@ ghost use Rattle.std.specs.Prelude.{◌≡◌, ◌+◌, ◌<◌, ◌^◌, [], le
 ghost use Rattle.std.specs.List.{All};
 ghost use Rattle.std.specs.Thread.{IsSync};
 ghost use Rattle.cm_run.specs.Idle.{IsIdle};
-ghost use Rattle.cm_watch.specs.Watched.{HaveRead, HasWatched};
+ghost use Rattle.cm_watch.specs.Watched.{AreRead, HasWatched};
 
 use crate::client::{Watched, read_scans};
 use crate::side::BoardSide;
@@ -18,6 +18,7 @@ use cm_run_core::starting::Started;
 use cm_run_core::words::Words;
 use cm_sample::planned::Planned;
 use cm_sub::owners::{OwnerSeat, Owners};
+use std::alloc::Global;
 use std::sync::Wait;
 use std::thread::{Threads, join};
 
@@ -60,26 +61,28 @@ fn last_side<P: Planned, W: Words>(
 /// and has asked every ring for the stop then.
 #[cycle(sides)]
 pub(crate) fn watch_sides<
+    'a,
     R: Threads + Wait + Sync,
     P: Planned + Send + Sync,
     W: Words + Send,
     G: Gate + Sync,
 >(
     rt: &R,
+    alloc: Global,
     owners: &Owners,
     mut seat: OwnerSeat,
     mut sides: Vec<BoardSide<P, W>>,
-    client: Watched<P>,
+    client: Watched<'a, P>,
     gate: &G,
-) -> Result<Watched<P>, NoMemory>
+) -> Result<Watched<'a, P>, NoMemory>
     requires idle { IsIdle owners.now seat }
     requires sides { All (λ side. side.sub < length owners.now.channels) sides.items }
     requires few { length sides.items < 2 ^ 32 }
-    requires fresh { HaveRead client.merge.streams client.merge.streams client.words.items }
-    ensures { IfOk result (λ w. HasWatched client.merge.streams w.merge.streams w.words.items) }
+    requires read { AreRead client.merge.streams client.texts.items }
+    ensures { IfOk result (λ w. HasWatched client.entry.merge.streams w.merge.streams client.entry.texts.items w.texts.items) }
 {
     let Some(side) = last_side(owners, &mut sides) else {
-        return read_scans(rt, client, gate);
+        return read_scans(rt, alloc, client, gate);
     };
     let theirs = another_seat(owners, &mut seat);
     let who = sides.len() as u32;
@@ -94,10 +97,14 @@ pub(crate) fn watch_sides<
             writing.report();
             board_thread(rt, owners, theirs, sub, board, gate, who)
         },
-        move || -> Result<Watched<P>, NoMemory>
-            requires { IsSync R.row × IsSync G.row × IsIdle owners.now seat × All (λ side. side.sub < length owners.now.channels) sides.items × (length sides.items < 2 ^ 32) × HaveRead client.merge.streams client.merge.streams client.words.items }
-            ensures { IfOk result (λ w. HasWatched client.merge.streams w.merge.streams w.words.items) }
-        { munge_beside(rt, owners, seat, sides, munger, writing, client, gate) },
+        move || -> Result<Watched<'_, P>, NoMemory>
+            requires { IsSync R.row × IsSync G.row × IsIdle owners.now seat × All (λ side. side.sub < length owners.now.channels) sides.items × (length sides.items < 2 ^ 32) × AreRead client.merge.streams client.texts.items }
+            ensures { IfOk result (λ w. HasWatched client.entry.merge.streams w.merge.streams client.entry.texts.items w.texts.items) }
+        {
+            munge_beside(
+                rt, alloc, owners, seat, sides, munger, writing, client, gate,
+            )
+        },
     );
     watched
 }
@@ -105,25 +112,27 @@ pub(crate) fn watch_sides<
 // Starts the munger's thread of a line whose board's thread has started, and goes on to the others.
 #[cycle(sides)]
 fn munge_beside<
+    'a,
     R: Threads + Wait + Sync,
     P: Planned + Send + Sync,
     W: Words + Send,
     G: Gate + Sync,
 >(
     rt: &R,
+    alloc: Global,
     owners: &Owners,
     seat: OwnerSeat,
     sides: Vec<BoardSide<P, W>>,
     munger: Munger<P>,
     writing: &Started,
-    client: Watched<P>,
+    client: Watched<'a, P>,
     gate: &G,
-) -> Result<Watched<P>, NoMemory>
+) -> Result<Watched<'a, P>, NoMemory>
     requires idle { IsIdle owners.now seat }
     requires sides { All (λ side. side.sub < length owners.now.channels) sides.items }
     requires few { length sides.items < 2 ^ 32 }
-    requires fresh { HaveRead client.merge.streams client.merge.streams client.words.items }
-    ensures { IfOk result (λ w. HasWatched client.merge.streams w.merge.streams w.words.items) }
+    requires read { AreRead client.merge.streams client.texts.items }
+    ensures { IfOk result (λ w. HasWatched client.entry.merge.streams w.merge.streams client.entry.texts.items w.texts.items) }
 {
     if !writing.wait() {
         return stopped(client);
@@ -136,21 +145,21 @@ fn munge_beside<
             munging.report();
             let _munger = munge_work(rt, munger);
         },
-        move || -> Result<Watched<P>, NoMemory>
-            requires { IsSync R.row × IsSync G.row × IsIdle owners.now seat × All (λ side. side.sub < length owners.now.channels) sides.items × (length sides.items < 2 ^ 32) × HaveRead client.merge.streams client.merge.streams client.words.items }
-            ensures { IfOk result (λ w. HasWatched client.merge.streams w.merge.streams w.words.items) }
+        move || -> Result<Watched<'_, P>, NoMemory>
+            requires { IsSync R.row × IsSync G.row × IsIdle owners.now seat × All (λ side. side.sub < length owners.now.channels) sides.items × (length sides.items < 2 ^ 32) × AreRead client.merge.streams client.texts.items }
+            ensures { IfOk result (λ w. HasWatched client.entry.merge.streams w.merge.streams client.entry.texts.items w.texts.items) }
         {
             if !munging.wait() {
                 return stopped(client);
             }
-            watch_sides(rt, owners, seat, sides, client, gate)
+            watch_sides(rt, alloc, owners, seat, sides, client, gate)
         },
     );
     watched
 }
 
 // Asks every ring for the stop, since a thread can't be made.
-fn stopped<P: Planned>(client: Watched<P>) -> Result<Watched<P>, NoMemory>
+fn stopped<'a, P: Planned>(client: Watched<'a, P>) -> Result<Watched<'a, P>, NoMemory>
     ensures { IsErr result }
 {
     let mut client = client;

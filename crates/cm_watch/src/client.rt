@@ -1,58 +1,56 @@
 // The one client of all watched lines.
-ghost use Rattle.std.specs.Prelude.{◌<◌, List, length, IfOk};
-ghost use Rattle.cm_stream.specs.Stream.{Streaming};
-ghost use Rattle.cm_watch.specs.Watched.{HasAdded, HasWatched, HaveRead};
+ghost use Rattle.std.specs.Prelude.{◌<◌, length, IfOk};
+ghost use Rattle.cm_watch.specs.Watched.{AreRead, AreSame, CanPut, HasPut, HasWatched};
 
 use cm_base::gate::Gate;
 use cm_base::transfer::NoMemory;
+use cm_run::sample_text::SampleText;
 use cm_sample::planned::Planned;
 use cm_stream::merge::{Merge, MergeStep};
-use cm_stream::scan::Scan;
 use crossbeam_utils::Backoff;
-use std::alloc::AllocError;
+use std::alloc::Global;
 use std::sync::Wait;
 
-/// What a client has read of its streams: the words of each, and the streams.
+/// What a client has read of its streams: the lines of the samples of each, and the streams.
 #[derive(Drop)]
-pub struct Watched<P: Planned> {
-    pub words: Vec<Vec<u32>>,
+pub struct Watched<'a, P: Planned> {
+    pub texts: Vec<SampleText<'a>>,
     pub merge: Merge<P>,
 }
 
-// Adds the words of a scan to those of its source.
-fn add_scan(words: &mut Vec<Vec<u32>>, source: u32, scan: &Scan) -> Result<(), AllocError>
-    requires { source < length words.old.items }
-    ensures { IfOk result (λ _. HasAdded source scan.now.words words.old.items words.new.items) }
+// Appends the lines of a source's next samples.
+fn put_lines(texts: &mut [SampleText<'_>], source: u32, words: &[u32]) -> Result<(), NoMemory>
+    requires { CanPut source words.now texts.old }
+    ensures { IfOk result (λ _. HasPut source words.now texts.old texts.new) }
 {
-    let own = &mut words[source as usize];
-    own.extend_from_slice(&scan.words)?;
-    Ok(())
+    texts[source as usize].put(words)
 }
 
-// How many samples of further scans are added at once.
+// How many samples of further scans are taken at once.
 const PIECE: u32 = 256;
 
 // After fewer further samples the client steps back, so that the mungers get ahead of it.
 const SMALL: usize = 64;
 
-// Adds the words of a source's further whole scans that have come, a piece at most, and says whether
-// they were few.
-fn add_more<P: Planned, G: Gate>(
+// Appends the lines of a source's further whole scans that have come, a piece at most, by way of `room`,
+// and says whether they were few.
+fn put_more<P: Planned, G: Gate>(
     merge: &mut Merge<P>,
-    words: &mut Vec<Vec<u32>>,
+    texts: &mut [SampleText<'_>],
+    room: &mut Vec<u32>,
     source: u32,
     gate: &G,
 ) -> Result<bool, NoMemory>
-    requires words { source < length words.old.items }
     requires source { source < length merge.old.streams }
-    ensures { IfOk result (λ _. (first : List Streaming) → HaveRead first merge.old.streams words.old.items → HaveRead first merge.new.streams words.new.items) }
+    requires read { AreRead merge.old.streams texts.old }
+    ensures read { IfOk result (λ _. AreRead merge.new.streams texts.new) }
+    ensures same { IfOk result (λ _. AreSame merge.old.streams merge.new.streams texts.old texts.new) }
 {
-    let list = &mut words[source as usize];
-    let before = list.len();
-    let scans = merge.append_scans(source, list, PIECE)?;
-    let few = list.len() < before + SMALL;
+    room.clear();
+    let scans = merge.append_scans(source, room, PIECE)?;
+    put_lines(texts, source, room)?;
     pass_each(gate, source, scans);
-    Ok(few)
+    Ok(room.len() < SMALL)
 }
 
 // Passes the gate's point once for each of so many scans.
@@ -65,20 +63,22 @@ fn pass_each<G: Gate>(gate: &G, source: u32, scans: u32) {
 // Reads all streams to their ends.
 fn read_all<R: Wait + Sync, P: Planned, G: Gate>(
     rt: &R,
+    alloc: Global,
     merge: &mut Merge<P>,
-    words: &mut Vec<Vec<u32>>,
+    texts: &mut [SampleText<'_>],
     gate: &G,
 ) -> Result<(), NoMemory>
-    requires { HaveRead merge.old.streams merge.old.streams words.old.items }
-    ensures { IfOk result (λ _. HasWatched merge.old.streams merge.new.streams words.new.items) }
+    requires { AreRead merge.old.streams texts.old }
+    ensures { IfOk result (λ _. HasWatched merge.old.streams merge.new.streams texts.old texts.new) }
 {
+    let mut room = Vec::new(alloc);
     let backoff = Backoff::new();
     for _ in rt.forever() {
         match merge.step() {
             MergeStep::Given(source, scan) => {
-                add_scan(words, source, &scan)?;
+                put_lines(texts, source, &scan.words)?;
                 gate.pass(source, 4);
-                if add_more(merge, words, source, gate)? {
+                if put_more(merge, texts, &mut room, source, gate)? {
                     backoff.snooze();
                 }
             }
@@ -90,22 +90,23 @@ fn read_all<R: Wait + Sync, P: Planned, G: Gate>(
     unreachable!()
 }
 
-/// Reads all streams to their ends, in turn: a scan of one, and those that stand after it. Where memory runs out, it asks every ring
-/// for the stop.
-pub(crate) fn read_scans<R: Wait + Sync, P: Planned, G: Gate>(
+/// Reads all streams to their ends, in turn: a scan of one, and those that stand after it. The lines of
+/// the samples are made as they come. Where memory runs out, it asks every ring for the stop.
+pub(crate) fn read_scans<'a, R: Wait + Sync, P: Planned, G: Gate>(
     rt: &R,
-    client: Watched<P>,
+    alloc: Global,
+    client: Watched<'a, P>,
     gate: &G,
-) -> Result<Watched<P>, NoMemory>
-    requires { HaveRead client.merge.streams client.merge.streams client.words.items }
-    ensures { IfOk result (λ w. HasWatched client.merge.streams w.merge.streams w.words.items) }
+) -> Result<Watched<'a, P>, NoMemory>
+    requires { AreRead client.merge.streams client.texts.items }
+    ensures { IfOk result (λ w. HasWatched client.entry.merge.streams w.merge.streams client.entry.texts.items w.texts.items) }
 {
     let Watched {
-        mut words,
+        mut texts,
         mut merge,
     } = client;
-    match read_all(rt, &mut merge, &mut words, gate) {
-        Ok(()) => Ok(Watched { words, merge }),
+    match read_all(rt, alloc, &mut merge, &mut texts, gate) {
+        Ok(()) => Ok(Watched { texts, merge }),
         Err(NoMemory) => {
             merge.stop_all();
             Err(NoMemory)

@@ -1,9 +1,13 @@
 // The rings of watched lines.
-ghost use Rattle.std.specs.Prelude.{◌≡◌, ◌<◌, [], length, map, IfOk};
+ghost use Rattle.std.specs.Prelude.{◌≡◌, ◌<◌, length, IfOk};
 ghost use Rattle.std.specs.List.{All};
+ghost use Rattle.cm_client.specs.Progress.{Accepts};
+ghost use Rattle.cm_run.specs.SampleText.{CanReport, no_lines};
+ghost use Rattle.cm_run.specs.Whole.{line_format};
 ghost use Rattle.cm_run_lines.specs.RunLines.{CanRun};
 ghost use Rattle.cm_run_lines.specs.WatchLines.{IsWatched};
-ghost use Rattle.cm_watch.specs.Opened.{line_start, stream_start};
+ghost use Rattle.cm_watch.specs.Opened.{AreFor, line_start, stream_start};
+ghost use Rattle.cm_watch.specs.Watched.{AreRead};
 
 use crate::side::BoardSide;
 use cm_base::transfer::NoMemory;
@@ -11,6 +15,8 @@ use cm_board::board::BoardDesc;
 use cm_expand::plan::Plan;
 use cm_run::lines::sub_of;
 use cm_run::opening::{PacedRing, open_paced};
+use cm_run::sample_text::SampleText;
+use cm_run::whole::lines_for;
 use cm_run_core::words::WordSource;
 use cm_run_lines::line::{RunLine, plan_of};
 use cm_signal::signals::Signals;
@@ -20,26 +26,37 @@ use std::alloc::Global;
 /// The side of a line for its own expansion.
 pub type Side<'a> = BoardSide<Plan<'a>, WordSource<'a>>;
 
-/// The sides of some lines, a stream for each, and an empty list for each one's words.
+// A line's side, its stream, and the lines of its samples.
+#[derive(Drop)]
+struct OpenedLine<'a> {
+    side: Side<'a>,
+    stream: ScanStream<Plan<'a>>,
+    text: SampleText<'a>,
+}
+
+/// The sides of some lines, and for each a stream and the lines of its samples.
 #[derive(Drop)]
 pub struct Opened<'a> {
     pub sides: Vec<Side<'a>>,
     pub streams: Vec<ScanStream<Plan<'a>>>,
-    pub words: Vec<Vec<u32>>,
+    pub texts: Vec<SampleText<'a>>,
 }
 
-// Opens the ring of a line, with a stream of its scans.
+// Opens the ring of a line, with a stream of its scans and the lines of its samples, before the first.
 fn open_line<'a>(
     alloc: Global,
     board: &'a BoardDesc,
     signals: &'a Signals,
     line: &'a RunLine,
-) -> Result<(Side<'a>, ScanStream<Plan<'a>>), NoMemory>
+) -> Result<OpenedLine<'a>, NoMemory>
     requires run { CanRun board.now signals.now line.now }
     requires watch { IsWatched board.now line.now }
-    ensures side { IfOk result (λ t. t.0.sub < length board.entry.now.subs) }
-    ensures stream { IfOk result (λ t. stream_start t.1 ≡ line_start board.entry.now signals.entry.now line.entry.now) }
+    ensures side { IfOk result (λ o. o.side.sub < length board.entry.now.subs) }
+    ensures stream { IfOk result (λ o. stream_start o.stream ≡ line_start board.entry.now signals.entry.now line.entry.now) }
+    ensures text { IfOk result (λ o. o.text ≡ no_lines (line_format board.entry.now signals.entry.now line.entry.now)) }
+    ensures report { IfOk result (λ o. Accepts (CanReport o.text) (line_start board.entry.now signals.entry.now line.entry.now).ring) }
 {
+    let text = lines_for(alloc, board, signals, line)?;
     let plan = plan_of(board, signals, line);
     let cmd = line.cmd();
     let PacedRing {
@@ -50,7 +67,8 @@ fn open_line<'a>(
     let scan = cmd.cmd().list.len() as u32;
     let stream = ScanStream::new(alloc, reader, scan);
     let sub = sub_of(line);
-    Ok((BoardSide { board, munger, sub }, stream))
+    let side = BoardSide { board, munger, sub };
+    Ok(OpenedLine { side, stream, text })
 }
 
 /// Opens the rings of some lines.
@@ -64,19 +82,19 @@ pub(crate) fn open_lines<'a>(
     requires watched { All (IsWatched board.now) lines.now }
     ensures sides { IfOk result (λ o. All (λ side. side.sub < length board.entry.now.subs) o.sides.items) }
     ensures count { IfOk result (λ o. length o.sides.items ≡ length lines.entry.now) }
-    ensures streams { IfOk result (λ o. map stream_start o.streams.items ≡ map (line_start board.entry.now signals.entry.now) lines.entry.now) }
-    ensures words { IfOk result (λ o. (length o.words.items ≡ length lines.entry.now) × All (λ w. w.items ≡ []) o.words.items) }
+    ensures start { IfOk result (λ o. AreFor board.entry.now signals.entry.now lines.entry.now o.streams.items o.texts.items) }
+    ensures read { IfOk result (λ o. AreRead o.streams.items o.texts.items) }
 {
     let mut opened = Opened {
         sides: Vec::new(alloc),
         streams: Vec::new(alloc),
-        words: Vec::new(alloc),
+        texts: Vec::new(alloc),
     };
     for i in 0..lines.len() {
-        let (side, stream) = open_line(alloc, board, signals, &lines[i])?;
+        let OpenedLine { side, stream, text } = open_line(alloc, board, signals, &lines[i])?;
         opened.sides.push(side)?;
         opened.streams.push(stream)?;
-        opened.words.push(Vec::new(alloc))?;
+        opened.texts.push(text)?;
     }
     Ok(opened)
 }

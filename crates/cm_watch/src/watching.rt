@@ -26,8 +26,9 @@ use std::sync::Wait;
 use std::thread::Threads;
 
 /// Streams the lines of a job beside each other, each with a board and a munger on threads of their
-/// own and a ring of its own, and reads all of them in this thread, scan by scan. It gives the text
-/// after all threads have ended: the block of each line, in the order of the lines.
+/// own and a ring of its own, and reads all of them in this thread, scan by scan, which makes the lines
+/// of their samples as they come. It gives the text after all threads have ended: the block of each line,
+/// in the order of the lines.
 pub fn watch_job<R: Threads + Wait + Sync, G: Gate + Sync>(
     rt: &R,
     alloc: Global,
@@ -38,7 +39,7 @@ pub fn watch_job<R: Threads + Wait + Sync, G: Gate + Sync>(
 {
     let job = job.job();
     let watched = watch_lines(rt, alloc, &job.board, &job.signals, &job.lines, gate)?;
-    blocks_of(rt, alloc, job, &watched)
+    blocks_of(alloc, job, watched)
 }
 
 // Reads lines to their ends, each of which has threads of its own for its board and its munger.
@@ -49,20 +50,20 @@ fn watch_lines<'a, R: Threads + Wait + Sync, G: Gate + Sync>(
     signals: &'a Signals,
     lines: &'a [RunLine],
     gate: &G,
-) -> Result<Watched<Plan<'a>>, NoMemory>
+) -> Result<Watched<'a, Plan<'a>>, NoMemory>
     requires run { All (CanRun board.now signals.now) lines.now }
     requires watched { All (IsWatched board.now) lines.now }
     requires few { length lines.now ≤ 16 }
-    ensures { IfOk result (λ w. HaveWatched board.entry.now signals.entry.now lines.entry.now w.merge.streams w.words.items) }
+    ensures { IfOk result (λ w. HaveWatched board.entry.now signals.entry.now lines.entry.now w.merge.streams w.texts.items) }
 {
     let states = states_of(alloc, &board.subs)?;
     let (owners, seat) = Owners::open(alloc, states)?;
     let Opened {
         sides,
         streams,
-        words,
+        texts,
     } = open_lines(alloc, board, signals, lines)?;
     let merge = Merge::new(alloc, streams)?;
-    let client = Watched { words, merge };
-    watch_sides(rt, &owners, seat, sides, client, gate)
+    let client = Watched { texts, merge };
+    watch_sides(rt, alloc, &owners, seat, sides, client, gate)
 }

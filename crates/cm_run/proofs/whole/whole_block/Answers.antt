@@ -1,23 +1,26 @@
-use Rattle.std.proofs.Common.{◌≡◌, ℕ, List, IfOk, subst}
-use Rattle.cm_expand.specs.PlanView.{plan_text}
+use Rattle.std.proofs.Common.{◌≡◌, ℕ, ◌+◌, get_or, ap, ◌∙◌, subst, arith}
+use Rattle.cm_expand.specs.Plan.{PlanText}
+use Rattle.cm_run_lines.proofs.Watched.{some-entry}
+use Rattle.cm_run_lines.specs.Calls.{plan_of}
+use Rattle.cm_run_lines.specs.declared.line.Mode.TheVariants.{Paced}
 use Rattle.cm_run.specs.Blocks.{count_of}
-use Rattle.cm_run.proofs.Wholes.{count_fits, first_ones, line_all, line_text}
+use Rattle.cm_run.specs.SampleText.{CanReport, LinesText, with_lines}
+use Rattle.cm_run.proofs.Reported.{first_accepted}
+use Rattle.cm_run.proofs.Wholes.{first_lines, first_ones}
 use Rattle.cm_run.proofs.whole.whole_block.Goals as goal
 
-pub go_block-requires-clause-words : goal.go_block-requires-clause-words
-go_block-requires-clause-words c =
-    let p = plan_text c.plan_of-plan.result in
-    let all = line_all c.args.board.now c.args.signals.now c.args.line.now c.in-Go.mode c.in-Go.access c.in-Go.t0 c.in-Go.take c.in-Go.cmd c.args.words.now c.args.end p c.in-Go.is c.plan_of-plan.ensures c.requires.whole in
-    (count_of p, first_ones p c.args.words.now c.args.end all)
+pub put-requires : goal.put-requires
+put-requires c i below =
+    let p : PlanText = plan_of c.args.board.now c.args.signals.now c.args.line.now in
+    let t = c.in_ok-lines.lines in
+    let words = c.args.words.now in
+    let here : i ≡ t.count + i = omega (arith, ap (λ (l : LinesText). l.count) c.in_ok-lines.ensures.new) in
+    subst (λ (n : ℕ). CanReport t n (get_or words i 0)) here
+    (first_accepted p Paced (CanReport t) (some-entry p.sub p.cmd c.requires.run.call.passes) c.in_ok-lines.ensures.accepts (count_of p) words (first_ones c.args.board.now c.args.signals.now c.args.line.now words c.args.end c.requires.whole) i below)
 
-pub go_block-requires-clause-end : goal.go_block-requires-clause-end
-go_block-requires-clause-end c =
-    let p = plan_text c.plan_of-plan.result in
-    let all = line_all c.args.board.now c.args.signals.now c.args.line.now c.in-Go.mode c.in-Go.access c.in-Go.t0 c.in-Go.take c.in-Go.cmd c.args.words.now c.args.end p c.in-Go.is c.plan_of-plan.ensures c.requires.whole in
-    count_fits p c.args.words.now c.args.end all
-
-pub returns : goal.returns
-returns c =
-    let p = plan_text c.plan_of-plan.result in
-    let text = line_text c.args.board.now c.args.signals.now c.args.line.now c.in-Go.mode c.in-Go.access c.in-Go.t0 c.in-Go.take c.in-Go.cmd c.args.words.now c.args.end p c.in-Go.is c.plan_of-plan.ensures c.requires.whole in
-    subst (λ (l : List ℕ). IfOk c.go_block.result (λ v. v.items ≡ l)) text c.go_block.ensures
+pub block_of-requires-clause-whole : goal.block_of-requires-clause-whole
+block_of-requires-clause-whole c = record {
+  words = c.args.words.now;
+  whole = c.requires.whole;
+  lines = c.in_ok-put.ensures.lines ∙ (ap (λ (t : LinesText). with_lines t c.args.words.now) c.in_ok-lines.ensures.new ∙ first_lines _ c.args.words.now);
+}

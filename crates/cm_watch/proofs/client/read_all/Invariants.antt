@@ -1,7 +1,9 @@
-use Rattle.std.proofs.Common.{◌≡◌}
-use Rattle.cm_watch.specs.Watched.{HaveRead}
+use Rattle.cm_watch.specs.Watched.{AreRead, AreSame}
 use Rattle.cm_watch.proofs.client.read_all.Given as goal
 
--- what was read is all that the streams have given
+-- the lines are those of all samples that the streams have given
 abbrev pub invariant-loop : goal.invariant-loop
-invariant-loop g l = HaveRead l.initial.merge.streams l.merge.streams l.words.items
+invariant-loop g l = record {
+  read : AreRead l.merge.streams l.texts;
+  same : AreSame l.initial.merge.streams l.merge.streams l.initial.texts l.texts;
+}
