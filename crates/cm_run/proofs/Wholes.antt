@@ -1,20 +1,26 @@
 -- The block of a line all of whose samples a client has.
-use Rattle.std.proofs.Common.{◌≡◌, ℕ, ◌+◌, ◌++◌, List, length, take, refl, sym, ap, ◌∙◌, subst, arith, Option, Some, None}
+use Rattle.std.proofs.Common.{◌≡◌, ℕ, ◌+◌, ◌≤◌, ◌++◌, List, length, take, refl, sym, ap, ◌∙◌, subst, arith, Option, Some, None}
 use Rattle.std.proofs.lemmas.List.{take_all}
 use Rattle.cm_board.specs.Board.{BoardText}
+use Rattle.cm_cmd.specs.Command.{CmdText}
+use Rattle.cm_expand.specs.Items.{samples_of}
 use Rattle.cm_expand.specs.Plan.{PlanText}
 use Rattle.cm_ring_core.specs.declared.view.End.{End}
 use Rattle.cm_ring_core.specs.declared.view.EndKind.{EndKind}
+use Rattle.cm_ring.specs.Roles.{Reading}
+use Rattle.cm_run_core.specs.Streamed.{HasStreamed}
 use Rattle.cm_run_lines.specs.Calls.{plan_of}
+use Rattle.cm_run_lines.specs.declared.line.Access.{Access}
+use Rattle.cm_run_lines.specs.declared.line.Mode.TheVariants.{Paced}
 use Rattle.cm_run_lines.specs.declared.line.RunLine.{RunLine}
 use Rattle.cm_run_lines.specs.declared.line.RunLine.TheVariants.{Go, Drive}
 use Rattle.cm_signal.specs.Signals.{SignalsText}
 use Rattle.cm_run.specs.Blocks.{count_of, ending, line_block, munged_samples, paced_block}
 use Rattle.cm_run.specs.Limits.{FitsCount}
-use Rattle.cm_run.specs.Ran.{tail_after}
+use Rattle.cm_run.specs.Ran.{ring_of, tail_after}
 use Rattle.cm_run.specs.SampleText.{LinesText, lines_of, no_lines, with_lines}
 use Rattle.cm_run.specs.Whole.{IsWhole, TakesAll, line_format}
-use Rattle.cm_run.proofs.Reported.{length-munged}
+use Rattle.cm_run.proofs.Reported.{length-munged, munged_by_rule}
 use Rattle.cm_text.specs.Format.{Format, format_of, sample_lines}
 use Rattle.cm_text.specs.Tails.{tail_text}
 
@@ -49,3 +55,15 @@ module _ (board : BoardText) (signals : SignalsText) (line : RunLine) (words : L
   -- the same of a plan and a number to take that are known to be the line's
   pub block_is : (p : PlanText) (most : Option ℕ) (t : LinesText) → p ≡ plan → most ≡ None → t ≡ lines_of (line_format board signals line) words → t.text ++ tail_text (tail_after p most end.kind end.count) ≡ line_block board signals line
   block_is p most t is all lines = (λ i. (lines i).text ++ tail_text (tail_after (is i) (all i) end.kind end.count)) ∙ whole_text
+
+-- the words that a client has of a paced line that takes all samples, and the end that it found, are those of the whole line
+pub streamed_whole : (board : BoardText) (signals : SignalsText) (line : RunLine) (access : Access) (t0 : ℕ) (cmd : CmdText) (p : PlanText) (words : List ℕ) (e : End) (r : Reading) → line ≡ Go Paced access t0 None cmd → p ≡ plan_of board signals line → 1 ≤ length p.cmd.list → HasStreamed (ring_of p Paced) None words e r
+    → IsWhole board signals line words e
+streamed_whole board signals line access t0 cmd p words e r is plan some s =
+    let whole = s.whole refl refl in
+    record {
+      takes = subst TakesAll (sym is) refl;
+      all = whole.1 ∙ (munged_by_rule p (samples_of p) some ∙ ap munged_samples plan);
+      done = whole.0;
+      count = sym s.count;
+    }
