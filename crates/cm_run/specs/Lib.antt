@@ -3,6 +3,7 @@ pub mod Driving
 pub mod Going
 pub mod Idle
 pub mod Joined
+pub mod Kept
 pub mod Limits
 pub mod Lines
 pub mod Ran

@@ -2,6 +2,7 @@
 use Rattle.std.specs.Prelude.{ℕ, ◌+◌, ◌<◌, ◌^◌, List, [], ◌++◌, length}
 use Rattle.cm_text.specs.Format.{Format, IsFormat, IsSample, sample_lines}
 use Rattle.cm_text.specs.Scales.{AreScales}
+use Rattle.cm_run.specs.Kept.{AreKept}
 use Rattle.cm_run.specs.declared.sample_text.SampleText.TheInside.{Inside}
 
 -- the text so far, of so many samples
@@ -17,6 +18,7 @@ lines_text t = record { format = record { sub = t.sub.now; list = t.list.now; ra
 pub record IsSampleText (t : Inside) : Type 0 where
   pub format : IsFormat (lines_text t).format
   pub scales : AreScales t.sub.now t.list.now t.scales.items
+  pub kept : AreKept (lines_text t).format t.kept.items
 
 -- a word can be reported as the sample of a place
 abbrev pub CanReport : LinesText → ℕ → ℕ → Type 0

@@ -7,6 +7,7 @@ pub mod done;
 pub mod driving;
 pub mod ending;
 pub mod going;
+mod kept;
 pub mod law;
 pub mod lines;
 pub mod opening;

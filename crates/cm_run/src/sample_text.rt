@@ -1,12 +1,12 @@
 // The lines of a command's samples, made as the samples come.
 
+use crate::kept::{KeptLine, no_lines, put_kept};
 use cm_base::transfer::NoMemory;
 use cm_board::board::Sub;
 use cm_client::consuming::Consumer;
 use cm_expand::plan::Plan;
 use cm_expand::rule::is_raw;
 use cm_sample::scale::Scale;
-use cm_text::samples::put_samples;
 use cm_text::scales::scales_of;
 use std::alloc::Global;
 use std::marker::Model;
@@ -21,6 +21,7 @@ pub struct SampleText<'a> {
     list: &'a [u32],
     raw: bool,
     scales: Vec<Scale>,
+    kept: Vec<KeptLine>,
     text: Vec<u8>,
     count: u64,
 }
@@ -48,11 +49,13 @@ impl<'a> SampleText<'a> {
     {
         let sub = plan.sub();
         let cmd = plan.command();
+        let list: &[u32] = &cmd.list;
         Ok(SampleText {
             sub,
-            list: &cmd.list,
+            list,
             raw: is_raw(cmd.flags),
-            scales: scales_of(alloc, sub, &cmd.list)?,
+            scales: scales_of(alloc, sub, list)?,
+            kept: no_lines(alloc, list.len())?,
             text: Vec::with_capacity(alloc, room.saturating_mul(LINE))?,
             count: 0,
         })
@@ -64,15 +67,15 @@ impl<'a> SampleText<'a> {
         ensures lines { OnOk result (self.new ≡ with_lines self.old words.now) }
         ensures format { self.new.format ≡ self.old.format }
     {
-        put_samples(
+        put_kept(
             &mut self.text,
+            &mut self.kept,
             self.sub,
             self.list,
             self.raw,
-            Some(&self.scales),
+            &self.scales,
             self.count,
             words,
-            &[],
         )?;
         self.count += words.len() as u64;
         Ok(())
@@ -87,6 +90,7 @@ impl<'a> SampleText<'a> {
             list: _,
             raw: _,
             scales: _,
+            kept: _,
             text,
             count: _,
         } = self;

@@ -16,7 +16,7 @@ use Rattle.cm_stream.specs.Merging.{HasMerged, IsPacedOn, Fixed, fixed, given_wo
 use Rattle.cm_stream.specs.declared.merge.MergeStep.TheVariants as merged
 use Rattle.cm_text.specs.Format.{Format, sample_lines}
 use Rattle.cm_watch.specs.Watched.{AreRead, AreSame, CanPut, HasLines, HasPut, HasWatched, text_format}
-use Rattle.cm_watch.proofs.Places.{only, same_at, same_or_not, set_elsewhere, set_here, set_same, there}
+use Rattle.cm_run.proofs.Places.{only, same_at, same_or_not, set_elsewhere, set_here, set_same, there}
 
 -- what no step changes of a stream at a place
 fixed_at : (old new : List Streaming) → map fixed new ≡ map fixed old → (k : ℕ) (d : Streaming) → fixed (get_or new k d) ≡ fixed (get_or old k d)

@@ -1,5 +1,4 @@
 pub mod Followed
 pub mod Openings
-pub mod Places
 pub mod Starts
 pub mod Wholes

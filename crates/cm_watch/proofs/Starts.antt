@@ -16,7 +16,7 @@ use Rattle.cm_stream.specs.Stream.{Streaming}
 use Rattle.cm_stream.specs.Merging.{IsFresh, IsPacedOn, given_words}
 use Rattle.cm_watch.specs.Opened.{Start, line_start, stream_start}
 use Rattle.cm_watch.specs.Watched.{AreRead, HasLines}
-use Rattle.cm_watch.proofs.Places.{all_more, snoc_cases}
+use Rattle.cm_run.proofs.Places.{all_more, snoc_cases}
 
 module _ (board : BoardText) (signals : SignalsText) where
   -- streams start for lines

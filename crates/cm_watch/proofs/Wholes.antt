@@ -34,7 +34,7 @@ use Rattle.cm_watch.specs.Whole.{AreEnds, AreWhole}
 use Rattle.cm_watch.specs.Opened.{HaveWatched, Start, line_start, stream_start}
 use Rattle.cm_watch.specs.Watched.{text_format}
 use Rattle.cm_watch.proofs.Openings.{scan_of}
-use Rattle.cm_watch.proofs.Places.{from_some, if_some, only, same_at, snoc_before, snoc_cases, snoc_last}
+use Rattle.cm_run.proofs.Places.{from_some, if_some, only, same_at, snoc_before, snoc_cases, snoc_last}
 use Rattle.cm_watch.proofs.Starts.{counted}
 
 -- a text of one line more

@@ -3,7 +3,7 @@ use Rattle.std.specs.List.{All}
 use Rattle.cm_run.specs.Whole.{line_format}
 use Rattle.cm_watch.specs.Opened.{line_start, stream_start}
 use Rattle.cm_watch.specs.Watched.{text_format}
-use Rattle.cm_watch.proofs.Places.{all_more, same_more}
+use Rattle.cm_run.proofs.Places.{all_more, same_more}
 use Rattle.cm_watch.proofs.Starts.{paced_one, read_more, starts_with}
 use Rattle.cm_watch.proofs.opening.open_lines.Goals as goal
 

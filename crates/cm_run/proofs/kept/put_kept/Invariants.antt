@@ -1,0 +1,13 @@
+use Rattle.std.proofs.Common.{◌≡◌, ◌+◌, ◌%◌, ◌<◌, ◌++◌, length, take}
+use Rattle.cm_text.specs.Format.{sample_lines}
+use Rattle.cm_run.specs.Kept.{AreKept}
+use Rattle.cm_run.proofs.kept.put_kept.Given as goal
+
+-- the lines of the samples so far, and the list index of the next
+abbrev pub invariant-loop-i : goal.invariant-loop-i
+invariant-loop-i l = record {
+  reported : l.text.items ≡ l.initial.text.items ++ sample_lines (record { sub = l.sub; list = l.list; raw = l.raw }) l.place (take l.i l.words);
+  kept : AreKept (record { sub = l.sub; list = l.list; raw = l.raw }) l.kept;
+  index : l.index ≡ (l.place + l.i) % length l.list;
+  within : l.index < length l.list;
+}
