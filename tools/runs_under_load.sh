@@ -3,7 +3,8 @@
 # hangs or answers anything else than it must. It is no part of the gate.
 #     tools/runs_under_load.sh [RUNS [SAMPLES [SECONDS]]]
 # RUNS is 20, SAMPLES, the number of a soak, 1,000,000, and SECONDS, after which a run is said to hang,
-# 300. Each run is the job of four clients, a free line that has more samples than room, and a soak.
+# 300. Each run is the job of four clients, a free line that has more samples than room, a soak, a watch
+# over rings of eight sizes, whose workers sleep until others wake them, and a loop.
 cd "$(dirname "$0")/.." || exit 1
 runs=${1:-20} samples=${2:-1000000} limit=${3:-300}
 program=$(pwd)/crates/comedi/out/comedi
@@ -35,6 +36,24 @@ wave 0 0 saw 0 255 256
 session
 go free map 0 all 0 0 now:0 timer:1 now:0 count:1 count:1000 0/0/ground
 JOB
+# Paced lines of 5,000 samples on buffers of 1 to 129: a watch of them answers what a run answers.
+{
+    echo 'comedi 1'
+    echo 'board rings'
+    for cells in 1 2 3 7 64 127 128 129; do
+        printf '%s\n' 'subdevice ai 1' 'bits 8' 'range 0 255 0' 'sources now timer now count count' 'tick 1' \
+            'scan 1 1000' 'convert 1 1' 'list 1' 'scans 5000' 'lines 0' "buffer $cells"
+    done
+    echo 'signals 9999'
+    for sub in 0 1 2 3 4 5 6 7; do
+        echo "wave $sub 0 saw 0 255 $((256 + sub))"
+    done
+    echo session
+    for sub in 0 1 2 3 4 5 6 7; do
+        echo "go paced map 0 all $sub 0 now:0 timer:1 now:0 count:1 count:5000 0/0/ground"
+    done
+} >"$work/rings"
+"$program" run <"$work/rings" >"$work/rings.answer" || { echo "a run without load failed"; exit 1; }
 "$program" soak "$samples" </dev/null >"$work/soak" || { echo "a soak without load failed"; exit 1; }
 start_loops
 
@@ -57,6 +76,8 @@ wrong() {
 number=1
 while [ $number -le "$runs" ]; do
     run examples/run_four_lines.txt run && { cmp -s "$work/text" examples/run_four_lines.answer || wrong "four clients"; }
+    run "$work/rings" watch && { cmp -s "$work/text" "$work/rings.answer" || wrong "a watch"; }
+    run examples/loop_two_channels.txt loop && { cmp -s "$work/text" examples/loop_two_channels.answer || wrong "a loop"; }
     run /dev/null soak "$samples" && { cmp -s "$work/text" "$work/soak" || wrong "a soak"; }
     # The free line gives its first K samples, without a hole, and then says `overrun K` or `done`.
     if run "$work/free" run; then

@@ -10,3 +10,6 @@ pub mod munging;
 pub mod reading;
 #[cfg(test)]
 mod tests;
+pub mod waiting;
+#[cfg(test)]
+mod waiting_tests;

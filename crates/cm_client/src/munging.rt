@@ -1,6 +1,7 @@
 // A munger that follows its writer to the end.
 ghost use Rattle.std.specs.Prelude.{◌≡◌, MatchOption};
 
+use crate::waiting::Waits;
 use cm_ring::munger::Munger;
 use cm_sample::planned::Planned;
 use crossbeam_utils::Backoff;
@@ -14,13 +15,26 @@ const PIECE: u32 = 256;
 const SMALL: u32 = 64;
 
 /// Munges in pieces until it has found the ring's end and munged all samples up to the end's count.
-pub fn munge_work<R: Wait + Sync, P: Planned>(rt: &R, mut munger: Munger<P>) -> Munger<P>
+pub fn munge_work<R: Wait + Sync, P: Planned>(rt: &R, munger: Munger<P>) -> Munger<P>
     ensures of { (result.table ≡ munger.table) × (result.ring ≡ munger.ring) }
     ensures end { MatchOption result.part.found ⊥ (λ e. result.part.munged ≡ e.count) }
 {
-    let backoff = Backoff::new();
+    munge_waiting(rt, munger, Backoff::new())
+}
+
+/// Munges as `munge_work` does, and waits for its writer in a way that the caller chooses.
+pub fn munge_waiting<R: Wait + Sync, P: Planned, W: Waits>(
+    rt: &R,
+    mut munger: Munger<P>,
+    mut waits: W,
+) -> Munger<P>
+    ensures of { (result.table ≡ munger.table) × (result.ring ≡ munger.ring) }
+    ensures end { MatchOption result.part.found ⊥ (λ e. result.part.munged ≡ e.count) }
+{
     for _ in rt.forever() {
-        if munger.munge_some(PIECE) >= SMALL {
+        let count = munger.munge_some(PIECE);
+        waits.hand_on(count);
+        if count >= SMALL {
             continue;
         }
         if let Some(end) = munger.ended() {
@@ -28,7 +42,8 @@ pub fn munge_work<R: Wait + Sync, P: Planned>(rt: &R, mut munger: Munger<P>) -> 
                 break;
             }
         }
-        backoff.snooze();
+        waits.wait(rt);
     }
+    waits.end();
     munger
 }

@@ -12,6 +12,7 @@ use cm_run_core::paced::PacedBoard;
 use cm_run_core::starting::Started;
 use cm_run_core::words::Words;
 use cm_sample::planned::Planned;
+use crossbeam_utils::Backoff;
 use std::sync::Wait;
 use std::thread::{Threads, join};
 
@@ -57,7 +58,7 @@ pub(crate) fn stream_loop<
         rt,
         move || {
             writing.report();
-            board.put_all(rt, gate, BOARD)
+            board.put_all(rt, Backoff::new(), gate, BOARD)
         },
         move || -> Result<Streamed<Q, Vec<u32>>, NoMemory>
             requires { IsFresh side.client.reader × (words.items ≡ []) }

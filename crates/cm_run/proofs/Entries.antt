@@ -1,5 +1,5 @@
 -- Lines that are kept for the next samples of their list entries.
-use Rattle.std.proofs.Common.{◌≡◌, inl, inr, ℕ, ◌+◌, ◌%◌, ◌<◌, ◌≤◌, false, List, ◌++◌, length, take, set, get_or, sym, ap, ◌∙◌, subst, Some, None, append_assoc}
+use Rattle.std.proofs.Common.{◌≡◌, inl, inr, ℕ, ◌+◌, ◌%◌, ◌<◌, ◌≤◌, false, List, ◌++◌, length, take, set, get_or, sym, ap, ◌∙◌, subst, Some, None, arith, append_assoc}
 use Rattle.std.specs.Prelude.{slice_get}
 use Rattle.std.specs.List.{All}
 use Rattle.std.proofs.Math.Nat.{mod-eq_of_lt, mod-add-mod}
@@ -11,11 +11,11 @@ use Rattle.cm_text.specs.Format.{Format, IsSample, line_text, sample_line, sampl
 use Rattle.cm_text.proofs.Lines.{sample_lines-next}
 use Rattle.cm_run.specs.Kept.{AreKept, IsKept}
 use Rattle.cm_run.specs.declared.kept.KeptLine.{KeptLine}
-use Rattle.cm_run.proofs.Places.{same_or_not, set_elsewhere, set_here}
+use Rattle.cm_run.proofs.Places.{same_or_not, set_elsewhere, set_here, there}
 
 -- no line is kept yet
-pub none_kept : (f : Format) (lines : List KeptLine) → length lines ≡ length f.list → All (λ kept. kept.word ≡ None) lines → AreKept f lines
-none_kept f lines count none = record {
+pub all_none : (f : Format) (lines : List KeptLine) → length lines ≡ length f.list → All (λ kept. kept.word ≡ None) lines → AreKept f lines
+all_none f lines count none = record {
   count = count;
   each = λ i kept here word is.
       let there : (get_or lines i kept).word ≡ None = none i kept (slice_get_within lines i kept here) in
@@ -32,6 +32,12 @@ set_kept f lines index kept all one = record {
     | inr apart ↦ all.each i x (sym (set_elsewhere lines index i kept apart) ∙ here)
   ];
 }
+
+-- each of them is that of its entry
+pub kept_at : (f : Format) (lines : List KeptLine) (index : ℕ) (own : KeptLine) → AreKept f lines → index < length f.list → own ≡ get_or lines index own → IsKept f index own
+kept_at f lines index own all low is =
+    let x = there lines index (let n = all.count in omega arith) in
+    subst (IsKept f index) (sym (is ∙ get_or_from_slice_get lines index x.0 own x.1)) (all.each index x.0 x.1)
 
 -- a place and its list index name the same list entry
 module _ (f : Format) (place index : ℕ) (at : index ≡ place % length f.list) (low : index < length f.list) where

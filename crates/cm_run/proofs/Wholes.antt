@@ -1,5 +1,5 @@
 -- The block of a line all of whose samples a client has.
-use Rattle.std.proofs.Common.{◌≡◌, ℕ, ◌+◌, ◌≤◌, ◌++◌, List, length, take, refl, sym, ap, ◌∙◌, subst, arith, Option, Some, None}
+use Rattle.std.proofs.Common.{◌≡◌, ℕ, ◌≤◌, ◌++◌, List, length, take, refl, sym, ap, ◌∙◌, subst, arith, Option, Some, None}
 use Rattle.std.proofs.lemmas.List.{take_all}
 use Rattle.cm_board.specs.Board.{BoardText}
 use Rattle.cm_cmd.specs.Command.{CmdText}
@@ -18,15 +18,11 @@ use Rattle.cm_signal.specs.Signals.{SignalsText}
 use Rattle.cm_run.specs.Blocks.{count_of, ending, line_block, munged_samples, paced_block}
 use Rattle.cm_run.specs.Limits.{FitsCount}
 use Rattle.cm_run.specs.Ran.{ring_of, tail_after}
-use Rattle.cm_run.specs.SampleText.{LinesText, lines_of, no_lines, with_lines}
+use Rattle.cm_run.specs.SampleText.{LinesText, lines_of}
 use Rattle.cm_run.specs.Whole.{IsWhole, TakesAll, line_format}
 use Rattle.cm_run.proofs.Reported.{length-munged, munged_by_rule}
-use Rattle.cm_text.specs.Format.{Format, format_of, sample_lines}
+use Rattle.cm_text.specs.Format.{format_of, sample_lines}
 use Rattle.cm_text.specs.Tails.{tail_text}
-
--- the lines of all samples are those of the first ones
-pub first_lines : (f : Format) (words : List ℕ) → with_lines (no_lines f) words ≡ lines_of f words
-first_lines f words = let count : 0 + length words ≡ length words = omega arith in ap (λ (n : ℕ). record { format = f; text = sample_lines f 0 words; count = n }) count
 
 -- the block of a line that takes all samples
 block_all : (board : BoardText) (signals : SignalsText) (line : RunLine) → TakesAll line → line_block board signals line ≡ paced_block (plan_of board signals line) None

@@ -5,7 +5,7 @@ use Rattle.cm_run.specs.declared.kept.KeptLine.{KeptLine}
 
 -- the line of the word that it is kept for, where there is one
 abbrev pub IsKept : Format → ℕ → KeptLine → Type 0
-IsKept f index kept = (word : ℕ) → kept.word ≡ Some word → kept.line.items ≡ sample_line f index word
+IsKept f index kept = (word : ℕ) → kept.word ≡ Some word → kept.line ≡ sample_line f index word
 
 -- one for each list entry
 pub record AreKept (f : Format) (lines : List KeptLine) : Type 0 where

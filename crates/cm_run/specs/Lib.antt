@@ -5,6 +5,7 @@ pub mod Idle
 pub mod Joined
 pub mod Kept
 pub mod Limits
+pub mod LineFormat
 pub mod Lines
 pub mod Ran
 pub mod SampleText

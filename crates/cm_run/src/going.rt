@@ -89,7 +89,7 @@ pub fn stream_go<'a, R: Threads + Wait + Sync, C: Consumer + Send, G: Gate + Syn
 }
 
 /// The lines of the line's samples, before the first.
-pub(crate) fn lines_of<'a>(alloc: Global, go: Go<'a>) -> Result<SampleText<'a>, NoMemory>
+pub(crate) fn text_of<'a>(alloc: Global, go: Go<'a>) -> Result<SampleText<'a>, NoMemory>
     requires { IsGo (plan_text go.plan) go.cmd.now }
     ensures new { IfOk result (λ t. t ≡ no_lines (format_of (plan_text go.entry.plan))) }
     ensures accepts { IfOk result (λ t. Accepts (CanReport t) (ran.ring_of (plan_text go.entry.plan) go.entry.mode)) }
@@ -121,7 +121,7 @@ pub(crate) fn go_line<'a, R: Threads + Wait + Sync, G: Gate + Sync>(
     requires { IsGo (plan_text go.plan) go.cmd.now }
     ensures { IfOk result (λ d. ran.HasGone (plan_text go.entry.plan) go.entry.mode go.entry.take d.block.items d.reader) }
 {
-    let lines = lines_of(alloc, go)?;
+    let lines = text_of(alloc, go)?;
     let streamed = stream_go(rt, alloc, go, lines, gate, who)?;
     let block = with_end(go, streamed.samples, streamed.end)?;
     Ok(LineDone {

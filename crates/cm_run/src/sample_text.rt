@@ -1,13 +1,10 @@
 // The lines of a command's samples, made as the samples come.
 
-use crate::kept::{KeptLine, no_lines, put_kept};
+use crate::kept::{KeptLine, none_kept, put_kept};
+use crate::line_format::LineFormat;
 use cm_base::transfer::NoMemory;
-use cm_board::board::Sub;
 use cm_client::consuming::Consumer;
 use cm_expand::plan::Plan;
-use cm_expand::rule::is_raw;
-use cm_sample::scale::Scale;
-use cm_text::scales::scales_of;
 use std::alloc::Global;
 use std::marker::Model;
 
@@ -17,10 +14,7 @@ const LINE: usize = 12;
 /// The lines of a command's samples, made as the samples come.
 #[derive(Drop)]
 pub struct SampleText<'a> {
-    sub: &'a Sub,
-    list: &'a [u32],
-    raw: bool,
-    scales: Vec<Scale>,
+    format: LineFormat<'a>,
     kept: Vec<KeptLine>,
     text: Vec<u8>,
     count: u64,
@@ -47,15 +41,11 @@ impl<'a> SampleText<'a> {
         requires { IsFormat (format_of (plan_text plan)) }
         ensures { IfOk result (λ t. t ≡ no_lines (format_of (plan_text plan.entry))) }
     {
-        let sub = plan.sub();
-        let cmd = plan.command();
-        let list: &[u32] = &cmd.list;
+        let format = LineFormat::new(alloc, plan)?;
+        let kept = none_kept(alloc, &format)?;
         Ok(SampleText {
-            sub,
-            list,
-            raw: is_raw(cmd.flags),
-            scales: scales_of(alloc, sub, list)?,
-            kept: no_lines(alloc, list.len())?,
+            format,
+            kept,
             text: Vec::with_capacity(alloc, room.saturating_mul(LINE))?,
             count: 0,
         })
@@ -70,10 +60,7 @@ impl<'a> SampleText<'a> {
         put_kept(
             &mut self.text,
             &mut self.kept,
-            self.sub,
-            self.list,
-            self.raw,
-            &self.scales,
+            &self.format,
             self.count,
             words,
         )?;
@@ -86,10 +73,7 @@ impl<'a> SampleText<'a> {
         ensures { result.items ≡ self.entry.text }
     {
         let SampleText {
-            sub: _,
-            list: _,
-            raw: _,
-            scales: _,
+            format: _,
             kept: _,
             text,
             count: _,

@@ -11,7 +11,7 @@ ghost use Rattle.cm_run_lines.specs.Calls as calls;
 ghost use Rattle.cm_run_lines.specs.RunLines.{CanRun};
 ghost use Rattle.cm_run_lines.specs.declared.line.Mode.TheVariants.{Paced};
 
-use crate::going::{Go, lines_of, with_end};
+use crate::going::{Go, text_of, with_end};
 use crate::sample_text::SampleText;
 use cm_base::transfer::NoMemory;
 use cm_board::board::BoardDesc;
@@ -51,13 +51,13 @@ fn whole_block(
     requires whole { IsWhole board.now signals.now line.now words.now end }
     ensures { IfOk result (λ text. text.items ≡ line_block board.now signals.now line.now) }
 {
-    let mut lines = lines_for(alloc, board, signals, line)?;
+    let mut lines = text_for(alloc, board, signals, line)?;
     lines.put(words)?;
     block_of(board, signals, line, lines, end)
 }
 
 /// The lines of the samples of a line that takes all, before the first.
-pub fn lines_for<'a>(
+pub fn text_for<'a>(
     alloc: Global,
     board: &'a BoardDesc,
     signals: &'a Signals,
@@ -68,7 +68,7 @@ pub fn lines_for<'a>(
     ensures new { IfOk result (λ t. t ≡ no_lines (line_format board.entry.now signals.entry.now line.entry.now)) }
     ensures accepts { IfOk result (λ t. Accepts (CanReport t) (ring_of (calls.plan_of board.entry.now signals.entry.now line.entry.now) Paced)) }
 {
-    lines_of(alloc, go_of(board, signals, line))
+    text_of(alloc, go_of(board, signals, line))
 }
 
 /// The block of a line that takes all samples, whose lines are made.

@@ -6,6 +6,7 @@ ghost use Rattle.cm_run_core.specs.Streamed.{EndsTruly};
 
 use crate::words::{WordSource, Words};
 use cm_base::gate::Gate;
+use cm_client::waiting::Waits;
 use cm_expand::plan::Plan;
 use cm_ring::writer::{Closed, Writer};
 use cm_ring_core::view::EndKind;
@@ -20,11 +21,33 @@ const PIECE: u32 = 256;
 /// else they are published in pieces, and before the writer waits. Where the ring is full it
 /// ends with `Cancelled` if a look found the stop asked for, and else waits if the ring is paced, and
 /// ends with `Overrun` if it isn't. After all words it ends with `Done`.
-pub fn put_words<R: Wait + Sync, P: Planned, W: Words, G: Gate>(
+pub fn put_words<R: Wait + Sync, P: Planned, W: Words, S: Waits, G: Gate>(
+    rt: &R,
+    writer: Writer<P>,
+    words: W,
+    paced: bool,
+    mut waits: S,
+    gate: &G,
+    who: u32,
+) -> Closed<P>
+    requires fresh { writer.part ≡ first_writer }
+    requires plan { (writer.ring.samples ≡ W.all words) × (W.place words ≡ 0) }
+    requires paced { writer.ring.paced ≡ paced }
+    ensures of { (result.table ≡ writer.table) × (result.ring ≡ writer.ring) }
+    ensures end { EndsTruly result }
+{
+    let closed = put_and_end(rt, writer, words, paced, &mut waits, gate, who);
+    waits.end();
+    closed
+}
+
+// Puts all words, and ends.
+fn put_and_end<R: Wait + Sync, P: Planned, W: Words, S: Waits, G: Gate>(
     rt: &R,
     mut writer: Writer<P>,
     mut words: W,
     paced: bool,
+    waits: &mut S,
     gate: &G,
     who: u32,
 ) -> Closed<P>
@@ -35,7 +58,6 @@ pub fn put_words<R: Wait + Sync, P: Planned, W: Words, G: Gate>(
     ensures end { EndsTruly result }
 {
     let size = writer.size();
-    let backoff = Backoff::new();
     let most = if paced { PIECE } else { 1 };
     // How many words are put before the next place that is a multiple of the ring's size.
     let mut left = 0;
@@ -54,11 +76,13 @@ pub fn put_words<R: Wait + Sync, P: Planned, W: Words, G: Gate>(
             fresh += 1;
             if fresh >= most || left == 0 {
                 writer.publish();
+                waits.hand_on(fresh);
                 fresh = 0;
             }
         } else {
             if fresh > 0 {
                 writer.publish();
+                waits.hand_on(fresh);
                 fresh = 0;
             }
             gate.pass(who, 2);
@@ -68,7 +92,7 @@ pub fn put_words<R: Wait + Sync, P: Planned, W: Words, G: Gate>(
             if !paced {
                 return writer.end(EndKind::Overrun);
             }
-            backoff.snooze();
+            waits.wait(rt);
         }
     }
     writer.publish();
@@ -90,5 +114,6 @@ pub fn board_work<'a, R: Wait + Sync, G: Gate>(
     ensures of { (result.table ≡ writer.entry.table) × (result.ring ≡ writer.entry.ring) }
     ensures end { EndsTruly result }
 {
-    put_words(rt, writer, WordSource::new(plan), paced, gate, who)
+    let words = WordSource::new(plan);
+    put_words(rt, writer, words, paced, Backoff::new(), gate, who)
 }

@@ -18,6 +18,7 @@ use cm_ring::open::open;
 use cm_ring::writer::Closed;
 use cm_sample::planned::Planned;
 use cm_sample::rule::MungeRule;
+use crossbeam_utils::Backoff;
 use std::alloc::Global;
 use std::sync::Wait;
 use std::thread::{Threads, join};
@@ -63,7 +64,7 @@ pub fn stream_words<
             requires { (writer.part ≡ first_writer) × (writer.ring.samples ≡ W.all words) × (W.place words ≡ 0) × (writer.ring.paced ≡ paced) }
         {
             writing.report();
-            put_words(rt, writer, words, paced, gate, who)
+            put_words(rt, writer, words, paced, Backoff::new(), gate, who)
         },
         move || -> Result<Streamed<P, C>, NoMemory>
             requires { IsFresh client.reader × (C.count consumer ≡ 0) × (C.made consumer ≡ C.makes consumer []) × Accepts (C.accepts consumer) client.reader.ring }

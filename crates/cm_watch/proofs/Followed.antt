@@ -1,5 +1,5 @@
 -- What the client of many streams has read of them.
-use Rattle.std.proofs.Common.{◌≡◌, inl, inr, ℕ, ◌+◌, ◌<◌, List, [], ◌++◌, length, length-append, map, set, get_or, refl, sym, ap, ap₂, ◌∙◌, subst, Some, arith}
+use Rattle.std.proofs.Common.{◌≡◌, inl, inr, ℕ, ◌+◌, ◌<◌, List, [], ◌++◌, length, length-append, map, set, get_or, refl, sym, ap, ◌∙◌, subst, Some, arith}
 use Rattle.std.specs.Prelude.{slice_get, option_map}
 use Rattle.std.specs.List.{All}
 use Rattle.std.proofs.Math.ListN.{get_or-map, length-map}
@@ -7,14 +7,13 @@ use Rattle.std.proofs.lemmas.List.{get_or-append-add, length-set, map-set}
 use Rattle.std.proofs.lemmas.Option.{slice_get-map, slice_get_within}
 use Rattle.cm_client.specs.Progress.{Accepts}
 use Rattle.cm_run.specs.SampleText.{CanReport, LinesText, lines_of, with_lines}
-use Rattle.cm_run.proofs.Joined.{lines-joined}
+use Rattle.cm_run.proofs.Joined.{lines_more}
 use Rattle.cm_run.proofs.Reported.{given_accepted}
 use Rattle.cm_stream.specs.Scans.{ScanText}
 use Rattle.cm_stream.specs.Stream.{Streaming}
 use Rattle.cm_stream.specs.Appended.{HasAppendedOf}
 use Rattle.cm_stream.specs.Merging.{HasMerged, IsPacedOn, Fixed, fixed, given_words}
 use Rattle.cm_stream.specs.declared.merge.MergeStep.TheVariants as merged
-use Rattle.cm_text.specs.Format.{Format, sample_lines}
 use Rattle.cm_watch.specs.Watched.{AreRead, AreSame, CanPut, HasLines, HasPut, HasWatched, text_format}
 use Rattle.cm_run.proofs.Places.{only, same_at, same_or_not, set_elsewhere, set_here, set_same, there}
 
@@ -32,13 +31,6 @@ paced_on old new same paced k d within =
     let count = as_many old new same in
     let was = paced k d (omega arith) in
     (ap (λ (f : Fixed). f.ring.paced) e ∙ was.0, ap (λ (f : Fixed). f.asked) e ∙ was.1)
-
--- the lines of samples, and those of more of them
-lines_more : (f : Format) (words more : List ℕ) → with_lines (lines_of f words) more ≡ lines_of f (words ++ more)
-lines_more f words more =
-    let place : length words ≡ 0 + length words = omega arith in
-    let text : sample_lines f 0 words ++ sample_lines f (length words) more ≡ sample_lines f 0 (words ++ more) = ap (λ (n : ℕ). sample_lines f 0 words ++ sample_lines f n more) place ∙ sym (lines-joined f 0 words more) in
-    ap₂ (λ (made : List ℕ) (n : ℕ). record { format = f; text = made; count = n }) text (sym (length-append words more))
 
 module _ (t : LinesText) (s new : Streaming) (has : HasLines t s) (ring : new.reader.ring ≡ s.reader.ring) where
   -- a stream that has given no more
@@ -65,7 +57,7 @@ module _ (t : LinesText) (s new : Streaming) (has : HasLines t s) (ring : new.re
       let may = given_accepted new.reader.ring (CanReport t) (subst (Accepts (CanReport t)) (sym ring) has.report) new.reader.part.released (given_words new) refl (length g + i) (omega (arith, below, long)) in
       subst (λ (n : ℕ). CanReport t n (get_or words i 0)) place (subst (CanReport t (length g + i)) word may)
 
--- what a list of words is at a place
+-- a step of streams of which the lines so far are made
 module _ (old new : List Streaming) (texts : List LinesText) (read : AreRead old texts) (same : map fixed new ≡ map fixed old) where
   -- the stream at a place was one of the same ring
   was_at : (i : ℕ) (s : Streaming) → slice_get new i ≡ Some s → (x : Streaming) × (slice_get old i ≡ Some x) × (s.reader.ring ≡ x.reader.ring)

@@ -1,15 +1,17 @@
 // The threads of the watched lines.
-ghost use Rattle.std.specs.Prelude.{◌≡◌, ◌+◌, ◌<◌, ◌^◌, [], length, IfOk, IsErr, MatchOption};
+ghost use Rattle.std.specs.Prelude.{◌≡◌, ◌+◌, ◌<◌, ◌≤◌, ◌^◌, [], length, IfOk, IsErr, MatchOption};
 ghost use Rattle.std.specs.List.{All};
 ghost use Rattle.std.specs.Thread.{IsSync};
 ghost use Rattle.cm_run.specs.Idle.{IsIdle};
 ghost use Rattle.cm_watch.specs.Watched.{AreRead, HasWatched};
 
 use crate::client::{Watched, read_scans};
+use crate::events::WatchEvents;
 use crate::side::BoardSide;
 use cm_base::gate::Gate;
 use cm_base::transfer::NoMemory;
-use cm_client::munging::munge_work;
+use cm_client::munging::munge_waiting;
+use cm_client::waiting::Relay;
 use cm_ring::munger::Munger;
 use cm_run::claiming::claim_waiting;
 use cm_run::lines::another_seat;
@@ -29,6 +31,7 @@ fn board_thread<R: Wait + Sync, P: Planned, W: Words, G: Gate>(
     mut seat: OwnerSeat,
     sub: u32,
     board: PacedBoard<P, W>,
+    waits: Relay<'_>,
     gate: &G,
     who: u32,
 )
@@ -36,7 +39,7 @@ fn board_thread<R: Wait + Sync, P: Planned, W: Words, G: Gate>(
     requires place { sub < length owners.now.channels }
 {
     let state = claim_waiting(rt, owners, &mut seat, sub);
-    board.put_all(rt, gate, who);
+    board.put_all(rt, waits, gate, who);
     owners.give_back(&mut seat, sub, state);
 }
 
@@ -73,19 +76,22 @@ pub(crate) fn watch_sides<
     mut seat: OwnerSeat,
     mut sides: Vec<BoardSide<P, W>>,
     client: Watched<'a, P>,
+    events: &WatchEvents,
     gate: &G,
 ) -> Result<Watched<'a, P>, NoMemory>
     requires idle { IsIdle owners.now seat }
     requires sides { All (λ side. side.sub < length owners.now.channels) sides.items }
     requires few { length sides.items < 2 ^ 32 }
+    requires events { length sides.items ≤ length events.now.lines.items }
     requires read { AreRead client.merge.streams client.texts.items }
     ensures { IfOk result (λ w. HasWatched client.entry.merge.streams w.merge.streams client.entry.texts.items w.texts.items) }
 {
     let Some(side) = last_side(owners, &mut sides) else {
-        return read_scans(rt, alloc, client, gate);
+        return read_scans(rt, alloc, client, events, gate);
     };
     let theirs = another_seat(owners, &mut seat);
     let who = sides.len() as u32;
+    let waits = events.board(sides.len());
     let BoardSide { board, munger, sub } = side;
     let started = Started::new();
     let writing = &started;
@@ -95,14 +101,14 @@ pub(crate) fn watch_sides<
             requires { IsIdle owners.now theirs × (sub < length owners.now.channels) }
         {
             writing.report();
-            board_thread(rt, owners, theirs, sub, board, gate, who)
+            board_thread(rt, owners, theirs, sub, board, waits, gate, who)
         },
         move || -> Result<Watched<'_, P>, NoMemory>
-            requires { IsSync R.row × IsSync G.row × IsIdle owners.now seat × All (λ side. side.sub < length owners.now.channels) sides.items × (length sides.items < 2 ^ 32) × AreRead client.merge.streams client.texts.items }
+            requires { IsSync R.row × IsSync G.row × IsIdle owners.now seat × All (λ side. side.sub < length owners.now.channels) sides.items × (length sides.items < 2 ^ 32) × (length sides.items < length events.now.lines.items) × AreRead client.merge.streams client.texts.items }
             ensures { IfOk result (λ w. HasWatched client.entry.merge.streams w.merge.streams client.entry.texts.items w.texts.items) }
         {
             munge_beside(
-                rt, alloc, owners, seat, sides, munger, writing, client, gate,
+                rt, alloc, owners, seat, sides, munger, writing, client, events, gate,
             )
         },
     );
@@ -126,43 +132,50 @@ fn munge_beside<
     munger: Munger<P>,
     writing: &Started,
     client: Watched<'a, P>,
+    events: &WatchEvents,
     gate: &G,
 ) -> Result<Watched<'a, P>, NoMemory>
     requires idle { IsIdle owners.now seat }
     requires sides { All (λ side. side.sub < length owners.now.channels) sides.items }
     requires few { length sides.items < 2 ^ 32 }
+    requires events { length sides.items < length events.now.lines.items }
     requires read { AreRead client.merge.streams client.texts.items }
     ensures { IfOk result (λ w. HasWatched client.entry.merge.streams w.merge.streams client.entry.texts.items w.texts.items) }
 {
     if !writing.wait() {
-        return stopped(client);
+        return stopped(client, events);
     }
+    let waits = events.munger(sides.len());
     let started = Started::new();
     let munging = &started;
     let (_, watched) = join(
         rt,
         move || {
             munging.report();
-            let _munger = munge_work(rt, munger);
+            let _munger = munge_waiting(rt, munger, waits);
         },
         move || -> Result<Watched<'_, P>, NoMemory>
-            requires { IsSync R.row × IsSync G.row × IsIdle owners.now seat × All (λ side. side.sub < length owners.now.channels) sides.items × (length sides.items < 2 ^ 32) × AreRead client.merge.streams client.texts.items }
+            requires { IsSync R.row × IsSync G.row × IsIdle owners.now seat × All (λ side. side.sub < length owners.now.channels) sides.items × (length sides.items < 2 ^ 32) × (length sides.items ≤ length events.now.lines.items) × AreRead client.merge.streams client.texts.items }
             ensures { IfOk result (λ w. HasWatched client.entry.merge.streams w.merge.streams client.entry.texts.items w.texts.items) }
         {
             if !munging.wait() {
-                return stopped(client);
+                return stopped(client, events);
             }
-            watch_sides(rt, alloc, owners, seat, sides, client, gate)
+            watch_sides(rt, alloc, owners, seat, sides, client, events, gate)
         },
     );
     watched
 }
 
 // Asks every ring for the stop, since a thread can't be made.
-fn stopped<'a, P: Planned>(client: Watched<'a, P>) -> Result<Watched<'a, P>, NoMemory>
+fn stopped<'a, P: Planned>(
+    client: Watched<'a, P>,
+    events: &WatchEvents,
+) -> Result<Watched<'a, P>, NoMemory>
     ensures { IsErr result }
 {
     let mut client = client;
     client.merge.stop_all();
+    events.wake_boards();
     Err(NoMemory)
 }

@@ -2,12 +2,13 @@
 ghost use Rattle.std.specs.Prelude.{◌<◌, length, IfOk};
 ghost use Rattle.cm_watch.specs.Watched.{AreRead, AreSame, CanPut, HasPut, HasWatched};
 
+use crate::events::WatchEvents;
+use crate::watcher::Watcher;
 use cm_base::gate::Gate;
 use cm_base::transfer::NoMemory;
 use cm_run::sample_text::SampleText;
 use cm_sample::planned::Planned;
 use cm_stream::merge::{Merge, MergeStep};
-use crossbeam_utils::Backoff;
 use std::alloc::Global;
 use std::sync::Wait;
 
@@ -29,18 +30,15 @@ fn put_lines(texts: &mut [SampleText<'_>], source: u32, words: &[u32]) -> Result
 // How many samples of further scans are taken at once.
 const PIECE: u32 = 256;
 
-// After fewer further samples the client steps back, so that the mungers get ahead of it.
-const SMALL: usize = 64;
-
-// Appends the lines of a source's further whole scans that have come, a piece at most, by way of `room`,
-// and says whether they were few.
+// Appends the lines of a source's further whole scans that have come, a piece at most, by way of `room`.
 fn put_more<P: Planned, G: Gate>(
     merge: &mut Merge<P>,
     texts: &mut [SampleText<'_>],
     room: &mut Vec<u32>,
+    watcher: &mut Watcher<'_>,
     source: u32,
     gate: &G,
-) -> Result<bool, NoMemory>
+) -> Result<(), NoMemory>
     requires source { source < length merge.old.streams }
     requires read { AreRead merge.old.streams texts.old }
     ensures read { IfOk result (λ _. AreRead merge.new.streams texts.new) }
@@ -48,9 +46,10 @@ fn put_more<P: Planned, G: Gate>(
 {
     room.clear();
     let scans = merge.append_scans(source, room, PIECE)?;
+    watcher.release(source, room.len());
     put_lines(texts, source, room)?;
     pass_each(gate, source, scans);
-    Ok(room.len() < SMALL)
+    Ok(())
 }
 
 // Passes the gate's point once for each of so many scans.
@@ -66,24 +65,24 @@ fn read_all<R: Wait + Sync, P: Planned, G: Gate>(
     alloc: Global,
     merge: &mut Merge<P>,
     texts: &mut [SampleText<'_>],
+    events: &WatchEvents,
     gate: &G,
 ) -> Result<(), NoMemory>
     requires { AreRead merge.old.streams texts.old }
     ensures { IfOk result (λ _. HasWatched merge.old.streams merge.new.streams texts.old texts.new) }
 {
     let mut room = Vec::new(alloc);
-    let backoff = Backoff::new();
+    let mut watcher = Watcher::new(alloc, events)?;
     for _ in rt.forever() {
         match merge.step() {
             MergeStep::Given(source, scan) => {
+                watcher.release(source, scan.words.len());
                 put_lines(texts, source, &scan.words)?;
                 gate.pass(source, 4);
-                if put_more(merge, texts, &mut room, source, gate)? {
-                    backoff.snooze();
-                }
+                put_more(merge, texts, &mut room, &mut watcher, source, gate)?;
             }
             MergeStep::Ended => return Ok(()),
-            MergeStep::Waiting => backoff.snooze(),
+            MergeStep::Waiting => watcher.wait(rt),
             MergeStep::NoMemory(_) => return Err(NoMemory),
         }
     }
@@ -96,6 +95,7 @@ pub(crate) fn read_scans<'a, R: Wait + Sync, P: Planned, G: Gate>(
     rt: &R,
     alloc: Global,
     client: Watched<'a, P>,
+    events: &WatchEvents,
     gate: &G,
 ) -> Result<Watched<'a, P>, NoMemory>
     requires { AreRead client.merge.streams client.texts.items }
@@ -105,10 +105,11 @@ pub(crate) fn read_scans<'a, R: Wait + Sync, P: Planned, G: Gate>(
         mut texts,
         mut merge,
     } = client;
-    match read_all(rt, alloc, &mut merge, &mut texts, gate) {
+    match read_all(rt, alloc, &mut merge, &mut texts, events, gate) {
         Ok(()) => Ok(Watched { texts, merge }),
         Err(NoMemory) => {
             merge.stop_all();
+            events.wake_boards();
             Err(NoMemory)
         }
     }

@@ -4,7 +4,9 @@
 mod beside;
 mod blocks;
 mod client;
+mod events;
 pub mod job;
 mod opening;
 mod side;
+mod watcher;
 pub mod watching;

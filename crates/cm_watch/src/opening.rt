@@ -9,6 +9,7 @@ ghost use Rattle.cm_run_lines.specs.WatchLines.{IsWatched};
 ghost use Rattle.cm_watch.specs.Opened.{AreFor, line_start, stream_start};
 ghost use Rattle.cm_watch.specs.Watched.{AreRead};
 
+use crate::events::LineEvents;
 use crate::side::BoardSide;
 use cm_base::transfer::NoMemory;
 use cm_board::board::BoardDesc;
@@ -16,7 +17,7 @@ use cm_expand::plan::Plan;
 use cm_run::lines::sub_of;
 use cm_run::opening::{PacedRing, open_paced};
 use cm_run::sample_text::SampleText;
-use cm_run::whole::lines_for;
+use cm_run::whole::text_for;
 use cm_run_core::words::WordSource;
 use cm_run_lines::line::{RunLine, plan_of};
 use cm_signal::signals::Signals;
@@ -26,20 +27,30 @@ use std::alloc::Global;
 /// The side of a line for its own expansion.
 pub type Side<'a> = BoardSide<Plan<'a>, WordSource<'a>>;
 
-// A line's side, its stream, and the lines of its samples.
+// A line's side, what its workers wait for, its stream, and the lines of its samples.
 #[derive(Drop)]
 struct OpenedLine<'a> {
     side: Side<'a>,
+    events: LineEvents,
     stream: ScanStream<Plan<'a>>,
     text: SampleText<'a>,
 }
 
-/// The sides of some lines, and for each a stream and the lines of its samples.
+/// The sides of some lines, and for each what its workers wait for, a stream, and the lines of its
+/// samples.
 #[derive(Drop)]
 pub struct Opened<'a> {
     pub sides: Vec<Side<'a>>,
+    pub events: Vec<LineEvents>,
     pub streams: Vec<ScanStream<Plan<'a>>>,
     pub texts: Vec<SampleText<'a>>,
+}
+
+// What the workers of a line wait for.
+fn events_of(board: &BoardDesc, signals: &Signals, line: &RunLine) -> LineEvents
+    requires { CanRun board.now signals.now line.now }
+{
+    LineEvents::new(plan_of(board, signals, line).sub().buffer)
 }
 
 // Opens the ring of a line, with a stream of its scans and the lines of its samples, before the first.
@@ -56,7 +67,8 @@ fn open_line<'a>(
     ensures text { IfOk result (λ o. o.text ≡ no_lines (line_format board.entry.now signals.entry.now line.entry.now)) }
     ensures report { IfOk result (λ o. Accepts (CanReport o.text) (line_start board.entry.now signals.entry.now line.entry.now).ring) }
 {
-    let text = lines_for(alloc, board, signals, line)?;
+    let events = events_of(board, signals, line);
+    let text = text_for(alloc, board, signals, line)?;
     let plan = plan_of(board, signals, line);
     let cmd = line.cmd();
     let PacedRing {
@@ -68,7 +80,12 @@ fn open_line<'a>(
     let stream = ScanStream::new(alloc, reader, scan);
     let sub = sub_of(line);
     let side = BoardSide { board, munger, sub };
-    Ok(OpenedLine { side, stream, text })
+    Ok(OpenedLine {
+        side,
+        events,
+        stream,
+        text,
+    })
 }
 
 /// Opens the rings of some lines.
@@ -82,19 +99,27 @@ pub(crate) fn open_lines<'a>(
     requires watched { All (IsWatched board.now) lines.now }
     ensures sides { IfOk result (λ o. All (λ side. side.sub < length board.entry.now.subs) o.sides.items) }
     ensures count { IfOk result (λ o. length o.sides.items ≡ length lines.entry.now) }
+    ensures events { IfOk result (λ o. length o.events.items ≡ length lines.entry.now) }
     ensures start { IfOk result (λ o. AreFor board.entry.now signals.entry.now lines.entry.now o.streams.items o.texts.items) }
     ensures read { IfOk result (λ o. AreRead o.streams.items o.texts.items) }
 {
     let mut opened = Opened {
         sides: Vec::new(alloc),
+        events: Vec::new(alloc),
         streams: Vec::new(alloc),
         texts: Vec::new(alloc),
     };
     for i in 0..lines.len() {
-        let OpenedLine { side, stream, text } = open_line(alloc, board, signals, &lines[i])?;
+        let OpenedLine {
+            side,
+            events,
+            stream,
+            text,
+        } = open_line(alloc, board, signals, &lines[i])?;
         opened.sides.push(side)?;
         opened.streams.push(stream)?;
         opened.texts.push(text)?;
+        opened.events.push(events)?;
     }
     Ok(opened)
 }

@@ -9,6 +9,7 @@ ghost use Rattle.cm_watch.specs.Opened.{HaveWatched};
 use crate::beside::watch_sides;
 use crate::blocks::blocks_of;
 use crate::client::Watched;
+use crate::events::WatchEvents;
 use crate::job::WatchJob;
 use crate::opening::{Opened, open_lines};
 use cm_base::gate::Gate;
@@ -60,10 +61,12 @@ fn watch_lines<'a, R: Threads + Wait + Sync, G: Gate + Sync>(
     let (owners, seat) = Owners::open(alloc, states)?;
     let Opened {
         sides,
+        events,
         streams,
         texts,
     } = open_lines(alloc, board, signals, lines)?;
     let merge = Merge::new(alloc, streams)?;
     let client = Watched { texts, merge };
-    watch_sides(rt, alloc, &owners, seat, sides, client, gate)
+    let events = WatchEvents::new(events);
+    watch_sides(rt, alloc, &owners, seat, sides, client, &events, gate)
 }

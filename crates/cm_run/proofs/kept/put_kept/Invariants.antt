@@ -6,8 +6,8 @@ use Rattle.cm_run.proofs.kept.put_kept.Given as goal
 -- the lines of the samples so far, and the list index of the next
 abbrev pub invariant-loop-i : goal.invariant-loop-i
 invariant-loop-i l = record {
-  reported : l.text.items ≡ l.initial.text.items ++ sample_lines (record { sub = l.sub; list = l.list; raw = l.raw }) l.place (take l.i l.words);
-  kept : AreKept (record { sub = l.sub; list = l.list; raw = l.raw }) l.kept;
-  index : l.index ≡ (l.place + l.i) % length l.list;
-  within : l.index < length l.list;
+  reported : l.text.items ++ l.gathered ≡ l.initial.text.items ++ sample_lines l.format l.place (take l.i l.words);
+  kept : AreKept l.format l.kept;
+  index : l.index ≡ (l.place + l.i) % length l.format.list;
+  within : l.index < length l.format.list;
 }

@@ -1,12 +1,13 @@
-use Rattle.std.proofs.Common.{◌≡◌, ℕ, ◌+◌, get_or, ap, ◌∙◌, subst, arith}
+use Rattle.std.proofs.Common.{◌≡◌, ℕ, ◌+◌, [], get_or, ap, ◌∙◌, subst, arith}
 use Rattle.cm_expand.specs.Plan.{PlanText}
 use Rattle.cm_run_lines.proofs.Watched.{some-entry}
 use Rattle.cm_run_lines.specs.Calls.{plan_of}
 use Rattle.cm_run_lines.specs.declared.line.Mode.TheVariants.{Paced}
 use Rattle.cm_run.specs.Blocks.{count_of}
 use Rattle.cm_run.specs.SampleText.{CanReport, LinesText, with_lines}
+use Rattle.cm_run.proofs.Joined.{lines_more}
 use Rattle.cm_run.proofs.Reported.{first_accepted}
-use Rattle.cm_run.proofs.Wholes.{first_lines, first_ones}
+use Rattle.cm_run.proofs.Wholes.{first_ones}
 use Rattle.cm_run.proofs.whole.whole_block.Goals as goal
 
 pub put-requires : goal.put-requires
@@ -22,5 +23,5 @@ pub block_of-requires-clause-whole : goal.block_of-requires-clause-whole
 block_of-requires-clause-whole c = record {
   words = c.args.words.now;
   whole = c.requires.whole;
-  lines = c.in_ok-put.ensures.lines ∙ (ap (λ (t : LinesText). with_lines t c.args.words.now) c.in_ok-lines.ensures.new ∙ first_lines _ c.args.words.now);
+  lines = c.in_ok-put.ensures.lines ∙ (ap (λ (t : LinesText). with_lines t c.args.words.now) c.in_ok-lines.ensures.new ∙ lines_more _ [] c.args.words.now);
 }

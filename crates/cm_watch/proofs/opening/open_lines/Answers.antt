@@ -18,6 +18,7 @@ loop-i-preserved c =
     record {
       sides = subst (All (λ side. side.sub < length board.subs)) (sym c.in_ok-push.ensures.items) (all_more (λ side. side.sub < length board.subs) _ _ have.sides is.side);
       count = (let e = c.in_ok-push.ensures.len in let n = have.count in omega arith);
+      events = (let e = c.in_ok-push-4.ensures.len in let n = have.events in omega arith);
       streams = ap (map stream_start) c.in_ok-push-2.ensures.items
           ∙ same_more stream_start (line_start board signals) opened.streams.items _ lines c.loop-i.i c.index-lines-i.result c.loop-i-test.true have.streams (is.stream ∙ ap (line_start board signals) c.index-lines-i.is);
       formats = ap (map text_format) c.in_ok-push-3.ensures.items

@@ -7,7 +7,7 @@ use Rattle.cm_ring_core.specs.Lawful.{munged_at}
 use Rattle.cm_run.proofs.Reported.{all_reported}
 use Rattle.cm_run.specs.Ran.{ring_of}
 use Rattle.cm_run.specs.SampleText.{CanReport, LinesText}
-use Rattle.cm_run.proofs.going.lines_of.Goals as goal
+use Rattle.cm_run.proofs.going.text_of.Goals as goal
 
 pub returns-clause-accepts : goal.returns-clause-accepts
 returns-clause-accepts c =

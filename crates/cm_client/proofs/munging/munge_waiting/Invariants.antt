@@ -1,5 +1,5 @@
 use Rattle.std.proofs.Common.{◌≡◌}
-use Rattle.cm_client.proofs.munging.munge_work.Given as goal
+use Rattle.cm_client.proofs.munging.munge_waiting.Given as goal
 
 abbrev pub invariant-loop : goal.invariant-loop
 invariant-loop g l = record {

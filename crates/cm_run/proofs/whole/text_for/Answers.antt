@@ -4,8 +4,8 @@ use Rattle.cm_expand.specs.Plan.{PlanText}
 use Rattle.cm_run_lines.specs.declared.line.Mode.TheVariants.{Paced}
 use Rattle.cm_run.specs.Ran.{ring_of}
 use Rattle.cm_run.specs.SampleText.{CanReport}
-use Rattle.cm_run.proofs.whole.lines_for.Goals as goal
+use Rattle.cm_run.proofs.whole.text_for.Goals as goal
 
 -- which word may be the sample of a place doesn't turn on the mode
 pub returns-clause-accepts : goal.returns-clause-accepts
-returns-clause-accepts c = subst (λ (p : PlanText). IfOk c.lines_of.result (λ t. Accepts (CanReport t) (ring_of p Paced))) c.go_of.ensures.plan c.lines_of.ensures.accepts
+returns-clause-accepts c = subst (λ (p : PlanText). IfOk c.text_of.result (λ t. Accepts (CanReport t) (ring_of p Paced))) c.go_of.ensures.plan c.text_of.ensures.accepts

@@ -1,6 +1,6 @@
 use Rattle.std.proofs.Common.{◌≡◌, length, None}
 use Rattle.std.specs.List.{All}
-use Rattle.cm_run.proofs.kept.no_lines.Given as goal
+use Rattle.cm_run.proofs.kept.none_kept.Given as goal
 
 -- no line is kept for the entries so far
 abbrev pub invariant-loop-i : goal.invariant-loop-i

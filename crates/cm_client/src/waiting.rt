@@ -1,0 +1,122 @@
+// How the workers of a ring wait for each other.
+
+use crossbeam_utils::Backoff;
+use crossbeam_utils::sync::{EventCount, Key};
+use std::sync::Wait;
+
+/// How a worker of a ring waits for the others, and lets them know of what it has done. It decides when
+/// a worker runs, and nothing of what it does.
+pub trait Waits: Drop {
+    /// So many samples, or cells that are free again, are there for the next worker.
+    fn hand_on(&mut self, count: u32);
+
+    /// The worker has found nothing to do: it waits, or looks once more.
+    fn wait<R: Wait>(&mut self, rt: &R);
+
+    /// The worker has ended.
+    fn end(&mut self);
+}
+
+/// A worker that looks again and again, and gives its processor to others between two looks.
+impl Waits for Backoff {
+    fn hand_on(&mut self, _count: u32) {}
+
+    fn wait<R: Wait>(&mut self, _rt: &R) {
+        self.snooze();
+    }
+
+    fn end(&mut self) {}
+}
+
+/// A worker that sleeps until an event (Comedi: the `wait_head` of a `comedi_async`).
+#[derive(Drop)]
+pub struct Sleeper<'a> {
+    event: &'a EventCount,
+    key: Option<Key<'a>>,
+}
+
+impl<'a> Sleeper<'a> {
+    /// A worker that has looked for nothing yet.
+    pub fn new(event: &'a EventCount) -> Sleeper<'a> {
+        Sleeper { event, key: None }
+    }
+
+    /// The worker has found something to do.
+    pub fn go_on(&mut self) {
+        self.key = None;
+    }
+
+    /// The worker has found nothing to do. It is announced first, so that it looks once more. Where it
+    /// finds nothing then, it sleeps until an event that comes after it was announced.
+    pub fn wait<R: Wait>(&mut self, rt: &R) {
+        match self.key.take() {
+            None => self.key = Some(self.event.prepare_wait()),
+            Some(key) => key.wait(rt),
+        }
+    }
+}
+
+/// Wakes the workers that sleep until an event, once for many samples.
+#[derive(Drop)]
+pub struct Alarm<'a> {
+    event: &'a EventCount,
+    every: u32,
+    count: u32,
+}
+
+impl<'a> Alarm<'a> {
+    /// It wakes them after each `every` samples.
+    pub fn new(event: &'a EventCount, every: u32) -> Alarm<'a> {
+        Alarm {
+            event,
+            every,
+            count: 0,
+        }
+    }
+
+    /// There are so many samples more.
+    pub fn add(&mut self, count: u32) {
+        self.count = self.count.saturating_add(count);
+        if self.count >= self.every {
+            self.wake();
+        }
+    }
+
+    /// Wakes them where there are samples that they weren't woken for.
+    pub fn wake_for_rest(&mut self) {
+        if self.count > 0 {
+            self.wake();
+        }
+    }
+
+    /// Wakes them.
+    pub fn wake(&mut self) {
+        self.count = 0;
+        self.event.notify_all();
+    }
+}
+
+/// A worker that sleeps while it has nothing to do, and wakes the next one.
+#[derive(Drop)]
+pub struct Relay<'a> {
+    pub sleeper: Sleeper<'a>,
+    pub alarm: Alarm<'a>,
+}
+
+impl Waits for Relay<'_> {
+    fn hand_on(&mut self, count: u32) {
+        if count > 0 {
+            self.sleeper.go_on();
+            self.alarm.add(count);
+        }
+    }
+
+    fn wait<R: Wait>(&mut self, rt: &R) {
+        self.alarm.wake_for_rest();
+        self.sleeper.wait(rt);
+    }
+
+    fn end(&mut self) {
+        self.alarm.wake();
+    }
+}

@@ -1,0 +1,92 @@
+// What the workers of watched lines wait for.
+ghost use Rattle.std.specs.Prelude.{◌≡◌, ◌<◌, length};
+
+use cm_base::transfer::NoMemory;
+use cm_client::waiting::{Alarm, Relay, Sleeper};
+use crossbeam_utils::sync::EventCount;
+use std::alloc::Global;
+
+// A ring of fewer cells wakes a worker for each sample.
+const SMALL: u32 = 128;
+
+/// What a line's workers wait for: its munger for samples, and its board for cells that are free again.
+#[derive(Drop)]
+pub struct LineEvents {
+    written: EventCount,
+    released: EventCount,
+    // After how many samples a worker is woken.
+    every: u32,
+}
+
+impl LineEvents {
+    /// Of a line whose ring has so many cells. A worker is woken once for half of them.
+    pub fn new(size: u32) -> LineEvents {
+        LineEvents {
+            written: EventCount::new(),
+            released: EventCount::new(),
+            every: if size < SMALL { 1 } else { size / 2 },
+        }
+    }
+}
+
+/// What all workers of a watch wait for: those of each line, and the client for samples of any line.
+#[derive(Drop)]
+pub struct WatchEvents {
+    pub lines: Vec<LineEvents>,
+    munged: EventCount,
+}
+
+impl WatchEvents {
+    /// Of these lines.
+    pub fn new(lines: Vec<LineEvents>) -> WatchEvents
+        ensures { length result.lines.items ≡ length lines.items }
+    {
+        WatchEvents {
+            lines,
+            munged: EventCount::new(),
+        }
+    }
+
+    /// How the board of a line waits.
+    pub fn board(&self, line: usize) -> Relay<'_>
+        requires { line < length self.now.lines.items }
+    {
+        let events = &self.lines[line];
+        Relay {
+            sleeper: Sleeper::new(&events.released),
+            alarm: Alarm::new(&events.written, events.every),
+        }
+    }
+
+    /// How the munger of a line waits.
+    pub fn munger(&self, line: usize) -> Relay<'_>
+        requires { line < length self.now.lines.items }
+    {
+        let events = &self.lines[line];
+        Relay {
+            sleeper: Sleeper::new(&events.written),
+            alarm: Alarm::new(&self.munged, events.every),
+        }
+    }
+
+    /// How the client waits.
+    pub fn client(&self) -> Sleeper<'_> {
+        Sleeper::new(&self.munged)
+    }
+
+    /// What wakes the board of each line.
+    pub fn boards(&self, alloc: Global) -> Result<Vec<Alarm<'_>>, NoMemory> {
+        let mut boards = Vec::new(alloc);
+        for events in self.lines.iter() {
+            boards.push(Alarm::new(&events.released, events.every))?;
+        }
+        Ok(boards)
+    }
+
+    /// Wakes the boards of all lines, which then see a stop that was asked for.
+    pub fn wake_boards(&self) {
+        for events in self.lines.iter() {
+            events.released.notify_all();
+        }
+    }
+}
