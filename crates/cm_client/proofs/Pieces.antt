@@ -1,5 +1,5 @@
 -- Pieces of the munged plan, one sample longer at a time.
-use Rattle.std.proofs.Common.{◌≡◌, ℕ, zero, suc, ◌+◌, ◌-◌, ◌<◌, ◌≤◌, List, [], ◌∷◌, ◌++◌, length, get_or, take, drop, set, refl, sym, subst, Option, Some, ap, ◌∙◌, arith, length-drop, get_or-drop, append_assoc, length-append}
+use Rattle.std.proofs.Common.{◌≡◌, ℕ, zero, suc, ◌+◌, ◌-◌, ◌<◌, ◌≤◌, List, [], ◌∷◌, ◌++◌, length, get_or, take, drop, set, refl, sym, subst, Option, Some, ap, ◌∙◌, arith, length-drop, get_or-drop, append_assoc}
 use Rattle.std.proofs.Math.Seq.{take-add, take-append_seam}
 use Rattle.std.proofs.lemmas.List.{get_or-take, take_more, drop_more, set-append_right, length-take-le}
 use Rattle.cm_sample.specs.Rule.{munged_word, map_from}
@@ -116,6 +116,14 @@ all_after count new_count k made new_made makes new_makes accepts new_accepts ol
 pub copied_piece : (ring : RingConstants) (place count : ℕ) (rest : List ℕ) → place + count ≤ length ring.samples → take count (piece ring place count ++ rest) ≡ piece ring place count
 copied_piece ring place count rest within = let size = length-piece ring place count within in
     ap (λ (n : ℕ). take n (piece ring place count ++ rest)) (sym size) ∙ take-append_seam (piece ring place count) rest
+
+-- the words of a piece that was mapped, and copied then
+pub mapped_piece : (r m : Reading) (count : ℕ) (out rest : List ℕ) → r.part.released + count ≤ length r.ring.samples →
+    m ≡ record r { part = record r.part { known = m.part.known; munged_looks = r.part.munged_looks + 1 }; mapped = count } →
+    out ≡ piece m.ring m.part.released count ++ rest → take count out ≡ piece r.ring r.part.released count
+mapped_piece r m count out rest within mapped copied =
+    let there : m.part.released + count ≤ length m.ring.samples = omega (arith, within, ap (λ (x : Reading). x.part.released) mapped, ap (λ (x : Reading). length x.ring.samples) mapped) in
+    ap (take count) copied ∙ copied_piece m.ring m.part.released count rest there ∙ ap (λ (x : Reading). piece x.ring x.part.released count) mapped
 
 -- the samples that were taken are up to the end's count
 pub up_to_taken : (most : Option ℕ) (n count : ℕ) → most ≡ Some n → n ≤ count → up_to count most ≡ n

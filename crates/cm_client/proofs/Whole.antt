@@ -1,5 +1,5 @@
 -- What a client has read once it has found the end: of a paced ring without a stop the whole plan.
-use Rattle.std.proofs.Common.{◌≡◌, ℕ, ◌≤◌, List, length, refl, sym, subst, true, false, Option, Some, None, ap, ◌∙◌, inl, inr, arith}
+use Rattle.std.proofs.Common.{◌≡◌, ℕ, ◌≤◌, length, refl, sym, subst, true, false, Option, Some, None, ap, ◌∙◌, inl, inr, arith}
 use Rattle.std.proofs.Math.Seq.{take-length}
 use Rattle.std.proofs.lemmas.List.{length-take-le}
 use Rattle.cm_ring_core.specs.declared.view.RingConstants.{RingConstants}

@@ -7,6 +7,8 @@ pub mod copying;
 pub mod feeding;
 pub mod mapping;
 pub mod munging;
+#[cfg(test)]
+mod munging_tests;
 pub mod reading;
 #[cfg(test)]
 mod tests;

@@ -1,7 +1,7 @@
 // A munger that follows its writer to the end.
 ghost use Rattle.std.specs.Prelude.{◌≡◌, MatchOption};
 
-use crate::waiting::Waits;
+use crate::waiting::Waiting;
 use cm_ring::munger::Munger;
 use cm_sample::planned::Planned;
 use crossbeam_utils::Backoff;
@@ -10,8 +10,8 @@ use std::sync::Wait;
 // How many samples are munged before the reader is shown them.
 const PIECE: u32 = 256;
 
-// After fewer samples the munger steps back, so that the writer gets ahead of it: else each sample
-// is fetched by itself from the writer's processor.
+// After fewer samples the munger waits, so that the writer gets ahead of it: else each sample is fetched
+// by itself from the writer's processor.
 const SMALL: u32 = 64;
 
 /// Munges in pieces until it has found the ring's end and munged all samples up to the end's count.
@@ -23,17 +23,17 @@ pub fn munge_work<R: Wait + Sync, P: Planned>(rt: &R, munger: Munger<P>) -> Mung
 }
 
 /// Munges as `munge_work` does, and waits for its writer in a way that the caller chooses.
-pub fn munge_waiting<R: Wait + Sync, P: Planned, W: Waits>(
+pub fn munge_waiting<R: Wait + Sync, P: Planned, W: Waiting>(
     rt: &R,
     mut munger: Munger<P>,
-    mut waits: W,
+    mut waiting: W,
 ) -> Munger<P>
     ensures of { (result.table ≡ munger.table) × (result.ring ≡ munger.ring) }
     ensures end { MatchOption result.part.found ⊥ (λ e. result.part.munged ≡ e.count) }
 {
     for _ in rt.forever() {
         let count = munger.munge_some(PIECE);
-        waits.hand_on(count);
+        waiting.hand_on(count);
         if count >= SMALL {
             continue;
         }
@@ -42,8 +42,38 @@ pub fn munge_waiting<R: Wait + Sync, P: Planned, W: Waits>(
                 break;
             }
         }
-        waits.wait(rt);
+        waiting.wait(rt);
     }
-    waits.end();
+    waiting.end();
     munger
+}
+
+/// How a client waits that munges its ring itself, and has no thread for it: where it finds too few
+/// samples to read, it munges a piece more.
+#[derive(Drop)]
+pub struct OwnMunger<P: Planned> {
+    munger: Munger<P>,
+    backoff: Backoff,
+}
+
+impl<P: Planned> OwnMunger<P> {
+    /// Of the munger of the client's ring.
+    pub fn new(munger: Munger<P>) -> OwnMunger<P> {
+        OwnMunger {
+            munger,
+            backoff: Backoff::new(),
+        }
+    }
+}
+
+impl<P: Planned> Waiting for OwnMunger<P> {
+    fn hand_on(&mut self, _count: u32) {}
+
+    fn wait<R: Wait>(&mut self, _rt: &R) {
+        if self.munger.munge_some(PIECE) < SMALL {
+            self.backoff.snooze();
+        }
+    }
+
+    fn end(&mut self) {}
 }

@@ -7,6 +7,7 @@ ghost use Rattle.cm_ring_core.specs.Lawful.{IsFoundEnd};
 use crate::consuming::Consumer;
 use crate::copying::copy_read;
 use crate::mapping::MapReader;
+use crate::waiting::Waiting;
 use cm_base::gate::Gate;
 use cm_base::transfer::NoMemory;
 use cm_ring::reader::Reader;
@@ -155,8 +156,7 @@ fn is_enough(most: Option<u64>, count: u64) -> bool
     }
 }
 
-// Reads one piece more, and says whether it is a full one. After one that isn't the client steps back,
-// so that the munger gets ahead of it.
+// Reads one piece more, and gives how many samples it has and how many it could have.
 fn read_more<P: Planned, C: Consumer, G: Gate>(
     reader: &mut Reader<P>,
     consumer: &mut C,
@@ -165,7 +165,7 @@ fn read_more<P: Planned, C: Consumer, G: Gate>(
     most: Option<u64>,
     gate: &G,
     who: u32,
-) -> Result<bool, NoMemory>
+) -> Result<(u32, u32), NoMemory>
     requires chunk { 1 ≤ chunk }
     requires all { HasAll (C.count consumer.old) (C.made consumer.old) (C.makes consumer.old) (C.accepts consumer.old) reader.old }
     requires most { MatchOption most ⊤ (λ m. reader.old.part.released < m) }
@@ -177,11 +177,10 @@ fn read_more<P: Planned, C: Consumer, G: Gate>(
 {
     let piece = next_piece(chunk, most, reader.released());
     let count = read_piece(reader, consumer, piece, by_map, gate, who)?;
-    if count == 0 {
-        return Ok(false);
+    if count > 0 {
+        gate.pass(who, 4);
     }
-    gate.pass(who, 4);
-    Ok(count == piece)
+    Ok((count, piece))
 }
 
 // The end, where it is found and so many samples are all.
@@ -193,11 +192,20 @@ fn end_at<P: Planned>(reader: &mut Reader<P>, count: u64) -> Option<End>
     if end.count == count { Some(end) } else { None }
 }
 
+// Hands samples on. After a piece that isn't full the client waits, so that the munger gets ahead of it.
+fn go_on<R: Wait, W: Waiting>(rt: &R, waiting: &mut W, count: u32, piece: u32) {
+    waiting.hand_on(count);
+    if count < piece {
+        waiting.wait(rt);
+    }
+}
+
 // Reads up to the end, or up to so many samples.
-fn read_up_to<R: Wait + Sync, P: Planned, C: Consumer, G: Gate>(
+fn read_up_to<R: Wait + Sync, P: Planned, C: Consumer, W: Waiting, G: Gate>(
     rt: &R,
     reader: &mut Reader<P>,
     consumer: &mut C,
+    waiting: &mut W,
     chunk: u32,
     by_map: bool,
     most: Option<u64>,
@@ -213,7 +221,6 @@ fn read_up_to<R: Wait + Sync, P: Planned, C: Consumer, G: Gate>(
     ensures makes { C.makes consumer.new ≡ C.makes consumer.old }
     ensures of { IsSameRing reader.old reader.new }
 {
-    let backoff = Backoff::new();
     for _ in rt.forever() {
         let count = reader.released();
         if is_enough(most, count) {
@@ -222,9 +229,8 @@ fn read_up_to<R: Wait + Sync, P: Planned, C: Consumer, G: Gate>(
         if let Some(end) = end_at(reader, count) {
             return Ok(Some(end));
         }
-        if !read_more(reader, consumer, chunk, by_map, most, gate, who)? {
-            backoff.snooze();
-        }
+        let (count, piece) = read_more(reader, consumer, chunk, by_map, most, gate, who)?;
+        go_on(rt, waiting, count, piece);
     }
     unreachable!()
 }
@@ -245,13 +251,25 @@ fn wait_for_end<R: Wait + Sync, P: Planned>(rt: &R, reader: &mut Reader<P>) -> E
     unreachable!()
 }
 
+// Asks for the stop, and wakes a writer that waits for room.
+fn ask_stop<P: Planned, W: Waiting>(reader: &mut Reader<P>, mut waiting: W)
+    ensures { reader.new ≡ record reader.old { part = record reader.old.part { asked = true } } }
+{
+    reader.ask_stop();
+    waiting.end();
+}
+
 // Asks for the stop and waits for the end.
-fn stop_and_wait<R: Wait + Sync, P: Planned>(rt: &R, reader: &mut Reader<P>) -> End
+fn stop_and_wait<R: Wait + Sync, P: Planned, W: Waiting>(
+    rt: &R,
+    reader: &mut Reader<P>,
+    waiting: W,
+) -> End
     ensures same { reader.new ≡ record reader.old { part = record reader.old.part { asked = true; found = Some result; end_looks = reader.new.part.end_looks } } }
     ensures above { reader.old.part.released ≤ result.count }
     ensures says { IsFoundEnd reader.new.ring reader.new.part result.kind result.count }
 {
-    reader.ask_stop();
+    ask_stop(reader, waiting);
     wait_for_end(rt, reader)
 }
 
@@ -275,15 +293,20 @@ pub fn read_to_end<R: Wait + Sync, P: Planned, G: Gate>(
     ensures no_memory { OnErr result (reader.new.part.asked ≡ true) }
 {
     let mut words = Vec::new(alloc);
-    let end = consume_to_end(rt, reader, &mut words, chunk, by_map, take, gate, who)?;
+    let waiting = Backoff::new();
+    let end = consume_to_end(
+        rt, reader, &mut words, waiting, chunk, by_map, take, gate, who,
+    )?;
     Ok((words, end))
 }
 
-/// Reads as `read_to_end` does, and hands the samples to a consumer in place of keeping them.
-pub fn consume_to_end<R: Wait + Sync, P: Planned, C: Consumer, G: Gate>(
+/// Reads as `read_to_end` does, hands the samples to a consumer in place of keeping them, and waits for
+/// the munger in a way that the caller chooses.
+pub fn consume_to_end<R: Wait + Sync, P: Planned, C: Consumer, W: Waiting, G: Gate>(
     rt: &R,
     reader: &mut Reader<P>,
     consumer: &mut C,
+    mut waiting: W,
     chunk: u32,
     by_map: bool,
     take: Option<u64>,
@@ -300,11 +323,24 @@ pub fn consume_to_end<R: Wait + Sync, P: Planned, C: Consumer, G: Gate>(
     ensures of { IsSameRing reader.old reader.new }
     ensures no_memory { OnErr result (reader.new.part.asked ≡ true) }
 {
-    match read_up_to(rt, reader, consumer, chunk, by_map, take, gate, who) {
-        Ok(Some(end)) => Ok(end),
-        Ok(None) => Ok(stop_and_wait(rt, reader)),
+    match read_up_to(
+        rt,
+        reader,
+        consumer,
+        &mut waiting,
+        chunk,
+        by_map,
+        take,
+        gate,
+        who,
+    ) {
+        Ok(Some(end)) => {
+            waiting.end();
+            Ok(end)
+        }
+        Ok(None) => Ok(stop_and_wait(rt, reader, waiting)),
         Err(_) => {
-            reader.ask_stop();
+            ask_stop(reader, waiting);
             Err(NoMemory)
         }
     }

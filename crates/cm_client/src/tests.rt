@@ -25,7 +25,7 @@ use std::test::Fail;
 use std::thread::{Threads, join};
 
 // A rule of one entry, with the codes of 8 bits.
-fn rule(alloc: Global, kind: Munge) -> Result<MungeRule, NoMemory>
+pub(crate) fn rule(alloc: Global, kind: Munge) -> Result<MungeRule, NoMemory>
     requires { MayShift kind }
     ensures { IfOk result (λ r. IsRule r) }
 {

@@ -2,11 +2,12 @@
 
 use crossbeam_utils::Backoff;
 use crossbeam_utils::sync::{EventCount, Key};
+use std::marker::Model;
 use std::sync::Wait;
 
 /// How a worker of a ring waits for the others, and lets them know of what it has done. It decides when
 /// a worker runs, and nothing of what it does.
-pub trait Waits: Drop {
+pub trait Waiting: Drop {
     /// So many samples, or cells that are free again, are there for the next worker.
     fn hand_on(&mut self, count: u32);
 
@@ -18,7 +19,7 @@ pub trait Waits: Drop {
 }
 
 /// A worker that looks again and again, and gives its processor to others between two looks.
-impl Waits for Backoff {
+impl Waiting for Backoff {
     fn hand_on(&mut self, _count: u32) {}
 
     fn wait<R: Wait>(&mut self, _rt: &R) {
@@ -28,27 +29,44 @@ impl Waits for Backoff {
     fn end(&mut self) {}
 }
 
-/// A worker that sleeps until an event (Comedi: the `wait_head` of a `comedi_async`).
+/// A worker that sleeps until an event (Comedi: the `wait_head` of a `comedi_async`). Contracts see of
+/// it whether it is announced, so that its next wait is a sleep.
 #[derive(Drop)]
 pub struct Sleeper<'a> {
     event: &'a EventCount,
     key: Option<Key<'a>>,
 }
 
+impl<'a> Model for Sleeper<'a> {
+    ghost use Rattle.std.specs.Prelude.{Bool, is_some};
+
+    ghost Value = { Bool };
+
+    ghost view = { λ s. is_some s.key };
+}
+
 impl<'a> Sleeper<'a> {
+    ghost use Rattle.std.specs.Prelude.{◌≡◌, false, not};
+
     /// A worker that has looked for nothing yet.
-    pub fn new(event: &'a EventCount) -> Sleeper<'a> {
+    pub fn new(event: &'a EventCount) -> Sleeper<'a>
+        ensures { result ≡ false }
+    {
         Sleeper { event, key: None }
     }
 
     /// The worker has found something to do.
-    pub fn go_on(&mut self) {
+    pub fn go_on(&mut self)
+        ensures { self.new ≡ false }
+    {
         self.key = None;
     }
 
     /// The worker has found nothing to do. It is announced first, so that it looks once more. Where it
     /// finds nothing then, it sleeps until an event that comes after it was announced.
-    pub fn wait<R: Wait>(&mut self, rt: &R) {
+    pub fn wait<R: Wait>(&mut self, rt: &R)
+        ensures { self.new ≡ not self.old }
+    {
         match self.key.take() {
             None => self.key = Some(self.event.prepare_wait()),
             Some(key) => key.wait(rt),
@@ -56,7 +74,8 @@ impl<'a> Sleeper<'a> {
     }
 }
 
-/// Wakes the workers that sleep until an event, once for many samples.
+/// Wakes the workers that sleep until an event, once for many samples. Contracts see of it after how
+/// many, and how many came since it woke them last.
 #[derive(Drop)]
 pub struct Alarm<'a> {
     event: &'a EventCount,
@@ -64,9 +83,21 @@ pub struct Alarm<'a> {
     count: u32,
 }
 
+impl<'a> Model for Alarm<'a> {
+    ghost use Rattle.cm_client.specs.Waiting.{AlarmText};
+
+    ghost Value = { AlarmText };
+
+    ghost view = { λ a. record { every = a.every; count = a.count } };
+}
+
 impl<'a> Alarm<'a> {
+    ghost use Rattle.std.specs.Prelude.{◌≡◌, ◌+◌, ◌<◌, ◌≤◌};
+
     /// It wakes them after each `every` samples.
-    pub fn new(event: &'a EventCount, every: u32) -> Alarm<'a> {
+    pub fn new(event: &'a EventCount, every: u32) -> Alarm<'a>
+        ensures { result ≡ record { every = every; count = 0 } }
+    {
         Alarm {
             event,
             every,
@@ -75,7 +106,10 @@ impl<'a> Alarm<'a> {
     }
 
     /// There are so many samples more.
-    pub fn add(&mut self, count: u32) {
+    pub fn add(&mut self, count: u32)
+        ensures woken { self.old.every ≤ self.old.count + count → self.new ≡ record self.old { count = 0 } }
+        ensures kept { self.old.count + count < self.old.every → self.new ≡ record self.old { count = self.old.count + count } }
+    {
         self.count = self.count.saturating_add(count);
         if self.count >= self.every {
             self.wake();
@@ -83,14 +117,18 @@ impl<'a> Alarm<'a> {
     }
 
     /// Wakes them where there are samples that they weren't woken for.
-    pub fn wake_for_rest(&mut self) {
+    pub fn wake_for_rest(&mut self)
+        ensures { self.new ≡ record self.old { count = 0 } }
+    {
         if self.count > 0 {
             self.wake();
         }
     }
 
     /// Wakes them.
-    pub fn wake(&mut self) {
+    pub fn wake(&mut self)
+        ensures { self.new ≡ record self.old { count = 0 } }
+    {
         self.count = 0;
         self.event.notify_all();
     }
@@ -103,7 +141,22 @@ pub struct Relay<'a> {
     pub alarm: Alarm<'a>,
 }
 
-impl Waits for Relay<'_> {
+impl<'a> Relay<'a> {
+    ghost use Rattle.std.specs.Prelude.{◌≡◌, false};
+
+    /// A worker that sleeps until an event of its own, and wakes the next one for each `every` samples.
+    pub fn new(own: &'a EventCount, next: &'a EventCount, every: u32) -> Relay<'a>
+        ensures sleeper { result.sleeper ≡ false }
+        ensures alarm { result.alarm ≡ record { every = every; count = 0 } }
+    {
+        Relay {
+            sleeper: Sleeper::new(own),
+            alarm: Alarm::new(next, every),
+        }
+    }
+}
+
+impl Waiting for Relay<'_> {
     fn hand_on(&mut self, count: u32) {
         if count > 0 {
             self.sleeper.go_on();

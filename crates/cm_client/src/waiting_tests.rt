@@ -1,5 +1,5 @@
 // Workers that sleep until others wake them.
-use crate::waiting::{Alarm, Relay, Sleeper, Waits};
+use crate::waiting::{Relay, Waiting};
 use crossbeam_utils::sync::EventCount;
 use std::sync::Wait;
 use std::sync::atomic::{AtomicU64, Ordering};
@@ -33,14 +33,12 @@ fn turns_end<R: Threads + Wait + Sync>(rt: &R, every: u32) -> u64 {
     join(
         rt,
         move || {
-            let sleeper = Sleeper::new(evens);
-            let alarm = Alarm::new(odds, every);
-            take_turns(rt, counts, 0, Relay { sleeper, alarm })
+            let relay = Relay::new(evens, odds, every);
+            take_turns(rt, counts, 0, relay)
         },
         move || {
-            let sleeper = Sleeper::new(odds);
-            let alarm = Alarm::new(evens, every);
-            take_turns(rt, counts, 1, Relay { sleeper, alarm })
+            let relay = Relay::new(odds, evens, every);
+            take_turns(rt, counts, 1, relay)
         },
     );
     count.load(Ordering::SeqCst)

@@ -7,7 +7,7 @@ use cm_base::gate::Gate;
 use cm_base::transfer::NoMemory;
 use cm_client::munging::munge_work;
 use cm_ring::munger::Munger;
-use cm_run_core::client::{ClientSide, Reads, Streamed, run_client};
+use cm_run_core::client::{ClientSide, Reads, Streamed, run_munging_client};
 use cm_run_core::paced::PacedBoard;
 use cm_run_core::starting::Started;
 use cm_run_core::words::Words;
@@ -31,9 +31,9 @@ pub(crate) struct LoopSide<'a, P: Planned, Q: Planned> {
 }
 
 /// Streams an input through a filter into an output, and gives what comes out of its ring, up to as
-/// many words as the client takes: the input's board and munger, the filter and the output's munger have
-/// threads of their own, and all have ended when it returns. It gives NoMemory, too, where a thread can't
-/// be made, and has asked for the stop then.
+/// many words as the client takes: the input's board and munger and the filter have threads of their own,
+/// the client munges the output's ring itself, and all threads have ended when it returns. It gives
+/// NoMemory, too, where a thread can't be made, and has asked for the stop then.
 pub(crate) fn stream_loop<
     R: Threads + Wait + Sync,
     P: Planned + Send + Sync,
@@ -145,7 +145,7 @@ fn filter_beside<
         move || -> Result<Streamed<Q, Vec<u32>>, NoMemory>
             requires { IsFresh client.reader × (words.items ≡ []) }
             ensures { IfOk result (λ s. StreamsTo s.samples.items (λ words. words) client.reader.ring reads.take s.end s.reader) }
-        { run_client(rt, client, words, filtering, reads, gate, CLIENT) },
+        { run_munging_client(rt, client, words, filtering, reads, gate, CLIENT) },
     );
     streamed
 }

@@ -6,7 +6,7 @@ ghost use Rattle.cm_run_core.specs.Streamed.{EndsTruly};
 
 use crate::words::{WordSource, Words};
 use cm_base::gate::Gate;
-use cm_client::waiting::Waits;
+use cm_client::waiting::Waiting;
 use cm_expand::plan::Plan;
 use cm_ring::writer::{Closed, Writer};
 use cm_ring_core::view::EndKind;
@@ -18,36 +18,16 @@ use std::sync::Wait;
 const PIECE: u32 = 256;
 
 /// Puts all words in order. Where the ring isn't paced each is published before the next one is tried;
-/// else they are published in pieces, and before the writer waits. Where the ring is full it
+/// else they are published in pieces, and before the writer waiting. Where the ring is full it
 /// ends with `Cancelled` if a look found the stop asked for, and else waits if the ring is paced, and
-/// ends with `Overrun` if it isn't. After all words it ends with `Done`.
-pub fn put_words<R: Wait + Sync, P: Planned, W: Words, S: Waits, G: Gate>(
-    rt: &R,
-    writer: Writer<P>,
-    words: W,
-    paced: bool,
-    mut waits: S,
-    gate: &G,
-    who: u32,
-) -> Closed<P>
-    requires fresh { writer.part ≡ first_writer }
-    requires plan { (writer.ring.samples ≡ W.all words) × (W.place words ≡ 0) }
-    requires paced { writer.ring.paced ≡ paced }
-    ensures of { (result.table ≡ writer.table) × (result.ring ≡ writer.ring) }
-    ensures end { EndsTruly result }
-{
-    let closed = put_and_end(rt, writer, words, paced, &mut waits, gate, who);
-    waits.end();
-    closed
-}
-
-// Puts all words, and ends.
-fn put_and_end<R: Wait + Sync, P: Planned, W: Words, S: Waits, G: Gate>(
+/// ends with `Overrun` if it isn't. After all words it ends with `Done`. It waits in a way that the
+/// caller chooses, who lets the others know that it has ended.
+pub fn put_words<R: Wait + Sync, P: Planned, W: Words, S: Waiting, G: Gate>(
     rt: &R,
     mut writer: Writer<P>,
     mut words: W,
     paced: bool,
-    waits: &mut S,
+    waiting: &mut S,
     gate: &G,
     who: u32,
 ) -> Closed<P>
@@ -76,13 +56,13 @@ fn put_and_end<R: Wait + Sync, P: Planned, W: Words, S: Waits, G: Gate>(
             fresh += 1;
             if fresh >= most || left == 0 {
                 writer.publish();
-                waits.hand_on(fresh);
+                waiting.hand_on(fresh);
                 fresh = 0;
             }
         } else {
             if fresh > 0 {
                 writer.publish();
-                waits.hand_on(fresh);
+                waiting.hand_on(fresh);
                 fresh = 0;
             }
             gate.pass(who, 2);
@@ -92,7 +72,7 @@ fn put_and_end<R: Wait + Sync, P: Planned, W: Words, S: Waits, G: Gate>(
             if !paced {
                 return writer.end(EndKind::Overrun);
             }
-            waits.wait(rt);
+            waiting.wait(rt);
         }
     }
     writer.publish();
@@ -115,5 +95,5 @@ pub fn board_work<'a, R: Wait + Sync, G: Gate>(
     ensures end { EndsTruly result }
 {
     let words = WordSource::new(plan);
-    put_words(rt, writer, words, paced, Backoff::new(), gate, who)
+    put_words(rt, writer, words, paced, &mut Backoff::new(), gate, who)
 }

@@ -7,12 +7,14 @@ use crate::starting::Started;
 use cm_base::gate::Gate;
 use cm_base::transfer::NoMemory;
 use cm_client::consuming::Consumer;
-use cm_client::munging::munge_work;
+use cm_client::munging::{OwnMunger, munge_work};
 use cm_client::reading::consume_to_end;
+use cm_client::waiting::Waiting;
 use cm_ring::munger::Munger;
 use cm_ring::reader::Reader;
 use cm_ring_core::view::End;
 use cm_sample::planned::Planned;
+use crossbeam_utils::Backoff;
 use std::sync::Wait;
 use std::thread::{Threads, join};
 
@@ -35,10 +37,12 @@ pub struct Reads {
 }
 
 /// Reads to the end in pieces of 64, or up to as many samples as it takes, and hands them to a consumer.
-pub fn client_work<R: Wait + Sync, P: Planned, C: Consumer, G: Gate>(
+/// It waits for the munger in a way that the caller chooses.
+pub fn client_work<R: Wait + Sync, P: Planned, C: Consumer, W: Waiting, G: Gate>(
     rt: &R,
     reader: &mut Reader<P>,
     consumer: &mut C,
+    waiting: W,
     reads: Reads,
     gate: &G,
     who: u32,
@@ -51,7 +55,9 @@ pub fn client_work<R: Wait + Sync, P: Planned, C: Consumer, G: Gate>(
     ensures no_memory { OnErr result (reader.new.part.asked ≡ true) }
 {
     let Reads { by_map, take } = reads;
-    consume_to_end(rt, reader, consumer, CHUNK, by_map, take, gate, who)
+    consume_to_end(
+        rt, reader, consumer, waiting, CHUNK, by_map, take, gate, who,
+    )
 }
 
 /// The two ends of a ring that a client's side has.
@@ -61,12 +67,13 @@ pub struct ClientSide<P: Planned> {
     pub reader: Reader<P>,
 }
 
-// The client's thread, which owns its reader. It reads where the munger's thread has started.
-fn read_line<R: Wait + Sync, P: Planned, C: Consumer, G: Gate>(
+// The client's thread, which owns its reader. It reads where the thread that it reads from has started.
+fn read_line<R: Wait + Sync, P: Planned, C: Consumer, W: Waiting, G: Gate>(
     rt: &R,
     mut reader: Reader<P>,
     mut consumer: C,
-    munging: &Started,
+    waiting: W,
+    before: &Started,
     reads: Reads,
     gate: &G,
     who: u32,
@@ -76,11 +83,11 @@ fn read_line<R: Wait + Sync, P: Planned, C: Consumer, G: Gate>(
     requires accepts { Accepts (C.accepts consumer) reader.ring }
     ensures { IfOk result (λ s. StreamsTo (C.made s.samples) (C.makes consumer) reader.ring reads.take s.end s.reader) }
 {
-    if !munging.wait() {
+    if !before.wait() {
         reader.ask_stop();
         return Err(NoMemory);
     }
-    let end = client_work(rt, &mut reader, &mut consumer, reads, gate, who)?;
+    let end = client_work(rt, &mut reader, &mut consumer, waiting, reads, gate, who)?;
     Ok(Streamed {
         samples: consumer,
         end,
@@ -148,7 +155,31 @@ fn munge_and_read<
         move || -> Result<Streamed<P, C>, NoMemory>
             requires { IsFresh reader × (C.count consumer ≡ 0) × (C.made consumer ≡ C.makes consumer []) × Accepts (C.accepts consumer) reader.ring }
             ensures { IfOk result (λ s. StreamsTo (C.made s.samples) (C.makes consumer) reader.ring reads.take s.end s.reader) }
-        { read_line(rt, reader, consumer, munging, reads, gate, who) },
+        {
+            let waiting = Backoff::new();
+            read_line(rt, reader, consumer, waiting, munging, reads, gate, who)
+        },
     );
     streamed
+}
+
+/// Munges and reads to the end, both in the thread that calls it, where the writer's thread has started.
+/// It gives NoMemory where that one can't be made, and has asked for the stop then.
+pub fn run_munging_client<R: Wait + Sync, P: Planned, C: Consumer, G: Gate>(
+    rt: &R,
+    side: ClientSide<P>,
+    consumer: C,
+    writing: &Started,
+    reads: Reads,
+    gate: &G,
+    who: u32,
+) -> Result<Streamed<P, C>, NoMemory>
+    requires fresh { IsFresh side.reader }
+    requires new { (C.count consumer ≡ 0) × (C.made consumer ≡ C.makes consumer []) }
+    requires accepts { Accepts (C.accepts consumer) side.reader.ring }
+    ensures { IfOk result (λ s. StreamsTo (C.made s.samples) (C.makes consumer) side.reader.ring reads.take s.end s.reader) }
+{
+    let ClientSide { munger, reader } = side;
+    let waiting = OwnMunger::new(munger);
+    read_line(rt, reader, consumer, waiting, writing, reads, gate, who)
 }

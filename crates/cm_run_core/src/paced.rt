@@ -5,7 +5,7 @@ ghost use Rattle.cm_ring_core.specs.Lawful.{first_writer};
 use crate::boarding::put_words;
 use crate::words::Words;
 use cm_base::gate::Gate;
-use cm_client::waiting::Waits;
+use cm_client::waiting::Waiting;
 use cm_ring::writer::Writer;
 use cm_sample::planned::Planned;
 use std::marker::Model;
@@ -42,8 +42,15 @@ impl<P: Planned, W: Words> PacedBoard<P, W> {
     }
 
     /// Puts all words and ends with `Done`, or ends with `Cancelled` where the stop was asked for.
-    pub fn put_all<R: Wait + Sync, S: Waits, G: Gate>(self, rt: &R, waits: S, gate: &G, who: u32) {
+    pub fn put_all<R: Wait + Sync, S: Waiting, G: Gate>(
+        self,
+        rt: &R,
+        mut waiting: S,
+        gate: &G,
+        who: u32,
+    ) {
         let PacedBoard { writer, words } = self;
-        let _closed = put_words(rt, writer, words, true, waits, gate, who);
+        let _closed = put_words(rt, writer, words, true, &mut waiting, gate, who);
+        waiting.end();
     }
 }

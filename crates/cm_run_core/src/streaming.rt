@@ -64,7 +64,7 @@ pub fn stream_words<
             requires { (writer.part ≡ first_writer) × (writer.ring.samples ≡ W.all words) × (W.place words ≡ 0) × (writer.ring.paced ≡ paced) }
         {
             writing.report();
-            put_words(rt, writer, words, paced, Backoff::new(), gate, who)
+            put_words(rt, writer, words, paced, &mut Backoff::new(), gate, who)
         },
         move || -> Result<Streamed<P, C>, NoMemory>
             requires { IsFresh client.reader × (C.count consumer ≡ 0) × (C.made consumer ≡ C.makes consumer []) × Accepts (C.accepts consumer) client.reader.ring }

@@ -31,7 +31,7 @@ fn board_thread<R: Wait + Sync, P: Planned, W: Words, G: Gate>(
     mut seat: OwnerSeat,
     sub: u32,
     board: PacedBoard<P, W>,
-    waits: Relay<'_>,
+    waiting: Relay<'_>,
     gate: &G,
     who: u32,
 )
@@ -39,7 +39,7 @@ fn board_thread<R: Wait + Sync, P: Planned, W: Words, G: Gate>(
     requires place { sub < length owners.now.channels }
 {
     let state = claim_waiting(rt, owners, &mut seat, sub);
-    board.put_all(rt, waits, gate, who);
+    board.put_all(rt, waiting, gate, who);
     owners.give_back(&mut seat, sub, state);
 }
 
@@ -83,6 +83,7 @@ pub(crate) fn watch_sides<
     requires sides { All (λ side. side.sub < length owners.now.channels) sides.items }
     requires few { length sides.items < 2 ^ 32 }
     requires events { length sides.items ≤ length events.now.lines.items }
+    requires streams { length client.merge.streams ≤ length events.now.lines.items }
     requires read { AreRead client.merge.streams client.texts.items }
     ensures { IfOk result (λ w. HasWatched client.entry.merge.streams w.merge.streams client.entry.texts.items w.texts.items) }
 {
@@ -91,7 +92,7 @@ pub(crate) fn watch_sides<
     };
     let theirs = another_seat(owners, &mut seat);
     let who = sides.len() as u32;
-    let waits = events.board(sides.len());
+    let waiting = events.board(sides.len());
     let BoardSide { board, munger, sub } = side;
     let started = Started::new();
     let writing = &started;
@@ -101,10 +102,10 @@ pub(crate) fn watch_sides<
             requires { IsIdle owners.now theirs × (sub < length owners.now.channels) }
         {
             writing.report();
-            board_thread(rt, owners, theirs, sub, board, waits, gate, who)
+            board_thread(rt, owners, theirs, sub, board, waiting, gate, who)
         },
         move || -> Result<Watched<'_, P>, NoMemory>
-            requires { IsSync R.row × IsSync G.row × IsIdle owners.now seat × All (λ side. side.sub < length owners.now.channels) sides.items × (length sides.items < 2 ^ 32) × (length sides.items < length events.now.lines.items) × AreRead client.merge.streams client.texts.items }
+            requires { IsSync R.row × IsSync G.row × IsIdle owners.now seat × All (λ side. side.sub < length owners.now.channels) sides.items × (length sides.items < 2 ^ 32) × (length sides.items < length events.now.lines.items) × (length client.merge.streams ≤ length events.now.lines.items) × AreRead client.merge.streams client.texts.items }
             ensures { IfOk result (λ w. HasWatched client.entry.merge.streams w.merge.streams client.entry.texts.items w.texts.items) }
         {
             munge_beside(
@@ -139,23 +140,24 @@ fn munge_beside<
     requires sides { All (λ side. side.sub < length owners.now.channels) sides.items }
     requires few { length sides.items < 2 ^ 32 }
     requires events { length sides.items < length events.now.lines.items }
+    requires streams { length client.merge.streams ≤ length events.now.lines.items }
     requires read { AreRead client.merge.streams client.texts.items }
     ensures { IfOk result (λ w. HasWatched client.entry.merge.streams w.merge.streams client.entry.texts.items w.texts.items) }
 {
     if !writing.wait() {
         return stopped(client, events);
     }
-    let waits = events.munger(sides.len());
+    let waiting = events.munger(sides.len());
     let started = Started::new();
     let munging = &started;
     let (_, watched) = join(
         rt,
         move || {
             munging.report();
-            let _munger = munge_waiting(rt, munger, waits);
+            let _munger = munge_waiting(rt, munger, waiting);
         },
         move || -> Result<Watched<'_, P>, NoMemory>
-            requires { IsSync R.row × IsSync G.row × IsIdle owners.now seat × All (λ side. side.sub < length owners.now.channels) sides.items × (length sides.items < 2 ^ 32) × (length sides.items ≤ length events.now.lines.items) × AreRead client.merge.streams client.texts.items }
+            requires { IsSync R.row × IsSync G.row × IsIdle owners.now seat × All (λ side. side.sub < length owners.now.channels) sides.items × (length sides.items < 2 ^ 32) × (length sides.items ≤ length events.now.lines.items) × (length client.merge.streams ≤ length events.now.lines.items) × AreRead client.merge.streams client.texts.items }
             ensures { IfOk result (λ w. HasWatched client.entry.merge.streams w.merge.streams client.entry.texts.items w.texts.items) }
         {
             if !munging.wait() {

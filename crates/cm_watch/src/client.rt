@@ -1,5 +1,5 @@
 // The one client of all watched lines.
-ghost use Rattle.std.specs.Prelude.{◌<◌, length, IfOk};
+ghost use Rattle.std.specs.Prelude.{◌≡◌, ◌<◌, ◌≤◌, length, IfOk};
 ghost use Rattle.cm_watch.specs.Watched.{AreRead, AreSame, CanPut, HasPut, HasWatched};
 
 use crate::events::WatchEvents;
@@ -40,7 +40,9 @@ fn put_more<P: Planned, G: Gate>(
     gate: &G,
 ) -> Result<(), NoMemory>
     requires source { source < length merge.old.streams }
+    requires watcher { source < watcher.old }
     requires read { AreRead merge.old.streams texts.old }
+    ensures watcher { watcher.new ≡ watcher.old }
     ensures read { IfOk result (λ _. AreRead merge.new.streams texts.new) }
     ensures same { IfOk result (λ _. AreSame merge.old.streams merge.new.streams texts.old texts.new) }
 {
@@ -68,7 +70,8 @@ fn read_all<R: Wait + Sync, P: Planned, G: Gate>(
     events: &WatchEvents,
     gate: &G,
 ) -> Result<(), NoMemory>
-    requires { AreRead merge.old.streams texts.old }
+    requires events { length merge.old.streams ≤ length events.now.lines.items }
+    requires read { AreRead merge.old.streams texts.old }
     ensures { IfOk result (λ _. HasWatched merge.old.streams merge.new.streams texts.old texts.new) }
 {
     let mut room = Vec::new(alloc);
@@ -98,7 +101,8 @@ pub(crate) fn read_scans<'a, R: Wait + Sync, P: Planned, G: Gate>(
     events: &WatchEvents,
     gate: &G,
 ) -> Result<Watched<'a, P>, NoMemory>
-    requires { AreRead client.merge.streams client.texts.items }
+    requires events { length client.merge.streams ≤ length events.now.lines.items }
+    requires read { AreRead client.merge.streams client.texts.items }
     ensures { IfOk result (λ w. HasWatched client.entry.merge.streams w.merge.streams client.entry.texts.items w.texts.items) }
 {
     let Watched {

@@ -1,5 +1,5 @@
 // What the workers of watched lines wait for.
-ghost use Rattle.std.specs.Prelude.{◌≡◌, ◌<◌, length};
+ghost use Rattle.std.specs.Prelude.{◌≡◌, ◌<◌, length, IfOk};
 
 use cm_base::transfer::NoMemory;
 use cm_client::waiting::{Alarm, Relay, Sleeper};
@@ -52,10 +52,7 @@ impl WatchEvents {
         requires { line < length self.now.lines.items }
     {
         let events = &self.lines[line];
-        Relay {
-            sleeper: Sleeper::new(&events.released),
-            alarm: Alarm::new(&events.written, events.every),
-        }
+        Relay::new(&events.released, &events.written, events.every)
     }
 
     /// How the munger of a line waits.
@@ -63,10 +60,7 @@ impl WatchEvents {
         requires { line < length self.now.lines.items }
     {
         let events = &self.lines[line];
-        Relay {
-            sleeper: Sleeper::new(&events.written),
-            alarm: Alarm::new(&self.munged, events.every),
-        }
+        Relay::new(&events.written, &self.munged, events.every)
     }
 
     /// How the client waits.
@@ -75,9 +69,12 @@ impl WatchEvents {
     }
 
     /// What wakes the board of each line.
-    pub fn boards(&self, alloc: Global) -> Result<Vec<Alarm<'_>>, NoMemory> {
+    pub fn boards(&self, alloc: Global) -> Result<Vec<Alarm<'_>>, NoMemory>
+        ensures { IfOk result (λ boards. length boards.items ≡ length self.now.lines.items) }
+    {
         let mut boards = Vec::new(alloc);
-        for events in self.lines.iter() {
+        for i in 0..self.lines.len() {
+            let events = &self.lines[i];
             boards.push(Alarm::new(&events.released, events.every))?;
         }
         Ok(boards)

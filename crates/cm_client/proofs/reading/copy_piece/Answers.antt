@@ -1,6 +1,5 @@
-use Rattle.std.proofs.Common.{◌≡◌, ◌+◌, ◌≤◌, length, take, ap, subst, ◌∙◌}
+use Rattle.std.proofs.Common.{◌+◌, ◌≤◌, length, take, ap, subst, ◌∙◌}
 use Rattle.cm_client.specs.Progress.{HasRead}
-use Rattle.cm_client.specs.Samples.{piece}
 use Rattle.cm_client.proofs.Pieces.{all_after, all_same, copied_piece, piece_accepted}
 use Rattle.cm_client.proofs.reading.copy_piece.Goals as goal
 

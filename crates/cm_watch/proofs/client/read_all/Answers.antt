@@ -18,6 +18,7 @@ loop-preserved-in-Given g c =
     let more = c.in_ok-put_more-in-Given.ensures in
     record {
       read = more.read;
+      watcher = more.watcher ∙ (c.release.ensures ∙ c.loop.invariant.watcher);
       same = same_on _ _ _ _ _ _ c.loop.invariant.same (same_on _ _ _ _ _ _ one more.same);
     }
 
@@ -29,5 +30,6 @@ loop-preserved g c =
     let step = c.in-Waiting.ensures.merged in
     record {
       read = still_read _ _ _ c.loop.invariant.read step.fixed step.words;
+      watcher = c.wait.ensures ∙ c.loop.invariant.watcher;
       same = same_on _ _ _ _ _ _ c.loop.invariant.same record { streams = step.fixed; formats = refl };
     }

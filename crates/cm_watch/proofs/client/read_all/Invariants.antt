@@ -1,3 +1,4 @@
+use Rattle.std.proofs.Common.{◌≡◌, length}
 use Rattle.cm_watch.specs.Watched.{AreRead, AreSame}
 use Rattle.cm_watch.proofs.client.read_all.Given as goal
 
@@ -5,5 +6,6 @@ use Rattle.cm_watch.proofs.client.read_all.Given as goal
 abbrev pub invariant-loop : goal.invariant-loop
 invariant-loop g l = record {
   read : AreRead l.merge.streams l.texts;
+  watcher : l.watcher ≡ length l.events.lines.items;
   same : AreSame l.initial.merge.streams l.merge.streams l.initial.texts l.texts;
 }
