@@ -1,20 +1,35 @@
 // The text of a loop, which several threads make.
-ghost use Rattle.std.specs.Prelude.{◌≡◌, ◌++◌, [], length, take, IfOk, MatchOption};
+ghost use Rattle.std.specs.Prelude.{◌≡◌, ◌<◌, ◌≤◌, ◌++◌, [], drop, length, take, IfOk, MatchOption};
 ghost use Rattle.std.specs.Thread.{IsSync};
 ghost use Rattle.cm_loop_lines.specs.Job.{input_of, output_of};
+ghost use Rattle.cm_expand.specs.Items.{items_of};
+ghost use Rattle.cm_expand.specs.Taking.{left_of};
 ghost use Rattle.cm_loop_run.specs.LoopText as spec;
 ghost use Rattle.cm_loop_run.specs.Parts.{IsCutInTwo, lines_from, lines_of};
 ghost use Rattle.cm_run.specs.Blocks as blocks;
 
 use cm_base::transfer::NoMemory;
+use cm_expand::board::Board;
 use cm_loop_lines::job::LoopJob;
 use cm_run::blocks::Blocks;
+use cm_run::ending::board_after;
 use cm_run::outputs::{part_block, tail_block};
 use std::alloc::Global;
 use std::thread::{Threads, join};
 
-// How many outputs one thread makes the lines of.
+// A thread makes the lines of about so many outputs.
 const PART: usize = 262_144;
+
+// The most parts.
+const MANY: usize = 10;
+
+// A board of a loop's output at a place.
+#[tactic(auto, using(cm_run::proofs::Outs::left_after))]
+fn board_at(job: &LoopJob, place: u64) -> Board<'_>
+    ensures { left_of result ≡ drop place (items_of (output_of job.now)) }
+{
+    board_after(job.output_plan(), place)
+}
 
 // The lines of the outputs from a place on that have a word.
 fn part_text(
@@ -26,31 +41,47 @@ fn part_text(
 ) -> Result<Vec<u8>, NoMemory>
     ensures { IfOk result (λ part. part.items ≡ lines_from sub job.now from words.now) }
 {
-    part_block(alloc, sub, job.output_plan(), from, words)
+    part_block(alloc, sub, board_at(job, from), words)
 }
 
-// Cuts off the last part of some words. None comes exactly where there are none.
-fn cut(words: &[u32]) -> Option<(&[u32], &[u32])>
+// How many of some words the last of so many parts has, one at least. A thread walks past the outputs
+// before its part, so each part is shorter than the one before it: by a tenth of the first.
+fn last_part(count: usize, parts: usize) -> usize
+    requires { 0 < count }
+    ensures some { 0 < result }
+    ensures within { result ≤ count }
+{
+    if parts <= 1 {
+        return count;
+    }
+    let parts = parts.min(MANY);
+    let tenths = parts * (2 * MANY + 1 - parts) / 2;
+    (count / tenths * (MANY + 1 - parts)).clamp(1, count)
+}
+
+// Cuts off the last of so many parts of some words. None comes exactly where there are no words.
+fn cut(words: &[u32], parts: usize) -> Option<(&[u32], &[u32])>
     ensures { MatchOption result (words.now ≡ []) (λ t. IsCutInTwo words.now t.0.now t.1.now) }
 {
     if words.is_empty() {
         return None;
     }
-    let before = (words.len() - 1) / PART * PART;
-    Some(words.split_at(before))
+    let last = last_part(words.len(), parts);
+    Some(words.split_at(words.len() - last))
 }
 
-// The lines of the outputs that have a word, a part of them made in each thread.
+// The lines of the outputs that have a word, in so many parts, each made by a thread.
 fn text_up_to<R: Threads + Sync>(
     rt: &R,
     alloc: Global,
     sub: u32,
     job: &LoopJob,
     words: &[u32],
+    parts: usize,
 ) -> Result<Blocks, NoMemory>
     ensures { IfOk result (λ text. text ≡ lines_of sub job.now words.now) }
 {
-    let Some((before, last)) = cut(words) else {
+    let Some((before, last)) = cut(words, parts) else {
         return Ok(Blocks::new(alloc));
     };
     let from = before.len() as u64;
@@ -62,7 +93,7 @@ fn text_up_to<R: Threads + Sync>(
         move || -> Result<Blocks, NoMemory>
             requires { IsSync R.row }
             ensures { IfOk result (λ text. text ≡ lines_of sub job.entry.now before.entry.now) }
-        { text_up_to(rt, alloc, sub, job, before) },
+        { text_up_to(rt, alloc, sub, job, before, parts.saturating_sub(1)) },
     );
     text?.with(part?)
 }
@@ -80,6 +111,7 @@ pub(crate) fn text_of<R: Threads + Sync>(
     ensures { IfOk result (λ text. text ≡ spec.loop_text job.now) }
 {
     let sub = job.output.cmd().sub;
-    let text = text_up_to(rt, alloc, sub, job, words)?;
+    let parts = words.len().div_ceil(PART);
+    let text = text_up_to(rt, alloc, sub, job, words, parts)?;
     text.with(tail_block(alloc, job.output_plan(), samples)?)
 }

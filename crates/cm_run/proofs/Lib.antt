@@ -1,3 +1,4 @@
+pub mod Copied
 pub mod Cuts
 pub mod Ends
 pub mod Order

@@ -25,8 +25,8 @@ pub fn count_of(plan: &Plan<'_>) -> u64
     }
 }
 
-// A board that has passed so many conversions of a plan, or all where there are fewer.
-pub(crate) fn board_after<'a>(plan: Plan<'a>, count: u64) -> Board<'a>
+/// A board that has passed so many conversions of a plan, or all where there are fewer.
+pub fn board_after<'a>(plan: Plan<'a>, count: u64) -> Board<'a>
     ensures plan { result.plan ≡ plan_text plan.entry }
     ensures place { result.place ≡ min count (blocks.count_of (plan_text plan.entry)) }
 {

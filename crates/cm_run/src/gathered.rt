@@ -1,79 +1,34 @@
 // Lines that are gathered before they are appended to a longer text.
 
+use crate::bytes::Bytes;
 use cm_base::transfer::NoMemory;
 use std::marker::Model;
 
-// A short line is copied as so many bytes, whatever its length: that takes less time than a copy of as
-// many as it has.
-const LINE: usize = 32;
+// The most bytes of a short line.
+const SHORT: usize = 32;
 
-// How many bytes are gathered at most.
+// The most bytes that are gathered.
 const ROOM: usize = 1024;
 
 /// A line of at most 32 bytes.
-#[derive(Drop)]
-pub(crate) struct ShortLine {
-    bytes: [u8; LINE],
-    count: usize,
-}
-
-impl Model for ShortLine {
-    ghost use Rattle.std.specs.Prelude.{ℕ, List, take, ◌≤◌};
-
-    ghost Value = { List ℕ };
-
-    ghost view = { λ l. take l.count l.bytes };
-
-    ghost invariant = { λ l. l.count ≤ 32 };
-}
-
-impl ShortLine {
-    ghost use Rattle.std.specs.Prelude.{◌≡◌, ◌<◌, [], length, IfSome, IfNone};
-
-    /// The empty line.
-    pub fn new() -> ShortLine
-        ensures { result ≡ [] }
-    {
-        ShortLine {
-            bytes: [0; LINE],
-            count: 0,
-        }
-    }
-
-    /// This line, or none where it is longer.
-    pub fn of(line: &[u8]) -> Option<ShortLine>
-        ensures some { IfSome result (λ l. l ≡ line.now) }
-        ensures none { IfNone result (32 < length line.now) }
-    {
-        let count = line.len();
-        if count > LINE {
-            return None;
-        }
-        let mut bytes = [0; LINE];
-        bytes[..count].copy_from_slice(line);
-        Some(ShortLine { bytes, count })
-    }
-}
+pub(crate) type ShortLine = Bytes<SHORT>;
 
 /// Lines that aren't appended to their text yet.
 #[derive(Drop)]
 pub(crate) struct Gathered {
-    bytes: [u8; ROOM],
-    count: usize,
+    lines: Bytes<ROOM>,
 }
 
 impl Model for Gathered {
-    ghost use Rattle.std.specs.Prelude.{ℕ, List, take, ◌≤◌};
+    ghost use Rattle.std.specs.Prelude.{ℕ, List};
 
     ghost Value = { List ℕ };
 
-    ghost view = { λ g. take g.count g.bytes };
-
-    ghost invariant = { λ g. g.count ≤ 1024 };
+    ghost view = { λ g. g.lines };
 }
 
 impl Gathered {
-    ghost use Rattle.std.specs.Prelude.{◌≡◌, ◌+◌, ◌≤◌, ◌++◌, [], length, OnOk};
+    ghost use Rattle.std.specs.Prelude.{◌≡◌, ◌++◌, [], OnOk};
 
     /// No lines.
     #[inline(always)]
@@ -81,8 +36,7 @@ impl Gathered {
         ensures { result ≡ [] }
     {
         Gathered {
-            bytes: [0; ROOM],
-            count: 0,
+            lines: Bytes::new(),
         }
     }
 
@@ -91,19 +45,9 @@ impl Gathered {
         ensures text { OnOk result (text.new.items ≡ text.old.items ++ self.old) }
         ensures none { OnOk result (self.new ≡ []) }
     {
-        text.extend_from_slice(&self.bytes[..self.count])?;
-        self.count = 0;
+        text.extend_from_slice(self.lines.as_slice())?;
+        self.lines.clear();
         Ok(())
-    }
-
-    // Puts a short line after the others.
-    #[inline(always)]
-    fn copy(&mut self, line: &ShortLine)
-        requires room { length self.old + 32 ≤ 1024 }
-        ensures { self.new ≡ self.old ++ line.now }
-    {
-        self.bytes[self.count..self.count + LINE].copy_from_slice(&line.bytes);
-        self.count += line.count;
     }
 
     /// Puts a short line after the others, which are appended to their text first where they are many.
@@ -111,10 +55,10 @@ impl Gathered {
     pub fn add(&mut self, text: &mut Vec<u8>, line: &ShortLine) -> Result<(), NoMemory>
         ensures { OnOk result (text.new.items ++ self.new ≡ (text.old.items ++ self.old) ++ line.now) }
     {
-        if self.count > ROOM - LINE {
+        if self.lines.len() > ROOM - SHORT {
             self.append_to(text)?;
         }
-        self.copy(line);
+        self.lines.append(line);
         Ok(())
     }
 

@@ -2,6 +2,7 @@
 #![tactic(auto)]
 
 pub mod blocks;
+mod bytes;
 pub mod claiming;
 pub mod done;
 pub mod driving;

@@ -1,5 +1,5 @@
 // The text of an output command's words.
-ghost use Rattle.std.specs.Prelude.{◌≡◌, ◌≤◌, ◌++◌, drop, IfOk};
+ghost use Rattle.std.specs.Prelude.{◌≡◌, ◌≤◌, ◌++◌, IfOk};
 ghost use Rattle.cm_expand.specs.Items.{items_of};
 ghost use Rattle.cm_expand.specs.PlanView.{plan_text};
 ghost use Rattle.cm_expand.specs.Taking.{left_of};
@@ -7,7 +7,7 @@ ghost use Rattle.cm_run.specs.Blocks as blocks;
 ghost use Rattle.cm_text.specs.Outputs.{output_texts};
 ghost use Rattle.cm_text.specs.Tails.{tail_text};
 
-use crate::ending::{board_after, count_of, ending};
+use crate::ending::{count_of, ending};
 use cm_base::transfer::NoMemory;
 use cm_expand::board::Board;
 use cm_expand::plan::Plan;
@@ -62,24 +62,23 @@ pub(crate) fn outputs_block(
     requires { blocks.count_of (plan_text plan) ≤ 4000000 }
     ensures { IfOk result (λ v. v.items ≡ output_texts (blocks.outputs_of sub (items_of (plan_text plan.entry)) words.now) ++ tail_text (blocks.values_tail (plan_text plan.entry) values)) }
 {
-    let mut block = part_block(alloc, sub, plan, 0, words)?;
+    let mut block = part_block(alloc, sub, Board::new(plan), words)?;
     put_tail(&mut block, values_tail(plan, values))?;
     Ok(block)
 }
 
-/// The lines of the outputs of the conversions from a place on that have a word. `sub` is the command's
-/// subdevice.
+/// The lines of the outputs of the conversions that a board has left and that have a word. `sub` is the
+/// command's subdevice.
 pub fn part_block(
     alloc: Global,
     sub: u32,
-    plan: Plan<'_>,
-    from: u64,
+    board: Board<'_>,
     words: &[u32],
 ) -> Result<Vec<u8>, NoMemory>
-    ensures { IfOk result (λ v. v.items ≡ output_texts (blocks.outputs_of sub (drop from (items_of (plan_text plan.entry))) words.now)) }
+    ensures { IfOk result (λ v. v.items ≡ output_texts (blocks.outputs_of sub (left_of board.entry) words.now)) }
 {
     let mut block = Vec::with_capacity(alloc, words.len().saturating_mul(LINE))?;
-    put_outputs(&mut block, sub, board_after(plan, from), words)?;
+    put_outputs(&mut block, sub, board, words)?;
     Ok(block)
 }
 

@@ -1,4 +1,4 @@
-use Rattle.std.proofs.Common.{◌≡◌, ℕ, List, IfOk, length, subst, ◌∙◌, refl}
+use Rattle.std.proofs.Common.{◌≡◌, ℕ, IfOk, length, subst, ◌∙◌, refl}
 use Rattle.std.proofs.lemmas.Result.{IfOk-weaker}
 use Rattle.cm_loop_run.specs.Parts.{lines_from, lines_of}
 use Rattle.cm_loop_run.proofs.Parts.{lines_empty, lines_parts}

@@ -1,13 +1,11 @@
-use Rattle.std.proofs.Common.{◌≡◌, ◌++◌, ℕ, List, refl, sym, ap, ◌∙◌}
+use Rattle.std.proofs.Common.{◌++◌, refl, sym, ap, ◌∙◌}
 use Rattle.std.proofs.lemmas.Result.{IfOk-weaker}
 use Rattle.cm_cmd.specs.Command.{CmdText}
 use Rattle.cm_expand.specs.Plan.{PlanText}
-use Rattle.cm_expand.specs.PlanView.{plan_text}
 use Rattle.cm_loop_lines.specs.Job.{LoopJobText, output_of}
 use Rattle.cm_run.specs.Blocks.{values_tail}
 use Rattle.cm_text.specs.Tails.{tail_text}
 use Rattle.cm_loop_run.proofs.Loops.{length-loop_words, text_is}
-use Rattle.cm_loop_run.proofs.Plans.{few_of}
 use Rattle.cm_loop_run.proofs.text.text_of.Goals as goal
 
 pub returns : goal.returns
