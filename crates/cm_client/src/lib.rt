@@ -7,8 +7,6 @@ pub mod copying;
 pub mod feeding;
 pub mod mapping;
 pub mod munging;
-#[cfg(test)]
-mod munging_tests;
 pub mod reading;
 #[cfg(test)]
 mod tests;

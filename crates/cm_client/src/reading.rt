@@ -193,7 +193,7 @@ fn end_at<P: Planned>(reader: &mut Reader<P>, count: u64) -> Option<End>
 }
 
 // Hands samples on. After a piece that isn't full the client waits, so that the munger gets ahead of it.
-fn go_on<R: Wait, W: Waiting>(rt: &R, waiting: &mut W, count: u32, piece: u32) {
+fn after_piece<R: Wait, W: Waiting>(rt: &R, waiting: &mut W, count: u32, piece: u32) {
     waiting.hand_on(count);
     if count < piece {
         waiting.wait(rt);
@@ -230,7 +230,7 @@ fn read_up_to<R: Wait + Sync, P: Planned, C: Consumer, W: Waiting, G: Gate>(
             return Ok(Some(end));
         }
         let (count, piece) = read_more(reader, consumer, chunk, by_map, most, gate, who)?;
-        go_on(rt, waiting, count, piece);
+        after_piece(rt, waiting, count, piece);
     }
     unreachable!()
 }

@@ -7,8 +7,8 @@ ghost use Rattle.cm_sample.specs.Munging.{MayShift};
 use crate::copying::copy_read;
 use crate::feeding::feed;
 use crate::mapping::MapReader;
-use crate::munging::munge_work;
-use crate::reading::read_to_end;
+use crate::munging::{OwnMunger, munge_work};
+use crate::reading::{consume_to_end, read_to_end};
 use cm_base::gate::OpenGate;
 use cm_base::transfer::NoMemory;
 use cm_board::board::Munge;
@@ -25,7 +25,7 @@ use std::test::Fail;
 use std::thread::{Threads, join};
 
 // A rule of one entry, with the codes of 8 bits.
-pub(crate) fn rule(alloc: Global, kind: Munge) -> Result<MungeRule, NoMemory>
+fn rule(alloc: Global, kind: Munge) -> Result<MungeRule, NoMemory>
     requires { MayShift kind }
     ensures { IfOk result (λ r. IsRule r) }
 {
@@ -114,6 +114,47 @@ fn three_threads_move_all(rt: HostRuntime) -> Result<(), Fail> {
         };
         assert_eq!(rt; end, done);
     }
+    Ok(())
+}
+
+// What a client reads, in pieces of three, of a ring with room for all words, which it munges itself.
+fn munged_alone<R: Wait + Sync>(
+    rt: &R,
+    alloc: Global,
+    words: &[u32],
+) -> Result<(Vec<u32>, End), NoMemory>
+    requires { length words.now ≤ 10 }
+{
+    let offset = rule(alloc, Munge::Offset)?;
+    let (writer, munger, mut reader) = open(alloc, 10, offset, true, 0, words)?;
+    let _closed = feed(rt, writer, words);
+    let mut came = Vec::new(alloc);
+    let waiting = OwnMunger::new(munger);
+    let end = consume_to_end(
+        rt,
+        &mut reader,
+        &mut came,
+        waiting,
+        3,
+        false,
+        None,
+        &OpenGate,
+        0,
+    )?;
+    Ok((came, end))
+}
+
+#[test]
+fn a_client_munges_itself(rt: HostRuntime) -> Result<(), Fail> {
+    let words = [0, 1, 2, 3, 126, 127, 128, 129, 254, 255];
+    let (came, end) = munged_alone(&rt, rt.alloc(), &words)?;
+    let codes = [128, 129, 130, 131, 254, 255, 0, 1, 126, 127];
+    assert!(rt; came.as_slice() == codes.as_slice());
+    let done = End {
+        kind: EndKind::Done,
+        count: 10,
+    };
+    assert_eq!(rt; end, done);
     Ok(())
 }
 

@@ -6,7 +6,7 @@ use std::marker::Model;
 use std::sync::Wait;
 
 /// How a worker of a ring waits for the others, and lets them know of what it has done. It decides when
-/// a worker runs, and nothing of what it does.
+/// a worker runs, and nothing of what that reads or puts.
 pub trait Waiting: Drop {
     /// So many samples, or cells that are free again, are there for the next worker.
     fn hand_on(&mut self, count: u32);

@@ -20,7 +20,7 @@ use std::thread::{Threads, join};
 // A thread makes the lines of about so many outputs.
 const PART: usize = 262_144;
 
-// The most parts.
+// The most parts, of which the last has a tenth of the first.
 const MANY: usize = 10;
 
 // A board of a loop's output at a place.

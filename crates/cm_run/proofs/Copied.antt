@@ -3,7 +3,7 @@ use Rattle.std.proofs.Common.{◌≡◌, ℕ, ◌+◌, ◌≤◌, List, ◌++◌
 use Rattle.std.proofs.lemmas.List.{length-take-le, take-append-le}
 use Rattle.std.proofs.Math.Seq.{take-append-add}
 
--- the first of two lists' bytes, of which the second stands after the first and something stands after it
+-- the first elements of a list with another list after them, cut within the other one
 pub first_of_both : (count more : ℕ) (xs ys rest : List ℕ) → count ≤ length xs → more ≤ length ys → take (count + more) (take count xs ++ (ys ++ rest)) ≡ take count xs ++ take more ys
 first_of_both count more xs ys rest within few =
     ap (λ (n : ℕ). take (n + more) (take count xs ++ (ys ++ rest))) (sym (length-take-le count xs within))

@@ -21,7 +21,7 @@ impl<const N: usize> Model for Bytes<N> {
 impl<const N: usize> Bytes<N> {
     ghost use Rattle.std.specs.Prelude.{◌≡◌, ◌+◌, ◌<◌, ◌≤◌, ◌++◌, [], length, IfSome, IfNone};
 
-    /// None.
+    /// No bytes.
     #[inline(always)]
     pub fn new() -> Bytes<N>
         ensures { result ≡ [] }
@@ -62,7 +62,7 @@ impl<const N: usize> Bytes<N> {
         &self.bytes[..self.count]
     }
 
-    /// Takes all of them out.
+    /// Leaves none.
     pub fn clear(&mut self)
         ensures { self.new ≡ [] }
     {

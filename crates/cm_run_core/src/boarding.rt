@@ -18,7 +18,7 @@ use std::sync::Wait;
 const PIECE: u32 = 256;
 
 /// Puts all words in order. Where the ring isn't paced each is published before the next one is tried;
-/// else they are published in pieces, and before the writer waiting. Where the ring is full it
+/// else they are published in pieces, and before the writer waits. Where the ring is full it
 /// ends with `Cancelled` if a look found the stop asked for, and else waits if the ring is paced, and
 /// ends with `Overrun` if it isn't. After all words it ends with `Done`. It waits in a way that the
 /// caller chooses, who lets the others know that it has ended.
