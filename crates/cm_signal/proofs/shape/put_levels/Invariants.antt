@@ -1,0 +1,10 @@
+use Rattle.std.proofs.Common.{◌≡◌, length, take, map}
+use Rattle.cm_signal.specs.SignalsPart.{progression}
+use Rattle.cm_signal.proofs.shape.put_levels.Given as goal
+
+-- the levels so far
+abbrev pub invariant-loop-i : goal.invariant-loop-i
+invariant-loop-i g l = record {
+  so_far : take l.i l.levels ≡ map (g.S.Shape.level_at l.shape) (progression l.first l.period l.i);
+  size : length l.levels ≡ length l.initial.levels;
+}
