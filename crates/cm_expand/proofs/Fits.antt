@@ -1,14 +1,12 @@
 -- What the command of a plan keeps, since it passes the test of a sound subdevice.
-use Rattle.std.proofs.Common.{◌≡◌, ℕ, ◌<◌, ◌≤◌, List, length, get_or, Some, None, Option, sym, ap, ◌∙◌, subst, arith}
+use Rattle.std.proofs.Common.{◌≡◌, ℕ, ◌<◌, ◌≤◌, length, get_or, Some, None, Option, subst, arith}
 use Rattle.std.specs.Prelude.{IfSome}
 use Rattle.std.proofs.lemmas.Bool.{eqb-true}
 use Rattle.std.proofs.lemmas.List.Elements.{All-get_or}
 use Rattle.cm_board.specs.Board.{SubText, IsSoundSub, line_of}
 use Rattle.cm_base.specs.Source as source
 use Rattle.cm_cmd.specs.Command.{CmdText}
-use Rattle.cm_cmd.specs.Entry.{chan}
 use Rattle.cm_test.specs.Passed.{IsEntry, IsPassed}
-use Rattle.cm_test.specs.Questions.{tested}
 use Rattle.cm_test.proofs.Passed.{passed}
 use Rattle.cm_expand.proofs.Codes.{code_is}
 use Rattle.cm_expand.specs.Fit.{IsFit, NamesLine}

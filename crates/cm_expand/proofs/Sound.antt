@@ -1,6 +1,6 @@
 -- What each plan of a sound subdevice and sound signals keeps, over the definitions alone.
-use Rattle.std.proofs.Common.{◌≡◌, ℕ, zero, suc, ◌+◌, ◌-◌, ◌*◌, ◌<◌, ◌≤◌, ◌^◌, min, Bool, true, false, List, [], ◌∷◌, length, Option, Some, None, refl, arith, length-append, mul-le-mul_right, mul-le-mul_left}
-use Rattle.std.specs.Prelude.{◌==◌, IfSome, flat_map, option_map, unwrap_or, if◌then◌else◌}
+use Rattle.std.proofs.Common.{◌≡◌, ℕ, ◌+◌, ◌-◌, ◌<◌, ◌≤◌, ◌^◌, min, Bool, true, false, List, length, Option, Some, None, refl, arith, mul-le-mul_right, mul-le-mul_left}
+use Rattle.std.specs.Prelude.{◌==◌, IfSome, option_map, unwrap_or, if◌then◌else◌}
 use Rattle.std.proofs.lemmas.Bool.{eqb-true}
 use Rattle.cm_board.specs.Board as board
 use Rattle.cm_board.specs.Board.{SubText}

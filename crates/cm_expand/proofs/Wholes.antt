@@ -70,7 +70,7 @@ first_at_start c period is some inside =
     inside
 
 -- a scan that takes a period at most is followed by one a period after its begin
-next_tick : (c : Course) (period last end begin : ℕ) → c.begins ≡ Every period → IsExtent c last end → end ≤ period → c.start ≤ begin → (begin - c.start) % period ≡ 0 →
+pub next_tick : (c : Course) (period last end begin : ℕ) → c.begins ≡ Every period → IsExtent c last end → end ≤ period → c.start ≤ begin → (begin - c.start) % period ≡ 0 →
     begin + period < c.until → next_begin c begin ≡ Some (begin + period)
 next_tick c period last end begin is extent short since tick inside =
     let some = extent.some in

@@ -1,14 +1,14 @@
-use Rattle.std.proofs.Common.{◌≡◌, ◌+◌, ◌++◌, ◌∷◌, [], drop, take, Some, refl, sym, ap, subst, ◌∙◌, arith, length-set}
-use Rattle.std.proofs.lemmas.List.{map-append}
+use Rattle.std.proofs.Common.{◌≡◌, ◌+◌, ◌-◌, ◌*◌, ◌^◌, ◌<◌, drop, length, map, take, drop-drop, length-drop, Some, refl, sym, ap, subst, ◌∙◌, arith}
+use Rattle.std.proofs.lemmas.List.{length-take-le}
+use Rattle.cm_signal.specs.SignalsPart.{progression}
 use Rattle.cm_expand.specs.Board.{IsBoard, progress_of}
 use Rattle.cm_expand.specs.Items.{items_of, raw_at}
 use Rattle.cm_expand.specs.PlanView.{plan_text}
-use Rattle.cm_expand.specs.Taking.{come_first, raw_words}
-use Rattle.cm_expand.specs.declared.conv.Conv.{Conv}
+use Rattle.cm_expand.specs.Taking.{come_first}
 use Rattle.cm_expand.specs.declared.course.Next.TheVariants.{At}
-use Rattle.cm_expand.specs.declared.progress.Progress.{Progress}
 use Rattle.cm_expand.proofs.Boards.{board_follows, runs_at}
-use Rattle.cm_expand.proofs.Taking.{late_first, more_put, none_left, some_first}
+use Rattle.cm_expand.proofs.Taken.{board_train, put_middle, taken_first, train_small, words_and_more}
+use Rattle.cm_expand.proofs.Taking.{late_first, none_left}
 use Rattle.cm_expand.proofs.board.taken.Goals as goal
 
 pub loop-count-init : goal.loop-count-init
@@ -26,25 +26,50 @@ loop-count-init c =
 pub loop-count-preserved : goal.loop-count-preserved
 loop-count-preserved c =
     let p = plan_text c.args.plan.now in
+    let place = c.args.place in
     let course = c.args.course.now in
     let count = c.loop-count.count in
-    let r : Progress = record { course = course; spot = c.in-At.now } in
-    let is = runs_at p (c.args.place + count) (Some course) c.loop-count.spot (At c.in-At.now) course refl c.in-At.is c.loop-count.invariant.board in
-    let one = some_first p c.args.place count c.args.time r is (omega arith) in
-    let next = board_follows p (c.args.place + count) (Some course) course c.in-At.now c.following-spot.result refl is c.following-spot.ensures.rest c.following-spot.ensures.full c.following-spot.ensures.spot c.following-spot.ensures.index in
-    let word = c.raw_word.ensures ∙ ap (λ i. raw_at p i c.in-At.now.time) is.running.index in
-    let there : c.args.place + count + 1 ≡ c.args.place + (count + 1) = omega arith in
-    let kept = length-set c.loop-count.out count c.raw_word.result in
+    let out = c.loop-count.out in
+    let now = c.in-At.now in
+    let train = c.train-train.result in
+    let is_train = c.train-train.ensures.train in
+    let words = c.put_raws.new.words in
+    let is = runs_at p (place + count) (Some course) c.loop-count.spot (At now) course refl c.in-At.is c.loop-count.invariant.board in
+    let first = taken_first p place count c.args.time course now train is is_train c.train-train.ensures.come in
+    let room = c.min-most.ensures in
+    let most = c.train-train.ensures.most in
+    let some = is_train.some in
     let size = c.loop-count.invariant.size in
+    let k : count + train.count - count ≡ train.count = omega arith in
+    let lent : length (take (count + train.count - count) (drop count out)) ≡ train.count = omega (arith, length-take-le (count + train.count - count) (drop count out), length-drop count out) in
+    let many : length words ≡ train.count = c.put_raws.auto.words ∙ lent in
+    let these = c.put_raws.ensures ∙ ap (λ n. map (raw_at p now.index) (progression now.time train.step n)) lent in
+    let follows = board_follows p (place + count + (train.count - 1)) (Some course) course train.last c.following-spot.result refl (board_train p (place + count) course now train is is_train)
+    c.following-spot.ensures.rest c.following-spot.ensures.full c.following-spot.ensures.spot c.following-spot.ensures.index in
+    let there : place + count + (train.count - 1) + 1 ≡ place + (count + train.count) = omega arith in
     let come = c.loop-count.invariant.come in
+    let later = ap (come_first c.args.time) (drop-drop train.count count (drop place (items_of p))) in
+    let sooner = first.come in
     record {
-      size = kept ∙ size;
-      within = omega arith;
-      words = more_put raw_words c.raw_word.result p c.args.place count r c.loop-count.out is (omega arith) c.loop-count.invariant.words
-          (map-append (λ (conv : Conv). conv.raw) (take count (drop c.args.place (items_of p))) _ ∙ ap (λ w. raw_words (take count (drop c.args.place (items_of p))) ++ w ∷ []) (sym word));
+      size = put_middle count (count + train.count - count) out words (omega arith) (omega arith) ∙ size;
+      within = omega (arith, put_middle count (count + train.count - count) out words (omega arith) (omega arith));
+      words = words_and_more p place count (count + train.count - count) (count + train.count) c.args.time now train out words (omega arith) many refl c.loop-count.invariant.words these first;
       come = omega arith;
-      board = subst (λ place. IsBoard p place (progress_of (Some course) c.following-spot.result)) there next;
+      board = subst (λ place. IsBoard p place (progress_of (Some course) c.following-spot.result)) there follows;
     }
+
+pub put_raws-requires-clause-small : goal.put_raws-requires-clause-small
+put_raws-requires-clause-small c =
+    let p = plan_text c.args.plan.now in
+    let course = c.args.course.now in
+    let count = c.loop-count.count in
+    let train = c.train-train.result in
+    let now = c.in-At.now in
+    let is = runs_at p (c.args.place + count) (Some course) c.loop-count.spot (At now) course refl c.in-At.is c.loop-count.invariant.board in
+    let room = c.min-most.ensures in
+    let most = c.train-train.ensures.most in
+    let lent : length (take (count + train.count - count) (drop count c.loop-count.out)) ≡ train.count = omega (arith, length-take-le (count + train.count - count) (drop count c.loop-count.out), length-drop count c.loop-count.out) in
+    subst (λ n. now.time + n * train.step < 2 ^ 64) (sym lent) (train_small course now train is.running.course c.train-train.ensures.train c.train-train.ensures.step)
 
 pub returns-in_default-clause-count : goal.returns-in_default-clause-count
 returns-in_default-clause-count c =
