@@ -161,10 +161,6 @@ come_of_first p place first step (suc n) time more come =
     let others = come_of_first p (suc place) (first + step) step n time more (λ k h. let early = come (suc k) (omega arith) in omega arith) in
     cond-true (nat_le first time) _ _ now ∙ omega arith
 
-enough_first : (p : PlanText) (place first step n : ℕ) (more : List ℕ) → n ≤ length (map_from (conv_at p) place (progression first step n ++ more))
-enough_first p place first step zero more = omega arith
-enough_first p place first step (suc n) more = let others = enough_first p (suc place) (first + step) step n more in omega arith
-
 -- the raw words of a train that comes first, and that all of it has come
 pub record IsTakenFirst (p : PlanText) (left : List Conv) (s : Spot) (t : Train) (time : ℕ) : Type 0 where
   pub words : raw_words (take t.count left) ≡ map (raw_at p s.index) (progression s.time t.step t.count)

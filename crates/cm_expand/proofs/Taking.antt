@@ -1,7 +1,7 @@
 -- Conversions taken from a board one after another.
-use Rattle.std.proofs.Common.{◌≡◌, ℕ, zero, suc, ◌+◌, ◌^◌, min, ◌<◌, ◌≤◌, List, [], ◌∷◌, ◌++◌, length, take, drop, set, Option, Some, None, true, false, refl, sym, ap, ◌∙◌, arith, add-one, drop-drop}
+use Rattle.std.proofs.Common.{◌≡◌, ℕ, zero, suc, ◌+◌, ◌^◌, min, ◌<◌, List, [], ◌∷◌, ◌++◌, length, take, drop, set, Option, Some, None, true, false, refl, sym, ap, ◌∙◌, arith, add-one, drop-drop}
 use Rattle.std.specs.Prelude.{slice_get, nat_le, Ok}
-use Rattle.std.proofs.lemmas.Bool.{cond-true, cond-false, le-leb, lt-leb}
+use Rattle.std.proofs.lemmas.Bool.{cond-false, lt-leb}
 use Rattle.std.proofs.lemmas.List.{take_more_set}
 use Rattle.cm_expand.specs.Board.{IsBoard, progress_of}
 use Rattle.cm_expand.specs.Course.{Course as CourseText}
@@ -46,11 +46,6 @@ none_left p place k course next none is = drop-drop k place (items_of p) ∙ dro
 -- none comes first where the first comes later
 pub late_first : (p : PlanText) (place k time : ℕ) (r : Progress) → IsBoard p (place + k) (Ok r) → time < r.spot.time → come_first time (drop k (drop place (items_of p))) ≡ 0
 late_first p place k time r is late = ap (come_first time) (left_first p place k r is) ∙ cond-false (nat_le r.spot.time time) _ _ (lt-leb _ _ late)
-
--- one comes first, and then the others
-pub some_first : (p : PlanText) (place k time : ℕ) (r : Progress) → IsBoard p (place + k) (Ok r) → r.spot.time ≤ time →
-    come_first time (drop k (drop place (items_of p))) ≡ 1 + come_first time (drop (k + 1) (drop place (items_of p)))
-some_first p place k time r is early = ap (come_first time) (left_first p place k r is) ∙ cond-true (nat_le r.spot.time time) _ _ (le-leb _ _ early)
 
 -- one more of what is left
 one_more : {X : Type 0} (xs : List X) (k : ℕ) (x : X) (rest : List X) → drop k xs ≡ x ∷ rest → take (suc k) xs ≡ take k xs ++ x ∷ []

@@ -1,5 +1,5 @@
 -- Conversions at even distances.
-use Rattle.std.proofs.Common.{◌≡◌, ℕ, zero, suc, ◌+◌, ◌-◌, ◌*◌, ◌%◌, ◌^◌, ◌<◌, ◌≤◌, List, [], ◌∷◌, ◌++◌, length, Option, Some, true, refl, ap, sym, subst, ◌∙◌, arith, min, ◌/◌, mod-eq_of_lt, mul-le-mul_right}
+use Rattle.std.proofs.Common.{◌≡◌, ℕ, zero, suc, ◌+◌, ◌-◌, ◌*◌, ◌%◌, ◌^◌, ◌<◌, ◌≤◌, List, [], ◌∷◌, ◌++◌, length, Option, Some, true, refl, ap, sym, subst, ◌∙◌, arith, min, ◌/◌, mul-le-mul_right}
 use Rattle.std.specs.Prelude.{◌&&◌, Bool}
 use Rattle.std.proofs.lemmas.Bool.{eq-eqb}
 use Rattle.cm_signal.specs.SignalsPart.{progression}
@@ -180,18 +180,6 @@ train_to c s period n count course evenly is few inside counted =
       is = reached.is;
       full = reached.full;
     }
-
--- a conversion alone
-pub train_alone : (c : Course) (s : Spot) → IsSpot c s → IsTrain c s (record { count = 1; step = 0; last = s })
-train_alone c s is = record {
-  some = omega arith;
-  entry = λ k h. let none : s.index + k ≡ s.index = omega arith in ap (λ n. n % c.per_scan) none ∙ mod-eq_of_lt is.index;
-  times = refl;
-  time = omega arith;
-  index = refl;
-  is = is;
-  full = refl;
-}
 
 -- a spot so many periods later begins in time
 pub begins_in_time : (c : Course) (s : Spot) (period time n : ℕ) → IsCourse c → IsEven c period → IsSpot c s → s.time ≤ time → n ≤ (min time (c.until - 1) - s.time) / period →
