@@ -1,2 +1,3 @@
 pub mod Pieces
+mod Sources
 pub mod Whole

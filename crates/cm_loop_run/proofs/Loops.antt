@@ -24,7 +24,7 @@ use Rattle.cm_ring_core.specs.declared.view.RingConstants.{RingConstants}
 use Rattle.cm_run.specs.Blocks.{count_of, munged_samples, munged_words, outputs_of, values_tail}
 use Rattle.cm_run.specs.Ran.{ring_of}
 use Rattle.cm_run.proofs.Reported.{length-munged, munged_by_rule}
-use Rattle.cm_run_core.specs.Streamed.{HasStreamed}
+use Rattle.cm_client.specs.Streamed.{HasStreamed}
 use Rattle.cm_run_lines.specs.declared.line.Mode.TheVariants.{Paced}
 use Rattle.cm_text.specs.Outputs.{Output, output_texts}
 use Rattle.cm_text.specs.Tails.{tail_text}

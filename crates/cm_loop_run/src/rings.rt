@@ -1,16 +1,16 @@
 // The threads of a loop.
 ghost use Rattle.std.specs.Prelude.{◌≡◌, [], IfOk};
-ghost use Rattle.cm_run_core.specs.Streamed.{IsFresh, StreamsTo};
+ghost use Rattle.cm_client.specs.Streamed.{IsFresh, StreamsTo};
 
 use crate::side::FilterSide;
 use cm_base::gate::Gate;
 use cm_base::transfer::NoMemory;
+use cm_client::client::{ClientSide, Reads, Streamed, run_munging_client};
 use cm_client::munging::munge_work;
+use cm_client::paced::PacedBoard;
+use cm_client::starting::Started;
+use cm_client::words::Words;
 use cm_ring::munger::Munger;
-use cm_run_core::client::{ClientSide, Reads, Streamed, run_munging_client};
-use cm_run_core::paced::PacedBoard;
-use cm_run_core::starting::Started;
-use cm_run_core::words::Words;
 use cm_sample::planned::Planned;
 use crossbeam_utils::Backoff;
 use std::sync::Wait;

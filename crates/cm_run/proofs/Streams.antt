@@ -18,7 +18,7 @@ use Rattle.cm_ring_core.specs.declared.view.EndKind.{EndKind}
 use Rattle.cm_ring_core.specs.declared.view.EndKind.TheVariants.{Done, Overrun, Cancelled}
 use Rattle.cm_ring_core.specs.declared.view.ReaderPart.{ReaderPart}
 use Rattle.cm_ring_core.specs.declared.view.RingConstants.{RingConstants}
-use Rattle.cm_run_core.specs.Streamed.{HasStreamed}
+use Rattle.cm_client.specs.Streamed.{HasStreamed}
 use Rattle.cm_run_lines.specs.declared.line.Mode.{Mode}
 use Rattle.cm_test.proofs.Passed.{passed}
 use Rattle.cm_test.specs.Questions.{tested}

@@ -8,7 +8,7 @@ use Rattle.cm_expand.specs.Plan.{PlanText}
 use Rattle.cm_ring_core.specs.declared.view.End.{End}
 use Rattle.cm_ring_core.specs.declared.view.EndKind.{EndKind}
 use Rattle.cm_ring.specs.Roles.{Reading}
-use Rattle.cm_run_core.specs.Streamed.{HasStreamed}
+use Rattle.cm_client.specs.Streamed.{HasStreamed}
 use Rattle.cm_run_lines.specs.Calls.{plan_of}
 use Rattle.cm_run_lines.specs.declared.line.Access.{Access}
 use Rattle.cm_run_lines.specs.declared.line.Mode.TheVariants.{Paced}

@@ -10,7 +10,7 @@ use Rattle.cm_ring_core.specs.declared.view.EndKind.{EndKind}
 use Rattle.cm_ring_core.specs.declared.view.EndKind.TheVariants as ends
 use Rattle.cm_ring_core.specs.declared.view.RingConstants.{RingConstants}
 use Rattle.cm_ring.specs.Roles.{Reading}
-use Rattle.cm_run_core.specs.Streamed.{HasStreamed}
+use Rattle.cm_client.specs.Streamed.{HasStreamed}
 use Rattle.cm_text.specs.declared.tail.Tail.{Tail}
 use Rattle.cm_text.specs.declared.tail.Tail.TheVariants as tails
 use Rattle.cm_run_lines.specs.Calls.{plan_at}

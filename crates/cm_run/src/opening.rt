@@ -3,18 +3,18 @@ ghost use Rattle.std.specs.Prelude.{◌≡◌, IfOk};
 ghost use Rattle.cm_expand.specs.PlanView.{plan_text};
 ghost use Rattle.cm_run.specs.Going.{IsGo};
 ghost use Rattle.cm_run.specs.Ran.{ring_of};
-ghost use Rattle.cm_run_core.specs.Streamed.{IsFresh};
+ghost use Rattle.cm_client.specs.Streamed.{IsFresh};
 ghost use Rattle.cm_run_lines.specs.declared.line.Mode.TheVariants.{Paced};
 
 use cm_base::transfer::NoMemory;
+use cm_client::paced::PacedBoard;
+use cm_client::streaming::BASE;
+use cm_client::words::WordSource;
 use cm_expand::plan::Plan;
 use cm_expand::rule::rule_of;
 use cm_ring::munger::Munger;
 use cm_ring::open::open;
 use cm_ring::reader::Reader;
-use cm_run_core::paced::PacedBoard;
-use cm_run_core::streaming::BASE;
-use cm_run_core::words::WordSource;
 use cm_test::test::Accepted;
 use std::alloc::Global;
 

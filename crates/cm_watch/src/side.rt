@@ -1,8 +1,8 @@
 // What the threads of a watched line have.
 
+use cm_client::paced::PacedBoard;
+use cm_client::words::Words;
 use cm_ring::munger::Munger;
-use cm_run_core::paced::PacedBoard;
-use cm_run_core::words::Words;
 use cm_sample::planned::Planned;
 
 /// A line's board and munger, which have threads of their own, and the number of its subdevice.

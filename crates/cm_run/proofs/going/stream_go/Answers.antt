@@ -5,7 +5,7 @@ use Rattle.cm_expand.specs.PlanView.{plan_text}
 use Rattle.cm_expand.specs.Rule.{rule_of}
 use Rattle.cm_ring_core.specs.declared.view.RingConstants.{RingConstants}
 use Rattle.cm_run.proofs.Streams.{length-plan_words, plan_samples, ring_built, rule_sound}
-use Rattle.cm_run_core.specs.Streamed.{StreamsTo}
+use Rattle.cm_client.specs.Streamed.{StreamsTo}
 use Rattle.cm_sample.specs.Rule.{IsRule}
 use Rattle.cm_test.specs.Questions.{tested}
 use Rattle.cm_run.proofs.going.stream_go.Goals as goal

@@ -2,7 +2,7 @@ use Rattle.std.proofs.Common.{◌≡◌, List, ℕ, length, Option, Some, None, 
 use Rattle.std.specs.Prelude.{slice_get, IfSome}
 use Rattle.std.proofs.lemmas.Option.{slice_get_read}
 use Rattle.cm_expand.specs.PlanView.{plan_text}
-use Rattle.cm_run_core.specs.Streamed.{HasStreamed}
+use Rattle.cm_client.specs.Streamed.{HasStreamed}
 use Rattle.cm_run_lines.specs.Calls.{plan_of}
 use Rattle.cm_run_lines.specs.Job.{RunJobText}
 use Rattle.cm_run_lines.specs.declared.line.Mode.{Mode}

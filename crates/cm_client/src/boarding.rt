@@ -2,11 +2,11 @@
 ghost use Rattle.std.specs.Prelude.{◌≡◌, ◌+◌, ◌<◌, ◌≤◌, length, slice_index, MatchOption};
 ghost use Rattle.cm_expand.specs.PlanView.{plan_words};
 ghost use Rattle.cm_ring_core.specs.Lawful.{first_writer};
-ghost use Rattle.cm_run_core.specs.Streamed.{EndsTruly};
+ghost use Rattle.cm_client.specs.Streamed.{EndsTruly};
 
+use crate::waiting::Waiting;
 use crate::words::{WordSource, Words};
 use cm_base::gate::Gate;
-use cm_client::waiting::Waiting;
 use cm_expand::plan::Plan;
 use cm_ring::writer::{Closed, Writer};
 use cm_ring_core::view::EndKind;

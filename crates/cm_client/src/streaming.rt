@@ -3,16 +3,16 @@ ghost use Rattle.std.specs.Prelude.{◌≡◌, ◌<◌, ◌≤◌, [], length, I
 ghost use Rattle.cm_client.specs.Progress.{Accepts};
 ghost use Rattle.cm_expand.specs.PlanView.{plan_words};
 ghost use Rattle.cm_ring_core.specs.Lawful.{first_writer};
-ghost use Rattle.cm_run_core.specs.Streamed.{IsFresh, StreamsTo};
+ghost use Rattle.cm_client.specs.Streamed.{IsFresh, StreamsTo};
 ghost use Rattle.cm_sample.specs.Rule.{IsRule};
 
 use crate::boarding::put_words;
 use crate::client::{ClientSide, Reads, Streamed, run_client};
+use crate::consuming::Consumer;
 use crate::starting::Started;
 use crate::words::{WordSource, Words};
 use cm_base::gate::Gate;
 use cm_base::transfer::NoMemory;
-use cm_client::consuming::Consumer;
 use cm_expand::plan::Plan;
 use cm_ring::open::open;
 use cm_ring::writer::Closed;

@@ -3,8 +3,8 @@ use Rattle.std.specs.Prelude.{◌≡◌, ◌+◌, ◌-◌, ◌<◌, ◌≤◌, d
 use Rattle.cm_expand.specs.Items.{items_of}
 use Rattle.cm_expand.specs.PlanView.{words_of}
 use Rattle.cm_expand.specs.Taking.{raw_words}
-use Rattle.cm_run_core.specs.Source.{SourceText}
-use Rattle.cm_run_core.specs.declared.words.WordSource.TheInside.{Inside}
+use Rattle.cm_client.specs.Source.{SourceText}
+use Rattle.cm_client.specs.declared.words.WordSource.TheInside.{Inside}
 
 -- the next word is the first that wasn't given on
 abbrev pub source_text : Inside → SourceText

@@ -1,15 +1,15 @@
 // The client's worker, and the munger's beside it.
 ghost use Rattle.std.specs.Prelude.{◌≡◌, [], IfOk, OnErr, true};
 ghost use Rattle.cm_client.specs.Progress.{Accepts, IsSameRing};
-ghost use Rattle.cm_run_core.specs.Streamed.{IsFresh, StreamsTo};
+ghost use Rattle.cm_client.specs.Streamed.{IsFresh, StreamsTo};
 
+use crate::consuming::Consumer;
+use crate::munging::{OwnMunger, munge_work};
+use crate::reading::consume_to_end;
 use crate::starting::Started;
+use crate::waiting::Waiting;
 use cm_base::gate::Gate;
 use cm_base::transfer::NoMemory;
-use cm_client::consuming::Consumer;
-use cm_client::munging::{OwnMunger, munge_work};
-use cm_client::reading::consume_to_end;
-use cm_client::waiting::Waiting;
 use cm_ring::munger::Munger;
 use cm_ring::reader::Reader;
 use cm_ring_core::view::End;

@@ -46,8 +46,8 @@ pub struct WordSource<'a> {
 }
 
 impl<'a> Model for WordSource<'a> {
-    ghost use Rattle.cm_run_core.specs.Source.{SourceText};
-    ghost use Rattle.cm_run_core.specs.SourceView.{IsSource, source_text};
+    ghost use Rattle.cm_client.specs.Source.{SourceText};
+    ghost use Rattle.cm_client.specs.SourceView.{IsSource, source_text};
 
     ghost Value = { SourceText };
 

@@ -1,5 +1,5 @@
 use Rattle.std.proofs.Common.{◌≡◌, ◌+◌, ◌≤◌, ◌<◌, length}
-use Rattle.cm_run_core.proofs.boarding.put_words.Given as goal
+use Rattle.cm_client.proofs.boarding.put_words.Given as goal
 
 -- all words that were given are put, and all but the fresh ones are published
 abbrev pub invariant-loop : goal.invariant-loop

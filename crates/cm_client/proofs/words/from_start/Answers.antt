@@ -1,6 +1,6 @@
 use Rattle.std.proofs.Common.{refl}
-use Rattle.cm_run_core.proofs.Sources.{filled}
-use Rattle.cm_run_core.proofs.words.from_start.Goals as goal
+use Rattle.cm_client.proofs.Sources.{filled}
+use Rattle.cm_client.proofs.words.from_start.Goals as goal
 
 pub invariant_of-result : goal.invariant_of-result
 invariant_of-result c =

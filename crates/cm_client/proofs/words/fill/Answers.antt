@@ -1,7 +1,7 @@
 use Rattle.std.proofs.Common.{◌≡◌, ◌-◌, min, length, arith}
 use Rattle.cm_expand.specs.Items.{items_of}
-use Rattle.cm_run_core.proofs.Sources.{taken_left}
-use Rattle.cm_run_core.proofs.words.fill.Goals as goal
+use Rattle.cm_client.proofs.Sources.{taken_left}
+use Rattle.cm_client.proofs.words.fill.Goals as goal
 
 pub returns-clause-within : goal.returns-clause-within
 returns-clause-within c = λ some.

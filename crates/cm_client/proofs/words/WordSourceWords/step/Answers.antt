@@ -1,6 +1,6 @@
 use Rattle.std.proofs.Common.{arith}
-use Rattle.cm_run_core.proofs.Sources.{some_left}
-use Rattle.cm_run_core.proofs.words.WordSourceWords.step.Goals as goal
+use Rattle.cm_client.proofs.Sources.{some_left}
+use Rattle.cm_client.proofs.words.WordSourceWords.step.Goals as goal
 
 pub invariant_of-self-else-self : goal.invariant_of-self-else-self
 invariant_of-self-else-self c =

@@ -3,9 +3,9 @@ ghost use Rattle.std.specs.Prelude.{◌≡◌, true};
 ghost use Rattle.cm_ring_core.specs.Lawful.{first_writer};
 
 use crate::boarding::put_words;
+use crate::waiting::Waiting;
 use crate::words::Words;
 use cm_base::gate::Gate;
-use cm_client::waiting::Waiting;
 use cm_ring::writer::Writer;
 use cm_sample::planned::Planned;
 use std::marker::Model;
@@ -21,7 +21,7 @@ pub struct PacedBoard<P: Planned, W: Words> {
 
 impl<P: Planned, W: Words> Model for PacedBoard<P, W> {
     ghost use Rattle.cm_ring_core.specs.declared.view.RingConstants.{RingConstants};
-    ghost use Rattle.cm_run_core.specs.Paced.{IsPacedBoard};
+    ghost use Rattle.cm_client.specs.Paced.{IsPacedBoard};
 
     ghost Value = { RingConstants };
 

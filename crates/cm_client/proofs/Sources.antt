@@ -13,9 +13,9 @@ use Rattle.cm_expand.specs.Plan.{PlanText, times_of}
 use Rattle.cm_expand.specs.PlanView.{words_of}
 use Rattle.cm_expand.specs.Taking.{come_first, raw_words}
 use Rattle.cm_expand.specs.declared.conv.Conv.{Conv}
-use Rattle.cm_run_core.specs.Source.{SourceText}
-use Rattle.cm_run_core.specs.SourceView.{IsSource, source_text}
-use Rattle.cm_run_core.specs.declared.words.WordSource.TheInside.{Inside}
+use Rattle.cm_client.specs.Source.{SourceText}
+use Rattle.cm_client.specs.SourceView.{IsSource, source_text}
+use Rattle.cm_client.specs.declared.words.WordSource.TheInside.{Inside}
 
 -- all of an expansion comes by its horizon
 come_all : (p : PlanText) (high k : ℕ) (ts : List ℕ) → AreUpTo high ts → come_first high (map_from (conv_at p) k ts) ≡ length (map_from (conv_at p) k ts)

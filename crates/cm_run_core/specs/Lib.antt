@@ -1,4 +1,0 @@
-pub mod Paced
-pub mod Source
-pub mod SourceView
-pub mod Streamed
