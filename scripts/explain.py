@@ -17,6 +17,7 @@ that isn't so; with 2 where the words are wrong or a file can't be read.
 """
 import os
 import shutil
+import signal
 import sys
 
 from places import FIRST, NAMED, SIGNALS, Fault, Job, Refusal, block_of, broken_rule
@@ -123,7 +124,7 @@ def head_of(refusal, place):
     name, start, end = place
     print(refusal.said)
     if refusal.at == 0:
-        show("line 0", "the job has %d bytes" % sum(len(line) + 1 for line in job.all))
+        show("line 0", "the job has %d bytes" % job.size)
     elif refusal.at > len(job.lines):
         show("line %d" % refusal.at, "past the end: the text has %d lines" % len(job.lines))
     else:
@@ -139,10 +140,10 @@ def head_of(refusal, place):
 def rows_for(refusal, name, word):
     """The rows of the documents that are nearest to a refusal."""
     texts, words = refusal.texts, refusal.words
+    if refusal.cause == "Missing" and refusal.at <= 3:
+        return [row for row in texts.faults if row.answer == refusal.said]
     if refusal.at > len(refusal.job.lines):
         lost = ["loop"] if ["session"] in [line.split() for line in refusal.job.all] else ["session"]
-    elif refusal.cause == "Missing" and refusal.at <= 3:
-        return [row for row in texts.faults if row.answer == refusal.said]
     elif refusal.cause == "Unknown" and name == words[0] and refusal.at <= refusal.job.first:
         lost = ["signals"] if words[0] in SIGNALS + ("session",) else ["session"]
         lost = lost if words[0][0].isdigit() or words[0] in SIGNALS + ("session",) or words[0] in FIRST else []
@@ -373,4 +374,5 @@ def main(arguments):
 
 
 if __name__ == "__main__":
+    signal.signal(signal.SIGPIPE, signal.SIG_DFL)
     sys.exit(main(sys.argv[1:]))

@@ -28,6 +28,7 @@ class Job:
 
     def __init__(self, text, program):
         self.program = program
+        self.size = len(text.encode("utf-8", "surrogateescape"))
         self.lines = text.split("\n")
         if self.lines[-1] == "":
             self.lines.pop()
@@ -54,7 +55,8 @@ class Job:
         text = "\n".join(self.all if lines is None else lines) + "\n"
         made = subprocess.run([self.program] + command.split(), input=text.encode("utf-8", "surrogateescape"),
                               stdout=subprocess.PIPE)
-        if made.returncode not in (0, 1, 2):
+        refused = made.stdout.startswith((b"refused", b"usage"))
+        if made.returncode not in (0, 1, 2) or refused != (made.returncode != 0):
             raise Fault("the program ends with status %d" % made.returncode)
         return made.stdout.decode("ascii", "replace").splitlines()
 
@@ -150,11 +152,11 @@ class Refusal:
         return 0
 
     def is_name(self, name, word):
-        """Whether a word may stand at a place: the program is asked with a word there that is none."""
+        """Whether a word is a name that may stand at this place."""
         if name == name.lower():
             return any(word in form[0].split() for form in self.texts.forms_of(self.words))
         known = {"KIND": ("unused", "ai", "ao", "di", "do", "dio"), "MODE": ("paced", "free"),
-                 "READER": ("copy", "map"), "FIELD": ("start", "scan_begin", "convert", "scan_end", "stop"), "TAKE": ("all",),
+                 "READER": ("copy", "map"), "TAKE": ("all",), "FIELD": [name.lower() for name in COMMAND[2:7]],
                  "LIST.2": ("ground", "common", "diff", "other"), "ENTRY.2": ("ground", "common", "diff", "other")}
         order = "none now follow time timer count ext int other".split()
         if name in known:
