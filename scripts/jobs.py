@@ -19,6 +19,16 @@ class Fault(Exception):
     """A job, an answer or a file that can't be used, with what is wrong."""
 
 
+def table(sub, channel, period, values):
+    """The line of a wave that is a table, within the limits of docs/FORMATS.md."""
+    if period > PERIOD:
+        raise Fault("a table's values stand for %d ns each, and %d is the most" % (period, PERIOD))
+    for value in values:
+        if not LEAST <= value <= GREATEST:
+            raise Fault("%d microvolts are outside the levels of a wave, %d to %d" % (value, LEAST, GREATEST))
+    return "wave %d %d table %d %s" % (sub, channel, period, " ".join(map(str, values)))
+
+
 class Sub:
     """A subdevice: its kind, what its channels have, and the sizes of its buffer and its FIFO where it takes commands."""
 

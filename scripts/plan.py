@@ -86,7 +86,7 @@ def client_of(sub, room, span, first):
     key, verb, lost = ("write", "writes", "an underrun") if sub.is_output() else ("read", "reads", "an overrun")
     if span is None:
         return [("buffer", "%d samples, which hold the whole command" % room),
-                (key, "once, at any time" if key == "read" else "once, before it starts")]
+                (key, "at any time" if key == "read" else "all before it starts")]
     if span == 0:
         return [("buffer", "%d samples, fewer than come at one time" % room),
                 (key, "%s at %d ns, whenever the client %s" % (lost, first, verb))]
@@ -94,46 +94,42 @@ def client_of(sub, room, span, first):
             (key, "at least every %d ns, the first time by %d ns" % (span, first - 1))]
 
 
-def fifo_of(sub, conversions, lots):
+def fifo_of(sub, conversions):
     """The line of the FIFO."""
     depth, latency = sub.fifo
     span = conversions.holds(depth)
-    holds = "the whole command" if span is None else in_units(span)
-    if lots.lost is None:
-        ends = "nothing is lost"
+    return [("fifo", "%d samples hold %s, emptied %s after %d have come" % (
+        depth, "the whole command" if span is None else in_units(span), in_units(latency), depth // 2))]
+
+
+def end_of(job, conversions, lost):
+    """The lines of the end, and of how many samples there are by then."""
+    total, size = conversions.total, job.subs[conversions.command.sub].bytes_of()
+    if lost is not None:
+        total, end = lost, "fifo %d at %d ns: the command is too fast" % (lost, conversions.time(lost))
+    elif conversions.done is not None:
+        end = "done at " + in_both(conversions.done)
     else:
-        ends = "fifo %d at %d ns: a slower command" % (lots.lost, conversions.time(lots.lost))
-    return [("fifo", "%d samples hold %s, emptied %s after %d: %s" % (
-        depth, holds, in_units(latency), depth // 2, ends))]
-
-
-def end_of(job, conversions):
-    """The line of the end."""
-    last = ""
-    if conversions.total:
-        last = ", its last conversion at %d ns" % conversions.time(conversions.total - 1)
-    if conversions.done is not None:
-        return [("ends", "done at %s%s" % (in_both(conversions.done), last))]
-    why = "endless: " if conversions.command.stop[0] == "none" else ""
-    return [("ends", "%sdry at %s%s" % (why, in_both(job.horizon), last))]
+        end = "%sdry at %s" % ("endless: " if conversions.command.stop[0] == "none" else "", in_both(job.horizon))
+    if total:
+        end += ", the last conversion at %d ns" % conversions.time(total - 1)
+    return [("ends", end), ("in all", "%d samples, %d bytes (%d a sample)" % (total, size * total, size))]
 
 
 def plan_of(job, command, call):
     """The lines of a command's block, as (name, text)."""
     sub, conversions = job.subs[command.sub], times.Conversions(job, command, call)
     if conversions.total == 0:
-        return [("scans", "none: no start comes")] + end_of(job, conversions)
-    lines, room = scans_of(conversions), sub.buffer
+        return [("scans", "none, since no start comes")] + end_of(job, conversions, None)
+    lines, room, lost = scans_of(conversions), sub.buffer, None
     if sub.fifo is None:
         span = conversions.holds(room)
         first = None if span is None else conversions.time(room)
     else:
         lots = times.Lots(conversions, *sub.fifo, room)
-        lines += fifo_of(sub, conversions, lots)
-        span, first = lots.holds()
-    lines += client_of(sub, room, span, first) + end_of(job, conversions)
-    size, total = sub.bytes_of(), conversions.total
-    return lines + [("in all", "%d samples, %d bytes (%d a sample)" % (total, size * total, size))]
+        lines += fifo_of(sub, conversions)
+        (span, first), lost = lots.holds(), lots.lost
+    return lines + client_of(sub, room, span, first) + end_of(job, conversions, lost)
 
 
 def is_known(job, command):

@@ -136,8 +136,8 @@ class Lots:
     """
 
     def __init__(self, conversions, depth, latency, room):
-        self.conversions, self.depth = conversions, depth
-        self.latency, self.lost, self.lots = latency, None, []
+        self.conversions, self.depth, self.latency, self.room = conversions, depth, latency, room
+        self.lost, self.lots = None, []
         at, seen, again = 0, {}, None
         repeats = isinstance(conversions.begins, range)
         while at < conversions.total and self.lost is None:
