@@ -66,7 +66,11 @@ class Made(dict):
         self.make, self.stream, self.index = make, stream, index
 
     def __missing__(self, text):
-        self[text] = made = self.make(self.stream, self.index, self.stream.level(self.index, text))
+        try:
+            level = self.stream.level(self.index, text)
+        except (ValueError, IndexError):
+            raise jobs.Fault("the answer has a sample that the job hasn't: " + text)
+        self[text] = made = self.make(self.stream, self.index, level)
         return made
 
 

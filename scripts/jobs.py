@@ -8,7 +8,6 @@ looked for again here. docs/FORMATS.md says what each line means.
 import bisect
 import collections
 
-RAWDATA = 128
 FALLS = 1 << 31
 UNITS = ("V", "mA", "")
 # How many values the table of a wave holds, the longest period of one, and the levels that a wave may have.
@@ -30,7 +29,7 @@ def table(sub, channel, period, values):
 
 
 class Sub:
-    """A subdevice: its kind, what its channels have, and the sizes of its buffer and its FIFO where it takes commands."""
+    """A subdevice: its kind, what its channels have, and its buffer and FIFO where it takes commands."""
 
     def __init__(self, kind, channels):
         self.kind, self.channels = kind, channels
@@ -182,11 +181,12 @@ class Job:
         return call
 
     def command(self, words):
-        """A line's command, of a subdevice, a list and ranges that the board has."""
+        """A line's command, of a subdevice, channels and ranges that the board has."""
         try:
             command = Command(words)
+            sub = self.subs[command.sub]
             for channel, number in command.list:
-                self.subs[command.sub].range_of(channel, number)
+                range(sub.channels)[channel], sub.range_of(channel, number)
             return command
         except (ValueError, IndexError):
             raise Fault("not a command that the board takes: " + " ".join(words))

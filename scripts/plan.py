@@ -11,9 +11,11 @@ JOB is a file with a job of expand, replay, run, watch or loop, and each command
     ends     done, or dry, and when                      in all   the samples, and their bytes in Comedi's buffer
 
 An interval is safe where no sample is lost wherever the reads lie, as long as each takes all that there is, and each
-write fills the buffer. The first one comes by the time that the line has, in board time. A command is planned as if
-nothing but its stop and the end of the signals ended it. Where edges make the scans, their numbers are means.
-A sample has 2 bytes, and 4 where a channel of its subdevice has more than 16 bits.
+write fills the buffer. The first one comes by the time that the line has, in board time. In `run`, `watch` and `loop`
+clients know no time: there the lines say what the same command would need of one that does.
+A command is planned as if the board took it (`./comedi test` says whether), and as if nothing but its stop and the end
+of the signals ended it. Where edges make the scans, their numbers are means. A sample has 2 bytes, and 4 where a
+channel of its subdevice has more than 16 bits.
 """
 
 import sys
@@ -116,12 +118,14 @@ def end_of(job, conversions, lost):
     return [("ends", end), ("in all", "%d samples, %d bytes (%d a sample)" % (total, size * total, size))]
 
 
-def plan_of(job, command, call):
+def plan_of(job, command, call, what):
     """The lines of a command's block, as (name, text)."""
     sub, conversions = job.subs[command.sub], times.Conversions(job, command, call)
     if conversions.total == 0:
         return [("scans", "none, since no start comes")] + end_of(job, conversions, None)
     lines, room, lost = scans_of(conversions), sub.buffer, None
+    if what == "cmd" and sub.is_output() and conversions.time(0) == call:
+        return lines + [("write", "underrun 0: the first word is due before one can be written: start by int or ext")]
     if sub.fifo is None:
         span = conversions.holds(room)
         first = None if span is None else conversions.time(room)
@@ -143,6 +147,20 @@ def is_known(job, command):
             and (command.scan[0], command.convert[0]) != ("follow", "now"))
 
 
+def block_of(job, number, what, call, text):
+    """A command's block."""
+    head, refused = "line %d: %s" % (number, what), ["  refused: ./comedi test says why"]
+    try:
+        command = job.command(text)
+    except jobs.Fault:
+        return [head] + refused
+    channels = ",".join(str(channel) for channel, _ in command.list)
+    head += ", subdevice %d (%s), channels %s" % (command.sub, job.subs[command.sub].kind, channels)
+    if not is_known(job, command):
+        return [head] + refused
+    return [head] + ["  %-8s %s" % line for line in plan_of(job, command, call, what)]
+
+
 def main(arguments):
     words, _ = usage.words_of(arguments, 1, 1)
     job = jobs.Job(usage.text_of(words[0]))
@@ -155,20 +173,7 @@ def main(arguments):
         raise jobs.Fault("the job isn't one that the program takes")
     if not blocks:
         raise jobs.Fault("%s: no command: no line of cmd, expand, go, drive or loop" % words[0])
-    print("\n".join(blocks), end="")
-
-
-def block_of(job, number, what, call, text):
-    """A command's block."""
-    command = job.command(text)
-    channels = ",".join(str(channel) for channel, _ in command.list)
-    lines = ["line %d: %s, subdevice %d (%s), channels %s" % (
-        number, what, command.sub, job.subs[command.sub].kind, channels)]
-    if is_known(job, command):
-        lines += ["  %-8s %s" % line for line in plan_of(job, command, call)]
-    else:
-        lines += ["  refused: ./comedi test says why"]
-    return "".join(line + "\n" for line in lines)
+    print("\n\n".join("\n".join(block) for block in blocks))
 
 
 if __name__ == "__main__":
