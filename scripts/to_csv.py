@@ -14,6 +14,7 @@ list index too, as ai0_1_V_entry2. Rows lie in the order of their times, and sca
 one row. A cell of which the answer has nothing is empty. With -s only this subdevice has rows.
 """
 
+import bisect
 import itertools
 import operator
 import sys
@@ -29,9 +30,16 @@ def decimal(number, places):
 
 
 def lines_of(form, times, texts):
-    """Lines of times in seconds and texts. A time is below 2^40 ns, so a float has all of its nine decimals."""
-    pairs = tuple(itertools.chain.from_iterable(zip(map(1e9.__rtruediv__, times), texts)))
-    return form * (len(pairs) // 2) % pairs
+    """Lines of times in seconds and texts, by a form such as `%s,%s`. The times of a second are formatted together."""
+    lines, at = [], 0
+    while at < len(times):
+        second = times[at] // 1000000000
+        end = bisect.bisect_left(times, (second + 1) * 1000000000, at)
+        parts = map((-1000000000 * second).__add__, times[at:end])
+        pairs = tuple(itertools.chain.from_iterable(zip(parts, texts[at:end])))
+        lines.append(form.replace("%s", "%d.%%09d" % second, 1) * (end - at) % pairs)
+        at = end
+    return "".join(lines)
 
 
 def value_of(stream, index, level):
@@ -57,7 +65,7 @@ def print_samples(pieces):
     sys.stdout.write("time_s,subdevice,channel,value,unit\n")
     for piece in pieces:
         texts = answers.made_of(piece, after_time, made)
-        sys.stdout.write(lines_of("%.9f%s", piece.times, texts))
+        sys.stdout.write(lines_of("%s%s", piece.times, texts))
 
 
 def names_of(stream):
@@ -95,7 +103,7 @@ class Cells:
             numbers = [at for at, scan in enumerate(scans) if scan.count(None) < width]
             times = [self.times[at] if at in self.times else self.stream.moment(at * width) for at in numbers]
             return times, [tuple(cell or "" for cell in scans[at]) for at in numbers]
-        return list(self.times.values()), scans
+        return [self.times[at] for at in range(len(scans))], scans
 
 
 def widths_of(pieces, chosen):
@@ -146,7 +154,7 @@ def merged(blocks):
             times.append(time)
             texts.append(list(empty))
         texts[-1][at] = text
-    return times, map(",".join, texts)
+    return times, list(map(",".join, texts))
 
 
 def print_scans(pieces, chosen):
@@ -157,7 +165,7 @@ def print_scans(pieces, chosen):
     is_one = [len(streams) for streams in subs.values()] == [1]
     times, texts = blocks[0][1:] if is_one else merged(blocks)
     sys.stdout.write(",".join(["time_s"] + names) + "\n")
-    sys.stdout.write(lines_of("%.9f,%s\n", times, texts))
+    sys.stdout.write(lines_of("%s,%s\n", times, texts))
 
 
 def main(arguments):
