@@ -13,12 +13,14 @@ the sources of the subdevices that take commands, and else their numbers:
 A `+` after the ranges says that some channels have ranges of their own. With -s and one FILE the pairs of
 sources that may not stand together follow the line of their subdevice.
 
-Ends with status 0; with 2 where the words are wrong, or a FILE can't be read or is no board text.
+Ends with status 0; with 1 where a FILE is no board text; with 2 where the words are wrong, or a FILE can't be read.
 """
 import glob
 import os
-import signal
 import sys
+
+import jobs
+import usage
 
 TOP = os.path.dirname(os.path.dirname(os.path.abspath(__file__)))
 UNITS = {"0": "V", "1": "mA", "2": ""}
@@ -109,36 +111,22 @@ def table(asks, files):
     return rows, under
 
 
-def fault(text):
-    sys.stderr.write(text)
-    return 2
-
-
 def main(arguments):
-    if "--help" in arguments:
-        print(__doc__.strip())
-        return 0
-    asks = arguments[:1] == ["-s"]
-    files = arguments[1:] if asks else arguments
-    if any(name.startswith("-") for name in files):
-        return fault(__doc__.strip() + "\n")
-    files = files or sorted(glob.glob(os.path.join(TOP, "examples", "boards", "*.txt")))
+    words, options = usage.words_of(arguments, 0, len(arguments), "-s!")
+    asks = "-s" in options
+    files = words or sorted(glob.glob(os.path.join(TOP, "examples", "boards", "*.txt")))
     for path in files:
         try:
             table(asks, [path])
-        except OSError as error:
-            return fault("boards.py: %s: %s\n" % (path, error.strerror))
         except (ValueError, IndexError, KeyError, TypeError, ZeroDivisionError):
-            return fault("boards.py: %s: this isn't a board text that the program takes\n" % path)
+            raise jobs.Fault("%s: this isn't a board text that the program takes" % path)
     rows, under = table(asks, files)
     wide = [max(len(row[at]) for row in rows) for at in range(len(rows[0]))]
     for at, row in enumerate(rows):
         print("  ".join(word.ljust(width) for word, width in zip(row, wide)).rstrip())
         for pair in under.get(at, []):
             print(pair)
-    return 0
 
 
 if __name__ == "__main__":
-    signal.signal(signal.SIGPIPE, signal.SIG_DFL)
-    sys.exit(main(sys.argv[1:]))
+    sys.exit(usage.call(main, __doc__))

@@ -17,10 +17,11 @@ that isn't so; with 2 where the words are wrong or a file can't be read.
 """
 import os
 import shutil
-import signal
 import sys
 
-from places import FIRST, NAMED, SIGNALS, Fault, Job, Refusal, block_of, broken_rule
+import usage
+from jobs import Fault
+from places import FIRST, NAMED, SIGNALS, Job, Refusal, block_of, broken_rule
 from refusals import COMMAND, Texts, key_of
 
 SCRIPTS = os.path.dirname(os.path.abspath(__file__))
@@ -351,28 +352,16 @@ def program_of(given):
 
 
 def main(arguments):
-    if "--help" in arguments:
-        print(__doc__.strip())
-        return 0
-    given = None
-    if arguments[:1] == ["-p"] and len(arguments) > 1:
-        given, arguments = arguments[1], arguments[2:]
-    if len(arguments) not in (1, 2) or any(word.startswith("-") for word in arguments):
-        sys.stderr.write(__doc__.strip() + "\n")
-        return 2
+    words, options = usage.words_of(arguments, 1, 2, "-p")
     try:
-        with open(arguments[-1], encoding="utf-8", errors="surrogateescape", newline="\n") as file:
-            job = Job(file.read(), program_of(given))
-        texts = Texts(os.path.join(TOP, "docs"))
-        command = arguments[0] if len(arguments) == 2 else job.guess()
-        return explain(job, texts, command, arguments[-1])
-    except OSError as error:
-        sys.stderr.write("explain.py: %s: %s\n" % (error.filename, error.strerror))
+        with open(words[-1], encoding="utf-8", errors="surrogateescape", newline="\n") as file:
+            job = Job(file.read(), program_of(options.get("-p")))
+        command = words[0] if len(words) == 2 else job.guess()
+        return explain(job, Texts(os.path.join(TOP, "docs")), command, words[-1])
     except Fault as fault:
         sys.stderr.write("explain.py: %s\n" % fault)
-    return 2
+        return 2
 
 
 if __name__ == "__main__":
-    signal.signal(signal.SIGPIPE, signal.SIG_DFL)
-    sys.exit(main(sys.argv[1:]))
+    sys.exit(usage.call(main, __doc__))

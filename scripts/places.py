@@ -5,6 +5,7 @@ The program itself is asked: a word is at fault where another one in its place c
 import re
 import subprocess
 
+from jobs import Fault
 from refusals import COMMAND, key_of
 
 SIGNALS = ("signals", "wave", "edges", "falls", "every", "int")
@@ -12,10 +13,6 @@ FIRST = {"test": "test", "expand": "expand", "go": "run", "drive": "run", "loop"
 # Places of a line where a word stands and no number.
 NAMED = ["KEY", "KIND", "NAME", "MODE", "READER", "FIELD", "SRC", "+", "LIST.2", "ENTRY.2"] + [
     name + ".0" for name in COMMAND[2:7]]
-
-
-class Fault(Exception):
-    """What can't be used, as one line."""
 
 
 def is_text(line):

@@ -51,14 +51,14 @@ def text_of(name):
 
 
 def call(main, usage):
-    """Runs a script's main function with its words. What is its exit status."""
+    """Runs a script's main function with its words, and answers its exit status: what that returns, or 0."""
     name = os.path.basename(sys.argv[0])
     signal.signal(signal.SIGPIPE, signal.SIG_DFL)
     if "--help" in sys.argv[1:] or "-h" in sys.argv[1:]:
         print(usage.strip())
         return 0
     try:
-        main(sys.argv[1:])
+        status = main(sys.argv[1:]) or 0
         sys.stdout.flush()
     except Wrong:
         print(usage.strip(), file=sys.stderr)
@@ -71,4 +71,4 @@ def call(main, usage):
         print("%s: %s: %s" % (name, where, fault.strerror), file=sys.stderr)
         os.dup2(os.open(os.devnull, os.O_WRONLY), 1)
         return 2
-    return 0
+    return status
