@@ -15,6 +15,8 @@ static int reported_end(struct subdevice *s, int result)
 	if (result == -EPIPE || (!result && (answer_is("done") || answer_is("dry")))) {
 		record_note("%llu end: %s", (unsigned long long)device->now, server_answer());
 		s->runner = NO_FILE;
+		if (!result && answer_is("dry"))
+			time_say_end();
 		return result ? result : END_REPORTED;
 	}
 	return 0;
