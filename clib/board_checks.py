@@ -11,6 +11,8 @@ import subprocess
 
 HERE = os.path.dirname(os.path.abspath(__file__))
 TESTS = os.path.join(HERE, "tests")
+DEMOS = "/usr/share/doc/libcomedi-dev/demo"
+DOCUMENT = os.path.join(os.path.dirname(HERE), "docs", "CLIENTS.md")
 WITH_BOARD = os.path.join(os.path.dirname(HERE), "with_board")
 LIBRARY = "libzendrouz_comedi.so"
 PROGRAM = "comedi_serve"
@@ -203,6 +205,25 @@ def words_of(check, script):
     script.expect("a program's status and words", ["board.txt", "sh", "-c", "echo \"$1\"; exit 7", "sh", "a  b"], (7, "a  b\n", ""))
 
 
+def document(check, top):
+    """The blocks of docs/CLIENTS.md, but those that install, check all, or need a screen. They leave nothing but out/."""
+    with open(DOCUMENT, encoding="utf-8") as file:
+        blocks = re.findall(r"^```sh norun\n(.*?)^```\n(?:\n```output\n(.*?)^```\n)?", file.read(), re.M | re.S)
+    shutil.copytree(TESTS, top + "clib/tests")
+    os.symlink(os.path.join(os.path.dirname(HERE), "examples"), top + "examples")
+    os.symlink(check.comedi, top + "comedi")
+    settings = {name: value for name, value in os.environ.items() if name != "LD_PRELOAD" and not name.startswith("ZENDROUZ_")}
+    before = sorted(os.listdir(top))
+    for block, wanted in blocks:
+        if re.search("apt-get|clib/check|xoscope", block):
+            continue
+        done = subprocess.run(["sh", "-c", block], cwd=top, env=dict(settings, BUILDS=top + "crates/comedi_serve"), stdin=subprocess.DEVNULL,
+                              stdout=subprocess.PIPE, stderr=subprocess.PIPE, timeout=120)
+        right = done.returncode == 0 and (not wanted or done.stdout.decode() == wanted)
+        check.expect("docs/CLIENTS.md: " + block.strip().splitlines()[-1], right, done.stdout.decode(), done.stderr.decode())
+    check.expect("docs/CLIENTS.md leaves out/ alone", sorted(os.listdir(top)) == sorted(before + ["out"]), os.listdir(top))
+
+
 def one_command(check):
     """with_board in a repository, by a link, and in two kinds of installations."""
     top = make_top(check)
@@ -225,3 +246,6 @@ def one_command(check):
         script.expect("no comedi_serve beside " + folder, [board, late], (6, "", "with_board: comedi_serve isn't there\n"), PATH=make_tools(check))
         copy_file(check.serve, place + "bin/" + PROGRAM)
         script.expect("installed in " + folder, [board, late], wanted, PATH=make_tools(check))
+    if os.path.isdir(DEMOS):
+        os.rename(top, check.path("top"))
+        document(check, check.path("top/"))
