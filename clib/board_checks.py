@@ -61,6 +61,7 @@ def refusals():
             "no buffer, in a job": (small.replace("buffer 8\n", ""), "%d: refused Missing: signals 1000000000" % before),
             "no buffer, in a job without signals": (alone.replace("buffer 8\n", "") + "session\n0 open 0\n", missing % (before - 1)),
             "a rule": (alone.replace("scan 1000", "scan 1001"), " refused Bad after line %d, the board's last: its last block breaks a rule" % before),
+            "a word after session": (small.replace("session", "session 1"), "%d: refused BadLine: session 1" % (before + 3)),
             "no line": ("", " refused Missing: it has no line"),
             "a byte-order mark": ("\ufeffcomedi 1\n" + block, "1: refused BadLine: \\xef\\xbb\\xbfcomedi 1"),
             "lines that end in a carriage return": (alone.replace("bits 8", "bits x").replace("\n", "\r\n"), "6: refused BadNumber: bits x"),

@@ -16,7 +16,9 @@
 
 /* the longest text that the program takes */
 #define MOST_BYTES (1 << 20)
-#define LONGEST_HORIZON 1000000000000ull
+#define LONGEST_HORIZON 1000000000000
+#define TEXT_OF(number) TEXT_OF_WORD(number)
+#define TEXT_OF_WORD(word) #word
 /* how much of a line that is refused is shown */
 #define MOST_SHOWN 200
 
@@ -27,38 +29,38 @@ static int starts_with_word(const char *line, const char *word)
 	return !strncmp(line, word, length) && (!line[length] || strchr(" \t\r\n", line[length]));
 }
 
-/* Keeps the text up to its line `session`, without that line, and notes the horizon. Answers whether there is a line
- * `signals`. */
-static int cut(struct text *text)
+/* Looks for the lines `signals` and `session`, and keeps the text up to where it is complete or has to be completed.
+ * Notes the horizon. Answers what is to be put at the end. */
+static const char *cut(struct text *text)
 {
-	int has_signals = 0;
+	int has_signals = 0, has_session = 0;
 	char *line = text->bytes, *end = text->bytes + text->length;
-	text->lines = 0;
-	while (line < end && !starts_with_word(line, "session")) {
+	for (text->lines = 0; line < end && !has_session; text->lines++) {
 		char *feed = memchr(line, '\n', end - line);
 		if (starts_with_word(line, "signals")) {
 			has_signals = 1;
 			device->horizon = strtoull(strstr(line, "signals") + 7, NULL, 10);
 		}
-		text->lines++;
+		has_session = starts_with_word(line, "session");
+		if (has_session && !has_signals)
+			break;
 		line = feed ? feed + 1 : end;
 	}
 	text->length = line - text->bytes;
-	return has_signals;
+	if (has_signals)
+		return has_session ? "" : "session\n";
+	device->horizon = LONGEST_HORIZON;
+	return "signals " TEXT_OF(LONGEST_HORIZON) "\nsession\n";
 }
 
 /* Puts the end of a text after what was kept of it. */
-static void complete(struct text *text, int has_signals)
+static void complete(struct text *text, const char *rest)
 {
 	char *end = text->bytes + text->length;
 	if (text->length && end[-1] != '\n')
 		*end++ = '\n';
-	if (!has_signals) {
-		device->horizon = LONGEST_HORIZON;
-		end += sprintf(end, "signals %llu\n", LONGEST_HORIZON);
-	}
-	end += sprintf(end, "session\n");
-	text->length = end - text->bytes;
+	strcpy(end, rest);
+	text->length = end + strlen(rest) - text->bytes;
 }
 
 /* The file's bytes, at most one more than may be. It is opened by the kernel itself, since `open` of a board's file
