@@ -183,7 +183,8 @@ static int input_info(int file, int number, comedi_bufinfo *info, uint64_t count
 	struct subdevice *s = &device->subdevice[number];
 	int released = 0;
 	if (info->bytes_read && counts[1] > counts[0]) {
-		released = release_samples(file, number, info->bytes_read / s->sample_bytes);
+		uint64_t asked = info->bytes_read / s->sample_bytes, there = counts[1] - counts[0];
+		released = release_samples(file, number, asked < there ? asked : there);
 		int result = released < 0 ? released : ask_counts(file, number, counts);
 		if (result)
 			return result;

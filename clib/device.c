@@ -5,16 +5,11 @@
 #include "device.h"
 #include "server.h"
 #include <errno.h>
-#include <fcntl.h>
 #include <stdio.h>
 #include <stdlib.h>
 #include <string.h>
 #include <sys/mman.h>
-#include <sys/syscall.h>
 #include <unistd.h>
-
-/* the longest board text */
-#define MOST_BYTES (1 << 20)
 
 struct device *device;
 
@@ -65,74 +60,29 @@ int device_serves(const char *path)
 	return !strncmp(path, "/dev/comedi", 11) && getenv("ZENDROUZ_BOARD");
 }
 
-static int starts_with_word(const char *line, const char *word)
+/* Says why a board isn't there: the program refuses its text, or can't be run. */
+static int report_failure(const char *path, const struct text *text)
 {
-	line += strspn(line, " \t\r");
-	size_t length = strlen(word);
-	return !strncmp(line, word, length) && (!line[length] || strchr(" \t\r\n", line[length]));
-}
-
-/* The length of a board's text with its line `session`, or 0 where it has none. Notes the horizon on the way. */
-static size_t head_length(const char *text)
-{
-	for (const char *line = text; *line;) {
-		const char *end = strchr(line, '\n');
-		const char *next = end ? end + 1 : line + strlen(line);
-		if (starts_with_word(line, "signals"))
-			device->horizon = strtoull(strstr(line, "signals") + 7, NULL, 10);
-		if (starts_with_word(line, "session"))
-			return next - text;
-		line = next;
+	if (!*server_answer()) {
+		fprintf(stderr, "zendrouz: %s: comedi_serve has ended\n", path);
+		return -EIO;
 	}
-	return 0;
+	text_say_refusal(path, text, server_answer());
+	return -EINVAL;
 }
 
-/* The whole of a file, and room for one line more. It is opened by the kernel itself, since `open` of a board's file
- * would open the board. */
-static char *read_text(const char *path)
-{
-	size_t length = 0;
-	int descriptor = syscall(SYS_openat, AT_FDCWD, path, O_RDONLY | O_CLOEXEC);
-	if (descriptor < 0)
-		return NULL;
-	char *text = calloc(1, MOST_BYTES + 16);
-	while (text && length < MOST_BYTES) {
-		ssize_t count = read(descriptor, text + length, MOST_BYTES - length);
-		if (count <= 0)
-			break;
-		length += count;
-	}
-	close(descriptor);
-	return text;
-}
-
-/* Starts the program with the board's text. Where that lacks its line `session`, the program says what is missing. */
+/* Starts the program with the board's text, and asks it for the board. */
 static int start_program(const char *path)
 {
-	const char *program = getenv("ZENDROUZ_CORE");
-	char *text = read_text(path);
-	if (!text) {
-		int error = errno;
-		fprintf(stderr, "zendrouz: %s: %s\n", path, strerror(error));
-		return -error;
-	}
-	size_t head = head_length(text);
-	strcpy(text + (head ? head : strlen(text)), head ? "\n" : "\nsession\n");
-	if (head && text[head - 1] == '\n')
-		text[head] = 0;
-	int result = server_start(program ? program : "comedi_serve", text, strlen(text));
-	free(text);
+	struct text text = { 0 };
+	int result = text_read(path, &text);
+	if (!result)
+		result = server_start(program_path(), text.bytes, text.length);
+	board_clear();
+	if (!result && question_describe(board_line))
+		result = report_failure(path, &text);
+	free(text.bytes);
 	return result;
-}
-
-/* Says why a board isn't there: the program refuses its text, or can't be run. */
-static int report_failure(const char *path)
-{
-	if (*server_answer())
-		fprintf(stderr, "zendrouz: %s: %s\n", path, server_answer());
-	else
-		fprintf(stderr, "zendrouz: %s: comedi_serve has ended\n", path);
-	return *server_answer() ? -EINVAL : -EIO;
 }
 
 /* Loads the board, for the first file that opens it. */
@@ -142,9 +92,6 @@ static int load(const char *path)
 	int result = start_program(path);
 	if (result)
 		return result;
-	board_clear();
-	if (question_describe(board_line))
-		return report_failure(path);
 	board_settle();
 	result = buffer_make_memory();
 	if (result)

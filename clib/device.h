@@ -59,6 +59,13 @@ struct file {
 	int read_subdevice, write_subdevice;
 };
 
+/* a board's text as the program gets it, and how many of its lines are the file's */
+struct text {
+	char *bytes;
+	size_t length;
+	unsigned lines;
+};
+
 enum wake { WAKE_SAMPLE, WAKE_SCAN, WAKE_FULL };
 
 struct device {
@@ -86,6 +93,10 @@ int device_is_open(void);
 int device_serves(const char *path);
 void device_enter(void);
 void device_leave(void);
+
+/* text.c */
+int text_read(const char *path, struct text *text);
+void text_say_refusal(const char *path, const struct text *text, const char *answer);
 
 /* ioctl.c */
 int device_ioctl(int file, unsigned long request, void *argument);
@@ -129,6 +140,7 @@ int instruction_one(int file, const comedi_insn *instruction);
 void time_start(void);
 void time_call(void);
 void time_to(uint64_t time);
+void time_say_end(void);
 int time_wait(uint64_t time);
 int time_is_board_time(void);
 void time_sleep(uint64_t nanoseconds);

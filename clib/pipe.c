@@ -60,7 +60,7 @@ static void become_server(const char *program, char **environment, int socket)
 	setsid();
 	if (dup2(socket, 0) == 0 && dup2(socket, 1) == 1)
 		execvpe(program, words, environment);
-	const char text[] = "zendrouz: comedi_serve can't be run (ZENDROUZ_CORE names it)\n";
+	const char text[] = "zendrouz: comedi_serve can't be run: it isn't built, or ZENDROUZ_CORE names another file\n";
 	if (write(2, text, sizeof text - 1) < 0)
 		_exit(126);
 	_exit(127);

@@ -8,6 +8,9 @@
 /* descriptors of the device are kept away from the numbers that clients use */
 #define FIRST_DESCRIPTOR 240
 
+/* program.c: which program answers. */
+const char *program_path(void);
+
 /* pipe.c: the program. Each answer is read whole before the next line is sent. */
 int server_start(const char *program, const char *head, size_t length);
 int server_ask(const char *line, size_t length, void (*each)(char *line));

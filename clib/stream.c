@@ -15,6 +15,8 @@ static int reported_end(struct subdevice *s, int result)
 	if (result == -EPIPE || (!result && (answer_is("done") || answer_is("dry")))) {
 		record_note("%llu end: %s", (unsigned long long)device->now, server_answer());
 		s->runner = NO_FILE;
+		if (!result && answer_is("dry"))
+			time_say_end();
 		return result ? result : END_REPORTED;
 	}
 	return 0;
@@ -55,13 +57,20 @@ static int copy_samples(const struct subdevice *s, char *to, const uint32_t *cod
 	return copy_out(to, narrow, count * sizeof *narrow);
 }
 
+/* Whether samples are there. To take some where none is would report the command's end, which the next read has to. */
+static int holds_samples(int file, int number)
+{
+	uint64_t counts[2];
+	return !question_contents(file, number, "info", "") && answer_numbers(counts, 2) == 2 && counts[1] > counts[0];
+}
+
 /* Takes what is there, line by line. Answers the number of bytes, or as take_samples. */
 static ssize_t read_present(int file, int number, char *to, size_t bytes)
 {
 	const struct subdevice *s = &device->subdevice[number];
 	uint32_t codes[SAMPLES_OF_A_LINE];
 	size_t done = 0;
-	while (done < bytes) {
+	while (done < bytes && (!done || holds_samples(file, number))) {
 		size_t most = (bytes - done) / s->sample_bytes;
 		if (most > SAMPLES_OF_A_LINE)
 			most = SAMPLES_OF_A_LINE;

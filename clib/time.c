@@ -10,6 +10,7 @@
 #include "device.h"
 #include "server.h"
 #include <errno.h>
+#include <stdio.h>
 #include <stdlib.h>
 #include <string.h>
 #include <sys/syscall.h>
@@ -37,11 +38,28 @@ void time_start(void)
 	device->wall_start = time_of_wall();
 }
 
+/* Says once that the client has come to the end of the signals: its time was cut there, or a command ran dry. */
+void time_say_end(void)
+{
+	static int is_said;
+	char fraction[16];
+	if (is_said)
+		return;
+	is_said = 1;
+	int length = snprintf(fraction, sizeof fraction, ".%09u", (unsigned)(device->horizon % 1000000000));
+	while (length && (fraction[length - 1] == '0' || fraction[length - 1] == '.'))
+		fraction[--length] = 0;
+	fprintf(stderr, "zendrouz: the signals of %s end at %llu%s s of board time: from here on nothing changes\n", device->path,
+		(unsigned long long)device->horizon / 1000000000, fraction);
+}
+
 /* Board time never falls, and stands still at the horizon. */
 void time_to(uint64_t time)
 {
-	if (time > device->horizon)
+	if (time > device->horizon) {
+		time_say_end();
 		time = device->horizon;
+	}
 	if (time > device->now)
 		device->now = time;
 }
