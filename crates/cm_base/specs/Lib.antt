@@ -13,3 +13,4 @@ pub mod Transfer
 pub mod Words
 pub mod Parts
 pub mod WrittenLines
+pub mod UpTo

@@ -10,12 +10,12 @@ use Rattle.cm_board.specs.Board.{BoardText}
 use Rattle.cm_board.specs.BoardPart.{board_of}
 use Rattle.cm_signal.specs.Signals.{SignalsText}
 use Rattle.cm_signal.specs.SignalsPart.{signals_at}
-use Rattle.cm_loop_lines.specs.LoopPart.{loop_of}
-use Rattle.cm_loop_run.specs.LoopText.{loop_text}
-use Rattle.cm_run_lines.specs.Job.{RunJobText}
-use Rattle.cm_run_lines.specs.RunPart.{run_of, watch_of}
-use Rattle.cm_run_lines.specs.declared.line.RunLine.{RunLine}
-use Rattle.cm_run.specs.Blocks.{IsRunText, run_text}
+use Rattle.cm_job.specs.LoopPart.{loop_of}
+use Rattle.cm_loop.specs.LoopText.{loop_text}
+use Rattle.cm_job.specs.Job.{RunJobText}
+use Rattle.cm_job.specs.RunPart.{run_of, watch_of}
+use Rattle.cm_job.specs.declared.line.RunLine.{RunLine}
+use Rattle.cm_client.specs.RunText.{IsRunText, run_text}
 use Rattle.cm_cli.specs.Answer.{Declined, byte_limit}
 use Rattle.cm_cli.specs.Top.{Concludes}
 use Rattle.cm_cli.specs.declared.jobs.ThreadJob.{ThreadJob}

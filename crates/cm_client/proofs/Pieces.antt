@@ -7,7 +7,8 @@ use Rattle.cm_ring_core.specs.declared.view.RingConstants.{RingConstants}
 use Rattle.cm_ring_core.specs.Lawful.{munged_at}
 use Rattle.cm_ring.specs.Roles.{Reading}
 use Rattle.cm_client.specs.Samples.{munged_plan, first_munged, piece}
-use Rattle.cm_client.specs.Progress.{Accepts, up_to, IsTaken, HasRead, HasAll}
+use Rattle.cm_base.specs.UpTo.{up_to}
+use Rattle.cm_client.specs.Progress.{Accepts, IsTaken, HasRead, HasAll}
 
 pub length-map_from : (f : ℕ → ℕ → ℕ) (place : ℕ) (xs : List ℕ) → length (map_from f place xs) ≡ length xs
 length-map_from f place [] = refl

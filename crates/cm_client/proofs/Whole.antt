@@ -11,7 +11,8 @@ use Rattle.cm_ring_core.specs.Lawful.{IsFoundEnd}
 use Rattle.cm_sample.specs.Rule.{munged_word}
 use Rattle.cm_ring.specs.Roles.{Reading}
 use Rattle.cm_client.specs.Samples.{munged_plan, first_munged}
-use Rattle.cm_client.specs.Progress.{up_to, IsTaken, IsSameRing, Stops, IsReadToEnd}
+use Rattle.cm_base.specs.UpTo.{up_to}
+use Rattle.cm_client.specs.Progress.{IsTaken, IsSameRing, Stops, IsReadToEnd}
 use Rattle.cm_client.proofs.Pieces.{length-map_from, up_to_taken, is_taken}
 
 -- as many munged samples as the plan has are the whole munged plan

@@ -5,3 +5,8 @@ pub mod Source
 pub mod SourceView
 pub mod Streamed
 pub mod Waiting
+pub mod Idle
+pub mod Going
+pub mod Whole
+pub mod RunText
+pub mod LineRing

@@ -1,16 +1,12 @@
 -- What a client has read of a ring, and where it stops.
-use Rattle.std.specs.Prelude.{◌≡◌, ◌⊎◌, ℕ, ◌+◌, ◌<◌, ◌≤◌, min, List, length, true, false, Option, Some, None}
+use Rattle.std.specs.Prelude.{◌≡◌, ◌⊎◌, ℕ, ◌+◌, ◌<◌, ◌≤◌, List, length, true, false, Option, Some, None}
+use Rattle.cm_base.specs.UpTo.{up_to}
 use Rattle.cm_ring_core.specs.declared.view.End.{End}
 use Rattle.cm_ring_core.specs.declared.view.EndKind.TheVariants.{Done, Cancelled}
 use Rattle.cm_ring_core.specs.declared.view.RingConstants.{RingConstants}
 use Rattle.cm_ring_core.specs.Lawful.{IsFoundEnd, munged_at}
 use Rattle.cm_ring.specs.Roles.{Reading}
 use Rattle.cm_client.specs.Samples.{first_munged, munged_plan}
-
--- the smaller of a count and a number that may be missing
-abbrev pub up_to : ℕ → Option ℕ → ℕ
-up_to count None = count
-up_to count (Some most) = min count most
 
 -- the number of samples to take isn't above an end's count
 abbrev pub IsTaken : Option ℕ → ℕ → Type 0

@@ -6,7 +6,8 @@ use Rattle.cm_ring_core.specs.declared.view.EndKind.TheVariants.{Cancelled, Done
 use Rattle.cm_ring_core.specs.Lawful.{MayEndAs, IsFoundEnd, first_reader}
 use Rattle.cm_ring.specs.Roles.{Reading, Closing}
 use Rattle.cm_client.specs.Samples.{first_munged, munged_plan}
-use Rattle.cm_client.specs.Progress.{up_to, IsTaken}
+use Rattle.cm_base.specs.UpTo.{up_to}
+use Rattle.cm_client.specs.Progress.{IsTaken}
 
 -- the writer's end is true of its last look and of the stop that it saw
 abbrev pub EndsTruly : Closing → Type 0

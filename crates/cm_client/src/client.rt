@@ -3,7 +3,6 @@ ghost use Rattle.std.specs.Prelude.{◌≡◌, [], IfOk, OnErr, true};
 ghost use Rattle.cm_client.specs.Progress.{Accepts, IsSameRing};
 ghost use Rattle.cm_client.specs.Streamed.{IsFresh, StreamsTo};
 
-use crate::consuming::Consumer;
 use crate::munging::{OwnMunger, munge_work};
 use crate::reading::consume_to_end;
 use crate::starting::Started;
@@ -13,6 +12,7 @@ use cm_base::transfer::NoMemory;
 use cm_ring::munger::Munger;
 use cm_ring::reader::Reader;
 use cm_ring_core::view::End;
+use cm_sample::consuming::Consumer;
 use cm_sample::planned::Planned;
 use crossbeam_utils::Backoff;
 use std::sync::Wait;

@@ -1,15 +1,17 @@
 // What threads do with the ends of a ring: a writer that puts a list of words or a board that puts those of
 // an expansion, a munger that follows it, clients that read by copying or in place, and the three threads of
-// one command's stream.
+// one command's stream. And what each line that streams needs: its subdevice, its ring and its text.
 #![tactic(auto)]
 
 pub mod boarding;
+pub mod claiming;
 pub mod client;
-pub mod consuming;
 pub mod copying;
 pub mod feeding;
+pub mod going;
 pub mod mapping;
 pub mod munging;
+pub mod opening;
 pub mod paced;
 pub mod reading;
 pub mod starting;
@@ -19,4 +21,5 @@ mod tests;
 pub mod waiting;
 #[cfg(test)]
 mod waiting_tests;
+pub mod whole;
 pub mod words;

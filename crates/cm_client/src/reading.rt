@@ -1,10 +1,10 @@
 // Reads to the end of a ring.
 ghost use Rattle.std.specs.Prelude.{◌≡◌, ◌+◌, ◌-◌, ◌<◌, ◌≤◌, ◌++◌, ◌≢◌, [], min, length, drop, take, true, Some, None, IfOk, IfSome, IsTrue, IsFalse, OnErr, MatchOption, ⊤};
 ghost use Rattle.cm_client.specs.Samples.{first_munged, piece};
-ghost use Rattle.cm_client.specs.Progress.{Accepts, HasRead, HasAll, IsReadToEnd, IsSameRing, Stops, up_to};
+ghost use Rattle.cm_base.specs.UpTo.{up_to};
+ghost use Rattle.cm_client.specs.Progress.{Accepts, HasRead, HasAll, IsReadToEnd, IsSameRing, Stops};
 ghost use Rattle.cm_ring_core.specs.Lawful.{IsFoundEnd};
 
-use crate::consuming::Consumer;
 use crate::copying::copy_read;
 use crate::mapping::MapReader;
 use crate::waiting::Waiting;
@@ -12,6 +12,7 @@ use cm_base::gate::Gate;
 use cm_base::transfer::NoMemory;
 use cm_ring::reader::Reader;
 use cm_ring_core::view::End;
+use cm_sample::consuming::Consumer;
 use cm_sample::planned::Planned;
 use crossbeam_utils::Backoff;
 use std::alloc::Global;

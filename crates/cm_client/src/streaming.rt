@@ -8,7 +8,6 @@ ghost use Rattle.cm_sample.specs.Rule.{IsRule};
 
 use crate::boarding::put_words;
 use crate::client::{ClientSide, Reads, Streamed, run_client};
-use crate::consuming::Consumer;
 use crate::starting::Started;
 use crate::words::{WordSource, Words};
 use cm_base::gate::Gate;
@@ -16,6 +15,7 @@ use cm_base::transfer::NoMemory;
 use cm_expand::plan::Plan;
 use cm_ring::open::open;
 use cm_ring::writer::Closed;
+use cm_sample::consuming::Consumer;
 use cm_sample::planned::Planned;
 use cm_sample::rule::MungeRule;
 use crossbeam_utils::Backoff;

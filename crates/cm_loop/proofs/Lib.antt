@@ -3,3 +3,7 @@ pub mod Means
 pub mod Outputs
 pub mod States
 pub mod Works
+pub mod Filters
+pub mod Loops
+pub mod Parts
+pub mod Plans

@@ -5,3 +5,6 @@ pub mod Looped
 pub mod LoopedView
 pub mod State
 pub mod Work
+pub mod LoopText
+pub mod Parts
+pub mod Side

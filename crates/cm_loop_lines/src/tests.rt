@@ -1,10 +1,10 @@
 // Loop jobs as they are read.
-use crate::job::LoopJob;
-use crate::reading::read_loop;
 use cm_base::faults::{Fault, ReadStop};
 use cm_base::lines::split_lines;
 use cm_base::transfer::NoMemory;
 use cm_board::reading::read_board;
+use cm_job::loop_job::LoopJob;
+use cm_job::loop_reading::read_loop;
 use cm_signal::reading::read_signals;
 use std::alloc::Global;
 use std::test::Fail;

@@ -4,8 +4,8 @@ use Rattle.std.proofs.lemmas.List.{get_or_append_left}
 use Rattle.std.proofs.Math.Seq.{get_or-append_seam}
 use Rattle.cm_board.specs.Board.{BoardText}
 use Rattle.cm_signal.specs.Signals.{SignalsText}
-use Rattle.cm_run_lines.specs.RunLines.{CanRun}
-use Rattle.cm_run_lines.specs.declared.line.RunLine.{RunLine}
+use Rattle.cm_job.specs.RunLines.{CanRun}
+use Rattle.cm_job.specs.declared.line.RunLine.{RunLine}
 use Rattle.cm_run.specs.Lines.{AreRunnable, IsCut}
 
 pub is_cut : (board : BoardText) (signals : SignalsText) (all rest : List RunLine) (last : RunLine) → all ≡ rest ++ last ∷ [] → AreRunnable board signals all → IsCut board signals all rest last

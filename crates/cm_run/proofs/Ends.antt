@@ -8,20 +8,20 @@ use Rattle.cm_ring_core.specs.declared.view.RingConstants.{RingConstants}
 use Rattle.cm_ring_core.specs.declared.view.ReaderPart.{ReaderPart}
 use Rattle.cm_ring_core.specs.Lawful.{IsFoundEnd}
 use Rattle.cm_ring.specs.Roles.{Reading}
-use Rattle.cm_client.specs.Progress.{up_to, IsTaken}
+use Rattle.cm_base.specs.UpTo.{up_to}
+use Rattle.cm_client.specs.Progress.{IsTaken}
 use Rattle.cm_expand.specs.Items.{items_of, samples_of}
 use Rattle.cm_expand.specs.Plan.{PlanText}
 use Rattle.cm_expand.specs.declared.conv.Conv.{Conv}
-use Rattle.cm_run_lines.specs.declared.line.Mode.{Mode}
-use Rattle.cm_run_lines.specs.declared.line.Mode.TheVariants.{Paced, Free}
-use Rattle.cm_run.specs.Blocks.{block, ending, count_of, take_count, cut_tail, paced_block, HasOverrun, IsGoBlock}
-use Rattle.cm_run.specs.Ran.{GoRan, is_paced, ring_of, tail_after}
+use Rattle.cm_job.specs.declared.line.Mode.{Mode}
+use Rattle.cm_job.specs.declared.line.Mode.TheVariants.{Paced, Free}
+use Rattle.cm_text.specs.Blocks.{block, ending, count_of, take_count, cut_tail, paced_block, HasOverrun}
+use Rattle.cm_client.specs.RunText.{IsGoBlock}
+use Rattle.cm_run.specs.Ran.{GoRan}
+use Rattle.cm_client.specs.LineRing.{is_paced, ring_of}
+use Rattle.cm_text.specs.Ends.{tail_after}
 use Rattle.cm_text.specs.declared.tail.Tail.{Tail}
 use Rattle.cm_text.specs.declared.tail.Tail.TheVariants as tails
-
--- there is a word for each conversion
-pub length-samples : (p : PlanText) → length (samples_of p) ≡ count_of p
-length-samples p = length-map (items_of p) (λ (conv : Conv). conv.raw)
 
 tails_done : (p : PlanText) (most : Option ℕ) (count : ℕ) → tail_after p most Done count ≡ cut_tail p most
 tails_done p None count = refl

@@ -1,12 +1,4 @@
-pub mod Copied
 pub mod Cuts
 pub mod Ends
 pub mod Order
-pub mod Outs
-pub mod Places
-pub mod Joined
-pub mod Entries
-pub mod Reported
 pub mod Streams
-pub mod Wholes
-pub mod Writing

@@ -4,12 +4,14 @@ use Rattle.cm_board.specs.Board.{BoardText}
 use Rattle.cm_signal.specs.Signals.{SignalsText}
 use Rattle.cm_expand.specs.Plan.{PlanText}
 use Rattle.cm_ring.specs.Roles.{Reading}
-use Rattle.cm_run_lines.specs.Calls.{plan_at}
-use Rattle.cm_run_lines.specs.declared.line.Mode.{Mode}
-use Rattle.cm_run_lines.specs.declared.line.Mode.TheVariants.{Paced}
-use Rattle.cm_run_lines.specs.declared.line.RunLine.{RunLine}
-use Rattle.cm_run_lines.specs.declared.line.RunLine.TheVariants.{Go, Drive}
-use Rattle.cm_run.specs.Blocks.{IsBlock, IsGoBlock, IsRunText, ArePaced, PacedLaw, line_block, paced_block, run_text}
+use Rattle.cm_job.specs.Calls.{plan_at}
+use Rattle.cm_job.specs.declared.line.Mode.{Mode}
+use Rattle.cm_job.specs.declared.line.Mode.TheVariants.{Paced}
+use Rattle.cm_job.specs.declared.line.RunLine.{RunLine}
+use Rattle.cm_job.specs.declared.line.RunLine.TheVariants.{Go, Drive}
+use Rattle.cm_client.specs.RunText.{IsBlock, IsGoBlock, IsRunText, line_block, run_text}
+use Rattle.cm_run.specs.Law.{ArePaced, PacedLaw}
+use Rattle.cm_text.specs.Blocks.{paced_block}
 use Rattle.cm_run.specs.Ran.{LineRan, HaveRun}
 use Rattle.cm_run.proofs.Ends.{go_fits}
 

@@ -4,7 +4,7 @@ use Rattle.cm_cmd.specs.Command.{CmdText}
 use Rattle.cm_expand.specs.Plan.{PlanText}
 use Rattle.cm_ring_core.specs.Lawful.{first_writer}
 use Rattle.cm_test.specs.Questions.{tested}
-use Rattle.cm_run.specs.Blocks.{count_of}
+use Rattle.cm_text.specs.Blocks.{count_of}
 use Rattle.cm_run.specs.declared.driving.FeedSide.{FeedSide}
 
 -- the plan is of this command, which its subdevice accepts, it has 4,000,000 conversions at most, and there are 1,024 words at most

@@ -1,12 +1,4 @@
-pub mod Blocks
 pub mod Driving
-pub mod Going
-pub mod Idle
-pub mod Joined
-pub mod Kept
-pub mod Limits
-pub mod LineFormat
 pub mod Lines
 pub mod Ran
-pub mod SampleText
-pub mod Whole
+pub mod Law

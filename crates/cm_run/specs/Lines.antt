@@ -4,8 +4,8 @@ use Rattle.std.specs.List.{All}
 use Rattle.cm_board.specs.Board.{BoardText}
 use Rattle.cm_signal.specs.Signals.{SignalsText}
 use Rattle.cm_sub.specs.Owning.{OwnersText}
-use Rattle.cm_run_lines.specs.RunLines.{CanRun}
-use Rattle.cm_run_lines.specs.declared.line.RunLine.{RunLine}
+use Rattle.cm_job.specs.RunLines.{CanRun}
+use Rattle.cm_job.specs.declared.line.RunLine.{RunLine}
 
 -- each line can be run
 abbrev pub AreRunnable : BoardText → SignalsText → List RunLine → Type 0

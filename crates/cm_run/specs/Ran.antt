@@ -1,47 +1,18 @@
 -- What a run gives: its text, with the readers of its rings.
-use Rattle.std.specs.Prelude.{◌≡◌, ℕ, Bool, true, false, nat_lt, List, [], ◌∷◌, ◌++◌, Option, Some, None, if◌then◌else◌}
+use Rattle.std.specs.Prelude.{◌≡◌, ℕ, List, [], ◌∷◌, ◌++◌, Option, Some, None}
 use Rattle.cm_board.specs.Board.{BoardText}
 use Rattle.cm_signal.specs.Signals.{SignalsText}
-use Rattle.cm_expand.specs.Items.{samples_of}
 use Rattle.cm_expand.specs.Plan.{PlanText}
-use Rattle.cm_expand.specs.Rule.{rule_of}
 use Rattle.cm_ring_core.specs.declared.view.End.{End}
-use Rattle.cm_ring_core.specs.declared.view.EndKind.{EndKind}
-use Rattle.cm_ring_core.specs.declared.view.EndKind.TheVariants as ends
-use Rattle.cm_ring_core.specs.declared.view.RingConstants.{RingConstants}
 use Rattle.cm_ring.specs.Roles.{Reading}
+use Rattle.cm_client.specs.LineRing.{ring_of}
 use Rattle.cm_client.specs.Streamed.{HasStreamed}
-use Rattle.cm_text.specs.declared.tail.Tail.{Tail}
-use Rattle.cm_text.specs.declared.tail.Tail.TheVariants as tails
-use Rattle.cm_run_lines.specs.Calls.{plan_at}
-use Rattle.cm_run_lines.specs.declared.line.Mode.{Mode}
-use Rattle.cm_run_lines.specs.declared.line.Mode.TheVariants.{Paced, Free}
-use Rattle.cm_run_lines.specs.declared.line.RunLine.{RunLine}
-use Rattle.cm_run_lines.specs.declared.line.RunLine.TheVariants.{Go, Drive}
-use Rattle.cm_run.specs.Blocks.{block, count_of, ending, drive_block}
-
-abbrev pub is_paced : Mode → Bool
-is_paced Paced = true
-is_paced Free = false
-
--- the ring that a `go` line is opened with: its plan, its munge, its subdevice's buffer and its mode. The shared counts wrap after six samples
-abbrev pub ring_of : PlanText → Mode → RingConstants
-ring_of p mode = record { size = p.sub.buffer; rule = rule_of p.sub p.cmd; samples = samples_of p; paced = is_paced mode; base = 4294967290 }
-
--- the end line of a block whose reader found an end, where the client takes all
-abbrev pub tail_whole : PlanText → EndKind → ℕ → Tail
-tail_whole p ends.Overrun count = tails.Overrun count
-tail_whole p kind count = ending p
-
--- and where it takes fewer than there are
-abbrev pub tail_cut : ℕ → EndKind → ℕ → Tail
-tail_cut most ends.Overrun count = if nat_lt count most then tails.Overrun count else tails.Taken most
-tail_cut most kind count = tails.Taken most
-
--- the end line of a block whose reader found an end
-abbrev pub tail_after : PlanText → Option ℕ → EndKind → ℕ → Tail
-tail_after p None kind count = tail_whole p kind count
-tail_after p (Some most) kind count = if nat_lt most (count_of p) then tail_cut most kind count else tail_whole p kind count
+use Rattle.cm_text.specs.Blocks.{block, drive_block}
+use Rattle.cm_text.specs.Ends.{tail_after}
+use Rattle.cm_job.specs.Calls.{plan_at}
+use Rattle.cm_job.specs.declared.line.Mode.{Mode}
+use Rattle.cm_job.specs.declared.line.RunLine.{RunLine}
+use Rattle.cm_job.specs.declared.line.RunLine.TheVariants.{Go, Drive}
 
 -- the block of a `go` line, and the reader of its ring: it found an end, and released the samples of the block
 pub record GoRan (p : PlanText) (mode : Mode) (most : Option ℕ) (text : List ℕ) (r : Reading) : Type 0 where

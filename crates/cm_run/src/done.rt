@@ -2,10 +2,10 @@
 ghost use Rattle.std.specs.Prelude.{◌≡◌, ◌++◌, IfOk};
 ghost use Rattle.cm_run.specs.Ran.{as_list};
 
-use crate::blocks::Blocks;
 use cm_base::transfer::NoMemory;
 use cm_expand::plan::Plan;
 use cm_ring::reader::Reader;
+use cm_text::blocks::Blocks;
 
 /// A line's block, with the reader of its ring where it is a `go` line.
 #[derive(Drop)]

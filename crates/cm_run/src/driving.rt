@@ -3,7 +3,7 @@ ghost use Rattle.std.specs.Prelude.{◌≡◌, ◌≤◌, ◌++◌, [], true, le
 ghost use Rattle.cm_client.specs.Samples.{munged_plan};
 ghost use Rattle.cm_expand.specs.Items.{items_of};
 ghost use Rattle.cm_expand.specs.PlanView.{plan_text};
-ghost use Rattle.cm_run.specs.Blocks as blocks;
+ghost use Rattle.cm_text.specs.Blocks as blocks;
 ghost use Rattle.cm_run.specs.Driving.{IsDrive, IsFeedSide};
 ghost use Rattle.cm_client.specs.Streamed.{IsFresh, StreamsTo};
 ghost use Rattle.cm_sample.specs.Rule.{IsRule};
@@ -11,7 +11,6 @@ ghost use Rattle.cm_text.specs.Outputs.{output_texts};
 ghost use Rattle.cm_text.specs.Tails.{tail_text};
 
 use crate::done::LineDone;
-use crate::outputs::outputs_block;
 use cm_base::gate::Gate;
 use cm_base::transfer::NoMemory;
 use cm_client::client::{ClientSide, Reads, Streamed, run_client};
@@ -24,6 +23,7 @@ use cm_ring::open::open;
 use cm_ring::writer::Writer;
 use cm_sample::rule::MungeRule;
 use cm_test::test::Accepted;
+use cm_text::output_block::outputs_block;
 use std::alloc::Global;
 use std::sync::Wait;
 use std::thread::{Threads, join};

@@ -1,22 +1,11 @@
 // Runs with threads: the lines of a job, each streamed through a ring of its own, beside each other.
 #![tactic(auto)]
 
-pub mod blocks;
-mod bytes;
-pub mod claiming;
 pub mod done;
 pub mod driving;
-pub mod ending;
-mod gathered;
-pub mod going;
-mod kept;
+mod gone;
 pub mod law;
-mod line_format;
 pub mod lines;
-pub mod opening;
-pub mod outputs;
 pub mod running;
-pub mod sample_text;
 #[cfg(test)]
 mod tests;
-pub mod whole;

@@ -1,33 +1,27 @@
 // The lines of a job beside each other.
 ghost use Rattle.std.specs.Prelude.{◌≡◌, ◌<◌, ◌≤◌, [], length, IfOk, MatchOption};
 ghost use Rattle.std.specs.Thread.{IsSync};
-ghost use Rattle.cm_run.specs.Idle.{IsIdle};
+ghost use Rattle.cm_client.specs.Idle.{IsIdle};
 ghost use Rattle.cm_run.specs.Lines.{AreRunnable, HasPlaces, IsCut};
 ghost use Rattle.cm_run.specs.Ran.{HaveRun, LineRan, as_list};
-ghost use Rattle.cm_run_lines.specs.Calls as calls;
-ghost use Rattle.cm_run_lines.specs.RunLines.{CanRun};
+ghost use Rattle.cm_job.specs.Calls as calls;
+ghost use Rattle.cm_job.specs.RunLines.{CanRun};
 
-use crate::blocks::Blocks;
-use crate::claiming::claim_waiting;
 use crate::done::{LineDone, Ran, add_line};
 use crate::driving::{Drive, drive_line};
-use crate::going::{Go, go_line};
+use crate::gone::go_line;
 use cm_base::gate::Gate;
 use cm_base::transfer::NoMemory;
 use cm_board::board::BoardDesc;
-use cm_run_lines::line::{RunLine, plan_of};
+use cm_client::claiming::claim_waiting;
+use cm_client::going::Go;
+use cm_job::line::{RunLine, plan_of};
 use cm_signal::signals::Signals;
 use cm_sub::owners::{OwnerSeat, Owners};
+use cm_text::blocks::Blocks;
 use std::alloc::Global;
 use std::sync::Wait;
 use std::thread::{Threads, join};
-
-/// The subdevice of a line.
-pub fn sub_of(line: &RunLine) -> u32
-    ensures { result ≡ (calls.cmd_of line.now).sub }
-{
-    line.cmd().cmd().sub
-}
 
 // Streams a line, and makes its block.
 fn one_line<'a, R: Threads + Wait + Sync, G: Gate + Sync>(
@@ -66,7 +60,7 @@ fn one_line<'a, R: Threads + Wait + Sync, G: Gate + Sync>(
                 cmd,
                 values: values.as_slice(),
             };
-            drive_line(rt, alloc, sub_of(line), drive, gate, who)
+            drive_line(rt, alloc, line.sub(), drive, gate, who)
         }
     }
 }
@@ -89,20 +83,11 @@ fn line_work<'a, R: Threads + Wait + Sync, G: Gate + Sync>(
     requires line { CanRun board.now signals.now line.now }
     ensures { IfOk result (λ d. LineRan board.now signals.now line.now d.block.items (as_list d.reader)) }
 {
-    let sub = sub_of(line);
+    let sub = line.sub();
     let state = claim_waiting(rt, owners, &mut seat, sub);
     let done = one_line(rt, alloc, board, signals, line, gate, who);
     owners.give_back(&mut seat, sub, state);
     done
-}
-
-/// A seat for a line's own thread.
-pub fn another_seat(owners: &Owners, seat: &mut OwnerSeat) -> OwnerSeat
-    requires { IsIdle owners.now seat.old }
-    ensures old { IsIdle owners.now seat.new }
-    ensures new { IsIdle owners.now result }
-{
-    owners.split(seat)
 }
 
 // The last line, and those before it.

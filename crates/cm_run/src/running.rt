@@ -1,31 +1,18 @@
 // A whole run.
-ghost use Rattle.std.specs.Prelude.{◌≡◌, length, IfOk};
-ghost use Rattle.cm_run.specs.Blocks.{IsRunText};
+ghost use Rattle.std.specs.Prelude.{IfOk};
+ghost use Rattle.cm_client.specs.RunText.{IsRunText};
 ghost use Rattle.cm_run.specs.Ran.{HaveRun};
 
 use crate::done::Ran;
 use crate::lines::lines_up_to;
 use cm_base::gate::Gate;
 use cm_base::transfer::NoMemory;
-use cm_board::board::Sub;
-use cm_run_lines::job::RunJob;
+use cm_client::claiming::states_of;
+use cm_job::job::RunJob;
 use cm_sub::owners::Owners;
-use cm_sub::state::SubState;
 use std::alloc::Global;
 use std::sync::Wait;
 use std::thread::Threads;
-
-/// The first states of subdevices.
-pub fn states_of(alloc: Global, subs: &[Sub]) -> Result<Vec<SubState>, NoMemory>
-    ensures { IfOk result (λ v. length v.items ≡ length subs.now) }
-{
-    let mut states = Vec::new(alloc);
-    for i in 0..subs.len() {
-        let sub = &subs[i];
-        states.push(SubState::new(alloc, sub.channels)?)?;
-    }
-    Ok(states)
-}
 
 /// Runs the lines of a job beside each other, each with a board, a munger and a client on threads of
 /// their own over a ring of its own, and answers after all have ended: the text, and for each `go`

@@ -1,14 +1,14 @@
 // The block of a line whose words its client keeps.
-use crate::going::{Go, stream_go};
-use crate::whole::block_text;
 use cm_base::cursor::split_lines;
 use cm_base::faults::ReadStop;
 use cm_base::gate::OpenGate;
 use cm_base::transfer::NoMemory;
 use cm_board::reading::read_board;
-use cm_run_lines::job::RunJob;
-use cm_run_lines::line::{Mode, RunLine, plan_of};
-use cm_run_lines::reading::read_run;
+use cm_client::going::{Go, stream_go};
+use cm_client::whole::block_text;
+use cm_job::job::RunJob;
+use cm_job::line::{Mode, RunLine, plan_of};
+use cm_job::reading::read_run;
 use cm_signal::reading::read_signals;
 use std::alloc::Global;
 use std::sync::Wait;

@@ -1,16 +1,16 @@
 // Lines of runs as they are read.
 ghost use Rattle.std.specs.Prelude.{IfOk};
-ghost use Rattle.cm_run_lines.specs.RunLines.{AreRunLines};
+ghost use Rattle.cm_job.specs.RunLines.{AreRunLines};
 
-use crate::asked::Session;
-use crate::job::RunJob;
-use crate::line::{Access, Mode, RunLine};
-use crate::reading::{read_run, read_watch};
 use cm_base::faults::{Fault, ReadStop};
 use cm_base::lines::{Lines, split_lines};
 use cm_base::transfer::NoMemory;
 use cm_board::board::BoardDesc;
 use cm_board::reading::read_board;
+use cm_job::asked::Session;
+use cm_job::job::RunJob;
+use cm_job::line::{Access, Mode, RunLine};
+use cm_job::reading::{read_run, read_watch};
 use cm_signal::reading::read_signals;
 use cm_signal::signals::Signals;
 use std::alloc::Global;

@@ -13,10 +13,10 @@ use Rattle.cm_signal.specs.declared.wave.WaveAt.{WaveAt}
 use Rattle.cm_signal.proofs.Grown.{more_waves, silent_sound}
 use Rattle.cm_expand.proofs.Whole.{counted_most}
 use Rattle.cm_expand.specs.Rule.{is_output}
-use Rattle.cm_run_lines.specs.Calls.{length_of, length_of_all, plan_of, sub_at}
-use Rattle.cm_run_lines.specs.Job.{IsRunJob}
-use Rattle.cm_run_lines.specs.RunLines.{CanRun}
-use Rattle.cm_run_lines.specs.declared.line.RunLine.{RunLine}
+use Rattle.cm_job.specs.Calls.{length_of, length_of_all, plan_of, sub_at}
+use Rattle.cm_job.specs.Job.{IsRunJob}
+use Rattle.cm_job.specs.RunLines.{CanRun}
+use Rattle.cm_job.specs.declared.line.RunLine.{RunLine}
 use Rattle.cm_test.specs.Questions.{tested}
 use Rattle.cm_soak.specs.Job.{line_for, share, soak_board, soak_cmd, soak_job, soak_line, soak_lines, soak_signals, soak_sub, soak_wave}
 use Rattle.cm_soak.specs.Soak.{soak_parts}

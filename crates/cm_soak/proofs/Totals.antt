@@ -12,14 +12,14 @@ use Rattle.cm_ring_core.specs.declared.view.End.{End}
 use Rattle.cm_ring_core.specs.declared.view.EndKind.TheVariants as ends
 use Rattle.cm_ring.specs.Roles.{Reading}
 use Rattle.cm_client.specs.Streamed.{HasStreamed}
-use Rattle.cm_run_lines.specs.RunLines.{AreRunLines}
-use Rattle.cm_run_lines.specs.declared.line.Mode.{Mode}
-use Rattle.cm_run_lines.specs.declared.line.Mode.TheVariants.{Paced}
-use Rattle.cm_run_lines.specs.declared.line.RunLine.{RunLine}
-use Rattle.cm_run_lines.specs.declared.line.RunLine.TheVariants.{Go, Drive}
-use Rattle.cm_run.specs.Blocks.{count_of, munged_samples}
-use Rattle.cm_run.specs.Ran.{ring_of}
-use Rattle.cm_run.proofs.Reported.{length-munged, munged_by_rule}
+use Rattle.cm_job.specs.RunLines.{AreRunLines}
+use Rattle.cm_job.specs.declared.line.Mode.{Mode}
+use Rattle.cm_job.specs.declared.line.Mode.TheVariants.{Paced}
+use Rattle.cm_job.specs.declared.line.RunLine.{RunLine}
+use Rattle.cm_job.specs.declared.line.RunLine.TheVariants.{Go, Drive}
+use Rattle.cm_text.specs.Blocks.{count_of, munged_samples}
+use Rattle.cm_client.specs.LineRing.{ring_of}
+use Rattle.cm_text.proofs.Counts.{length-munged, munged_by_rule}
 use Rattle.cm_soak.specs.Sums.{AreWhole, CanSoak, HasSummed, HaveSummed, IsCut, IsSoakLine, IsWhole, LineSums, line_part, part_at}
 use Rattle.cm_soak.specs.declared.part.Part.{Part}
 

@@ -10,12 +10,12 @@ use Rattle.cm_cmd.specs.Entry.{pack}
 use Rattle.cm_signal.specs.Signals.{SignalsText}
 use Rattle.cm_signal.specs.declared.wave.Wave.TheVariants as waves
 use Rattle.cm_signal.specs.declared.wave.WaveAt.{WaveAt}
-use Rattle.cm_run_lines.specs.Job.{RunJobText}
-use Rattle.cm_run_lines.specs.declared.line.Access.{Access}
-use Rattle.cm_run_lines.specs.declared.line.Access.TheVariants.{Copy, Map}
-use Rattle.cm_run_lines.specs.declared.line.Mode.TheVariants.{Paced}
-use Rattle.cm_run_lines.specs.declared.line.RunLine.{RunLine}
-use Rattle.cm_run_lines.specs.declared.line.RunLine.TheVariants.{Go}
+use Rattle.cm_job.specs.Job.{RunJobText}
+use Rattle.cm_job.specs.declared.line.Access.{Access}
+use Rattle.cm_job.specs.declared.line.Access.TheVariants.{Copy, Map}
+use Rattle.cm_job.specs.declared.line.Mode.TheVariants.{Paced}
+use Rattle.cm_job.specs.declared.line.RunLine.{RunLine}
+use Rattle.cm_job.specs.declared.line.RunLine.TheVariants.{Go}
 
 -- ten volts below zero to ten volts above
 abbrev pub soak_range : Range

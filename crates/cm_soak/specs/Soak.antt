@@ -1,6 +1,6 @@
 -- What a soak of n conversions gives.
 use Rattle.std.specs.Prelude.{ℕ, ◌==◌, List, [], ◌∷◌, if◌then◌else◌}
-use Rattle.cm_run_lines.specs.Calls.{plan_of}
+use Rattle.cm_job.specs.Calls.{plan_of}
 use Rattle.cm_soak.specs.Job.{share, soak_board, soak_line, soak_signals}
 use Rattle.cm_soak.specs.Sums.{no_part, part_of}
 use Rattle.cm_soak.specs.Text.{summary_text}

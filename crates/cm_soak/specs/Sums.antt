@@ -6,13 +6,13 @@ use Rattle.cm_signal.specs.Signals.{SignalsText}
 use Rattle.cm_expand.specs.Plan.{PlanText}
 use Rattle.cm_ring_core.specs.declared.view.EndKind.TheVariants as ends
 use Rattle.cm_ring.specs.Roles.{Reading}
-use Rattle.cm_run.specs.Blocks.{count_of, munged_samples}
-use Rattle.cm_run.specs.Ran.{ring_of}
-use Rattle.cm_run_lines.specs.Calls.{plan_at}
-use Rattle.cm_run_lines.specs.RunLines.{CanRun}
-use Rattle.cm_run_lines.specs.declared.line.Mode.TheVariants.{Paced}
-use Rattle.cm_run_lines.specs.declared.line.RunLine.{RunLine}
-use Rattle.cm_run_lines.specs.declared.line.RunLine.TheVariants.{Go, Drive}
+use Rattle.cm_text.specs.Blocks.{count_of, munged_samples}
+use Rattle.cm_client.specs.LineRing.{ring_of}
+use Rattle.cm_job.specs.Calls.{plan_at}
+use Rattle.cm_job.specs.RunLines.{CanRun}
+use Rattle.cm_job.specs.declared.line.Mode.TheVariants.{Paced}
+use Rattle.cm_job.specs.declared.line.RunLine.{RunLine}
+use Rattle.cm_job.specs.declared.line.RunLine.TheVariants.{Go, Drive}
 use Rattle.cm_soak.specs.declared.part.Part.{Part}
 
 -- a paced line whose client takes all samples

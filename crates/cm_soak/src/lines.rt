@@ -2,7 +2,7 @@
 ghost use Rattle.std.specs.Prelude.{◌≡◌, ◌≤◌, ◌∷◌, ◌++◌, [], length, IfOk, MatchOption};
 ghost use Rattle.std.specs.List.{All};
 ghost use Rattle.std.specs.Thread.{IsSync};
-ghost use Rattle.cm_run.specs.Idle.{IsIdle};
+ghost use Rattle.cm_client.specs.Idle.{IsIdle};
 ghost use Rattle.cm_run.specs.Lines.{HasPlaces};
 ghost use Rattle.cm_soak.specs.Sums as spec;
 
@@ -11,12 +11,13 @@ use crate::summing::{Summed, soak_go};
 use cm_base::gate::Gate;
 use cm_base::transfer::NoMemory;
 use cm_board::board::BoardDesc;
+use cm_client::claiming::another_seat;
+use cm_client::claiming::claim_waiting;
+use cm_client::going::Go;
 use cm_expand::plan::Plan;
+use cm_job::line::{RunLine, plan_of};
 use cm_ring::reader::Reader;
-use cm_run::claiming::claim_waiting;
-use cm_run::going::Go;
-use cm_run::lines::{another_seat, sub_of};
-use cm_run_lines::line::{RunLine, plan_of};
+use cm_run::lines::sub_of;
 use cm_signal::signals::Signals;
 use cm_sub::owners::{OwnerSeat, Owners};
 use std::alloc::Global;

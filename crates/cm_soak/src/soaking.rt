@@ -1,7 +1,7 @@
 // A whole soak.
 ghost use Rattle.std.specs.Prelude.{◌≡◌, ◌≤◌, IfOk};
 ghost use Rattle.std.specs.List.{All};
-ghost use Rattle.cm_run.specs.Idle.{IsIdle};
+ghost use Rattle.cm_client.specs.Idle.{IsIdle};
 ghost use Rattle.cm_run.specs.Lines.{HasPlaces};
 ghost use Rattle.cm_soak.specs.Job.{soak_board, soak_job, soak_lines, soak_signals};
 ghost use Rattle.cm_soak.specs.Soak.{soak_parts};
@@ -11,8 +11,8 @@ use crate::lines::{Sums, lines_up_to};
 use crate::part::{Soaked, summary_of};
 use cm_base::gate::Gate;
 use cm_base::transfer::NoMemory;
-use cm_run::running::states_of;
-use cm_run_lines::job::RunJob;
+use cm_client::claiming::states_of;
+use cm_job::job::RunJob;
 use cm_sub::owners::{OwnerSeat, Owners};
 use std::alloc::Global;
 use std::sync::Wait;

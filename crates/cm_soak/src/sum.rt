@@ -4,7 +4,7 @@ ghost use Rattle.std.specs.List.{sum};
 
 use crate::part::Part;
 use cm_base::transfer::NoMemory;
-use cm_client::consuming::Consumer;
+use cm_sample::consuming::Consumer;
 use std::marker::Model;
 
 /// The number and the sum of samples, taken as they come. Contracts see of it the part.

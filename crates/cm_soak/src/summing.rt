@@ -1,17 +1,17 @@
 // One line's stream, whose samples are summed.
 ghost use Rattle.std.specs.Prelude.{◌≡◌, IfOk, None};
 ghost use Rattle.cm_expand.specs.PlanView.{plan_text};
-ghost use Rattle.cm_run.specs.Going.{IsGo};
+ghost use Rattle.cm_client.specs.Going.{IsGo};
 ghost use Rattle.cm_soak.specs.Sums as spec;
 
 use crate::part::Part;
 use crate::sum::Sum;
 use cm_base::gate::Gate;
 use cm_base::transfer::NoMemory;
+use cm_client::going::{Go, stream_go};
 use cm_expand::plan::Plan;
+use cm_job::line::Mode;
 use cm_ring::reader::Reader;
-use cm_run::going::{Go, stream_go};
-use cm_run_lines::line::Mode;
 use std::alloc::Global;
 use std::sync::Wait;
 use std::thread::Threads;

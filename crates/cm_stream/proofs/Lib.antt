@@ -4,3 +4,7 @@ pub mod Cuts
 pub mod Merged
 pub mod Rounds
 pub mod Streams
+pub mod Followed
+pub mod Openings
+pub mod Starts
+pub mod Wholes

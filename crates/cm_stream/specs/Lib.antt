@@ -4,3 +4,7 @@ pub mod Polled
 pub mod Scans
 pub mod Step
 pub mod Stream
+pub mod Opened
+pub mod Watched
+pub mod Watching
+pub mod Whole

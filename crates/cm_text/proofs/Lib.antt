@@ -1,3 +1,9 @@
 pub mod Codes
 pub mod Lines
 pub mod Outputs
+pub mod Copied
+pub mod Entries
+pub mod Joined
+pub mod Outs
+pub mod Writing
+pub mod Counts

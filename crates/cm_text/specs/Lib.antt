@@ -2,3 +2,10 @@ pub mod Format
 pub mod Outputs
 pub mod Scales
 pub mod Tails
+pub mod Kept
+pub mod LineFormat
+pub mod SampleText
+pub mod Joined
+pub mod Limits
+pub mod Blocks
+pub mod Ends

@@ -1,8 +1,16 @@
-// The lines of samples and of outputs, and of how a block of them ends.
+// The texts of samples and of outputs: their lines, how a block of them ends, and blocks one after another.
 #![tactic(auto)]
 
+pub mod blocks;
+mod bytes;
+pub mod ending;
+mod gathered;
+mod kept;
 mod line;
+mod line_format;
 pub mod output;
+pub mod output_block;
+pub mod sample_text;
 pub mod samples;
 pub mod scales;
 pub mod tail;

@@ -2,8 +2,8 @@ use Rattle.std.proofs.Common.{◌≡◌, IfOk, ℕ, List, sym, ap, ◌∙◌, su
 use Rattle.cm_board.specs.Board.{SubText, IsSoundSub}
 use Rattle.cm_expand.specs.PlanView.{plan_text}
 use Rattle.cm_expand.specs.Rule.{rule_of}
-use Rattle.cm_run.proofs.Reported.{munged_by_rule}
-use Rattle.cm_run.proofs.Streams.{rule_sound}
+use Rattle.cm_text.proofs.Counts.{munged_by_rule}
+use Rattle.cm_client.proofs.Rings.{rule_sound}
 use Rattle.cm_sample.specs.Rule.{IsRule, RuleText, map_from, munged_word}
 use Rattle.cm_test.specs.Questions.{tested}
 use Rattle.cm_run.proofs.driving.drive_words.Goals as goal

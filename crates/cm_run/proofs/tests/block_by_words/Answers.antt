@@ -3,13 +3,13 @@ use Rattle.std.specs.Prelude.{slice_get, IfSome}
 use Rattle.std.proofs.lemmas.Option.{slice_get_read}
 use Rattle.cm_expand.specs.PlanView.{plan_text}
 use Rattle.cm_client.specs.Streamed.{HasStreamed}
-use Rattle.cm_run_lines.specs.Calls.{plan_of}
-use Rattle.cm_run_lines.specs.Job.{RunJobText}
-use Rattle.cm_run_lines.specs.declared.line.Mode.{Mode}
-use Rattle.cm_run_lines.specs.declared.line.RunLine.TheVariants.{Go}
-use Rattle.cm_run.specs.Ran.{ring_of}
-use Rattle.cm_run.specs.Whole.{IsWhole}
-use Rattle.cm_run.proofs.Wholes.{streamed_whole}
+use Rattle.cm_job.specs.Calls.{plan_of}
+use Rattle.cm_job.specs.Job.{RunJobText}
+use Rattle.cm_job.specs.declared.line.Mode.{Mode}
+use Rattle.cm_job.specs.declared.line.RunLine.TheVariants.{Go}
+use Rattle.cm_client.specs.LineRing.{ring_of}
+use Rattle.cm_client.specs.Whole.{IsWhole}
+use Rattle.cm_client.proofs.Wholes.{streamed_whole}
 use Rattle.cm_run.proofs.tests.block_by_words.Goals as goal
 
 pub block_text-requires-clause-whole : goal.block_text-requires-clause-whole

@@ -1,5 +1,5 @@
 use Rattle.std.proofs.Common.{◌≡◌, sym, subst}
-use Rattle.cm_run_lines.specs.Job.{IsRunJob, RunJobText}
+use Rattle.cm_job.specs.Job.{IsRunJob, RunJobText}
 use Rattle.cm_soak.specs.Job.{soak_job}
 use Rattle.cm_soak.proofs.Jobs.{is_job}
 use Rattle.cm_soak.proofs.job.soak_job.Goals as goal

@@ -1,6 +1,6 @@
 use Rattle.std.proofs.Common.{◌≡◌, ◌∙◌, IfOk, List, sym, ap, subst}
 use Rattle.std.specs.List.{All}
-use Rattle.cm_run_lines.specs.Job.{RunJobText}
+use Rattle.cm_job.specs.Job.{RunJobText}
 use Rattle.cm_soak.specs.Sums as spec
 use Rattle.cm_soak.specs.declared.part.Part.{Part}
 use Rattle.cm_soak.proofs.Jobs.{job_soaks, soak_parts_are}

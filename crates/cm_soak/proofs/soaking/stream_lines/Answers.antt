@@ -1,7 +1,7 @@
 use Rattle.std.proofs.Common.{List, sym, subst}
 use Rattle.std.specs.List.{All}
-use Rattle.cm_run_lines.specs.Job.{RunJobText}
-use Rattle.cm_run_lines.specs.declared.line.RunLine.{RunLine}
+use Rattle.cm_job.specs.Job.{RunJobText}
+use Rattle.cm_job.specs.declared.line.RunLine.{RunLine}
 use Rattle.cm_soak.specs.Sums as spec
 use Rattle.cm_soak.proofs.Totals.{can_soak}
 use Rattle.cm_soak.proofs.soaking.stream_lines.Goals as goal

@@ -1,0 +1,12 @@
+pub mod Codes
+pub mod Kept
+pub mod Next
+pub mod Rooms
+pub mod Rows
+pub mod Steps
+pub mod Watched
+pub mod LoopKept
+pub mod Later
+pub mod LoopRules
+pub mod Sooner
+pub mod LoopWords

@@ -1,0 +1,15 @@
+pub mod Calls
+pub mod Forms
+pub mod Job
+pub mod JobView
+pub mod RunLines
+pub mod RunPart
+pub mod Sessions
+pub mod Totals
+pub mod WatchLines
+pub mod LoopForms
+pub mod LoopJob
+pub mod LoopJobView
+pub mod Later
+pub mod LoopPart
+pub mod Pace

@@ -1,0 +1,77 @@
+-- The session part of a loop job.
+use Rattle.std.specs.Prelude.{ℕ, Bool, true, false, not, ◌&&◌, ◌==◌, nat_le, List, [], ◌∷◌, length, Result, Ok, Err, if◌then◌else◌}
+use Rattle.cm_base.specs.Lines.{LineText}
+use Rattle.cm_base.specs.Reading.{◌>>=◌, at_line}
+use Rattle.cm_base.specs.declared.faults.Fault.{Fault}
+use Rattle.cm_base.specs.declared.faults.Fault.TheVariants.{Bad, Limit, Missing}
+use Rattle.cm_base.specs.declared.faults.Refused.{Refused}
+use Rattle.cm_board.specs.Board.{BoardText}
+use Rattle.cm_expand.specs.Items.{items_of}
+use Rattle.cm_expand.specs.Plan.{PlanText}
+use Rattle.cm_expand.specs.Rule.{is_raw}
+use Rattle.cm_signal.specs.Signals.{SignalsText}
+use Rattle.cm_job.specs.Calls.{plan_at}
+use Rattle.cm_job.specs.RunPart.{accepted}
+use Rattle.cm_job.specs.LoopForms.{asked_of}
+use Rattle.cm_job.specs.Later.{are_later}
+use Rattle.cm_job.specs.LoopJob.{LoopJobText}
+use Rattle.cm_job.specs.declared.loop_asked.Asked.{Asked}
+use Rattle.cm_job.specs.declared.loop_line.LoopLine.{LoopLine}
+
+-- the plans of a line's commands
+abbrev pub input_at : BoardText → SignalsText → LoopLine → PlanText
+input_at board signals line = plan_at board signals line.t_in line.input
+
+abbrev pub output_at : BoardText → SignalsText → LoopLine → PlanText
+output_at board signals line = plan_at board signals line.t_out line.output
+
+-- neither command asks for raw words, and both lists have the same length
+abbrev pub is_matched : LoopLine → Bool
+is_matched line = not (is_raw line.input.flags) && not (is_raw line.output.flags) && length line.input.list == length line.output.list
+
+-- a command has up to a million conversions
+abbrev pub is_short : PlanText → Bool
+is_short p = nat_le (length (items_of p)) 1000000
+
+-- the rules over both commands, in the order in which they are asked
+abbrev pub ruled : BoardText → SignalsText → LoopLine → Result LoopLine Fault
+ruled board signals line =
+    if not (is_matched line) then Err Bad
+    else (if not (is_short (input_at board signals line) && is_short (output_at board signals line)) then Err Limit
+    else (if are_later (items_of (input_at board signals line)) (items_of (output_at board signals line)) then Ok line else Err Bad))
+
+-- the line that asks for two commands, of an input and of an output, which their subdevices accept
+abbrev pub called_of : BoardText → Asked → Result LoopLine Fault
+called_of board a =
+    accepted board false a.input >>= λ input. accepted board true a.output >>= λ output.
+    Ok (record { t_in = a.t_in; t_out = a.t_out; window = a.window; input = input; output = output })
+
+-- such a line, where it keeps the rules
+abbrev pub line_of : BoardText → SignalsText → Asked → Result LoopLine Fault
+line_of board signals a = called_of board a >>= λ line. ruled board signals line
+
+-- the line that a text says
+abbrev pub loop_line : BoardText → SignalsText → LineText → Result LoopLine Fault
+loop_line board signals line = asked_of signals.horizon line >>= λ a. line_of board signals a
+
+-- a further line, which is refused where its words aren't
+abbrev pub further_line : ℕ → LineText → Result (Unit {0}) Fault
+further_line horizon line = asked_of horizon line >>= λ a. Err Limit
+
+-- no further line
+abbrev pub no_more : ℕ → List LineText → Result (Unit {0}) Refused
+no_more horizon [] = Ok tt
+no_more horizon (line ∷ rest) = at_line line.number (further_line horizon line)
+
+-- the one line of these, or Missing at the end of the text
+abbrev pub only_line : BoardText → SignalsText → ℕ → List LineText → Result LoopLine Refused
+only_line board signals end [] = Err (record { line = end; cause = Missing })
+only_line board signals end (first ∷ rest) = at_line first.number (loop_line board signals first) >>= λ line. no_more signals.horizon rest >>= λ none. Ok line
+
+-- the job of a line over a board and signals
+abbrev pub job_of : BoardText → SignalsText → LoopLine → LoopJobText
+job_of board signals line = record { board = board; signals = signals; t_in = line.t_in; t_out = line.t_out; window = line.window; input = line.input; output = line.output }
+
+-- the job that lines say over a board and signals
+abbrev pub loop_of : BoardText → SignalsText → ℕ → List LineText → Result LoopJobText Refused
+loop_of board signals end lines = only_line board signals end lines >>= λ line. Ok (job_of board signals line)

@@ -1,0 +1,236 @@
+// What the words of a line ask, before its rules are asked.
+ghost use Rattle.std.specs.Prelude.{◌≡◌, ◌≤◌, drop, length, map, IfOk};
+ghost use Rattle.std.specs.List.{slice_split};
+ghost use Rattle.cm_base.specs.LineView.{line_view};
+ghost use Rattle.cm_base.specs.ReadStop.{Gives};
+ghost use Rattle.cm_base.specs.Reading.{at_line, seen};
+ghost use Rattle.cm_cmd.specs.ListText.{is_byte};
+ghost use Rattle.cm_job.specs.Forms as spec;
+
+use crate::line::{Access, Mode};
+use cm_base::faults::{Fault, ReadStop};
+use cm_base::lines::Line;
+use cm_base::lists::Times;
+use cm_base::parts::after_key;
+use cm_base::words::{at_line, time_in, times_in};
+use cm_cmd::command::Cmd;
+use cm_cmd::reading::read_cmd;
+use std::alloc::{AllocError, Global};
+
+// The most samples that a client can ask for.
+const MOST_TAKEN: u64 = 1_000_000;
+
+// The greatest number of 18 digits, which each number has at most.
+const ANY_NUMBER: u64 = 999_999_999_999_999_999;
+
+/// What the words of a line ask.
+#[derive(Drop)]
+pub enum Asked {
+    Go {
+        mode: Mode,
+        access: Access,
+        t0: u64,
+        take: Option<u64>,
+        cmd: Cmd,
+    },
+    Drive {
+        t0: u64,
+        numbers: Times,
+        cmd: Cmd,
+    },
+}
+
+/// The session that a line stands in, which says what the line may ask.
+#[derive(Clone, Copy)]
+pub enum Session {
+    /// It takes all that the forms of the lines say.
+    Run,
+    /// It takes lines that read an input paced and to the end of its samples, in scans that the
+    /// subdevice's buffer holds.
+    Watch,
+}
+
+/// The forms of lines by their first words.
+#[derive(Clone, Copy)]
+pub enum Key {
+    Go,
+    Drive,
+}
+
+/// What the words of a line ask, or the first fault of them from left to right.
+pub(crate) fn read_asked(alloc: Global, horizon: u64, line: &Line<'_>) -> Result<Asked, ReadStop>
+    ensures value { Gives (λ asked. asked) result (at_line line.now.number (spec.asked_of horizon (line_view line.now))) }
+    ensures few { IfOk result (λ asked. length (spec.asked_cmd asked).list ≤ 256) }
+{
+    match at_line(line.number, line_key(line))? {
+        Key::Go => read_go(alloc, horizon, line),
+        Key::Drive => read_drive(alloc, horizon, line),
+    }
+}
+
+// The form of a line.
+fn line_key(line: &Line<'_>) -> Result<Key, Fault>
+    ensures { result ≡ spec.line_key (line_view line.now) }
+{
+    if line.bad {
+        return Err(Fault::BadLine);
+    }
+    match line.words.as_slice() {
+        [word, ..] => key_of(word),
+        _ => Err(Fault::BadLine),
+    }
+}
+
+// The form that a word names.
+fn key_of(word: &[u8]) -> Result<Key, Fault>
+    ensures { result ≡ spec.key_named word.now }
+{
+    if word == b"go".as_slice() {
+        Ok(Key::Go)
+    } else if word == b"drive".as_slice() {
+        Ok(Key::Drive)
+    } else {
+        Err(Fault::Unknown)
+    }
+}
+
+// What `go MODE READER CALL TAKE COMMAND` asks.
+fn read_go(alloc: Global, horizon: u64, line: &Line<'_>) -> Result<Asked, ReadStop>
+    ensures value { Gives (λ asked. asked) result (at_line line.now.number (spec.go_line horizon (line_view line.now))) }
+    ensures few { IfOk result (λ asked. length (spec.asked_cmd asked).list ≤ 256) }
+{
+    let (mode, access, t0, take) = at_line(
+        line.number,
+        go_head(horizon, after_key(line.words.as_slice())),
+    )?;
+    let cmd = read_cmd(alloc, line, 5)?;
+    Ok(Asked::Go {
+        mode,
+        access,
+        t0,
+        take,
+        cmd,
+    })
+}
+
+// What stands between the key and the command of a `go` line.
+fn go_head(horizon: u64, words: &[&[u8]]) -> Result<(Mode, Access, u64, Option<u64>), Fault>
+    ensures { result ≡ spec.go_head horizon (map (λ word. word.now) words.now) }
+{
+    let (mode, access, t0, take) = four_before_command(words)?;
+    let mode = mode_of(mode)?;
+    let access = access_of(access)?;
+    let t0 = time_in(t0, 0, horizon)?;
+    let take = take_of(take)?;
+    Ok((mode, access, t0, take))
+}
+
+// The four words before the eight of a command.
+fn four_before_command<'a>(
+    words: &[&'a [u8]],
+) -> Result<(&'a [u8], &'a [u8], &'a [u8], &'a [u8]), Fault>
+    ensures { seen (λ w. (w.0.now, w.1.now, w.2.now, w.3.now)) result ≡ spec.four_before_command (map (λ word. word.now) words.now) }
+{
+    match words {
+        [v, w, x, y, command @ ..] => {
+            if command.len() == 8 {
+                Ok((v, w, x, y))
+            } else {
+                Err(Fault::BadLine)
+            }
+        }
+        _ => Err(Fault::BadLine),
+    }
+}
+
+// What the board does where the buffer is full.
+fn mode_of(word: &[u8]) -> Result<Mode, Fault>
+    ensures { result ≡ spec.mode_of word.now }
+{
+    if word == b"paced".as_slice() {
+        Ok(Mode::Paced)
+    } else if word == b"free".as_slice() {
+        Ok(Mode::Free)
+    } else {
+        Err(Fault::Unknown)
+    }
+}
+
+// How the client gets at the samples.
+fn access_of(word: &[u8]) -> Result<Access, Fault>
+    ensures { result ≡ spec.access_of word.now }
+{
+    if word == b"copy".as_slice() {
+        Ok(Access::Copy)
+    } else if word == b"map".as_slice() {
+        Ok(Access::Map)
+    } else {
+        Err(Fault::Unknown)
+    }
+}
+
+// How many samples the client takes: all, or up to a million.
+fn take_of(word: &[u8]) -> Result<Option<u64>, Fault>
+    ensures { result ≡ spec.take_of word.now }
+{
+    if word == b"all".as_slice() {
+        Ok(None)
+    } else {
+        Ok(Some(time_in(word, 1, MOST_TAKEN)?))
+    }
+}
+
+// What `drive CALL VALUES COMMAND` asks.
+fn read_drive(alloc: Global, horizon: u64, line: &Line<'_>) -> Result<Asked, ReadStop>
+    ensures value { Gives (λ asked. asked) result (at_line line.now.number (spec.drive_line horizon (line_view line.now))) }
+    ensures few { IfOk result (λ asked. length (spec.asked_cmd asked).list ≤ 256) }
+{
+    let (t0, values) = at_line(
+        line.number,
+        drive_head(horizon, after_key(line.words.as_slice())),
+    )?;
+    let numbers = read_numbers(alloc, line.number, values)?;
+    let cmd = read_cmd(alloc, line, 3)?;
+    Ok(Asked::Drive { t0, numbers, cmd })
+}
+
+// The time and the word of the values of a `drive` line.
+fn drive_head<'a>(horizon: u64, words: &[&'a [u8]]) -> Result<(u64, &'a [u8]), Fault>
+    ensures { seen (λ w. (w.0, w.1.now)) result ≡ spec.drive_head horizon (map (λ word. word.now) words.now) }
+{
+    let (t0, values) = two_before_command(words)?;
+    let t0 = time_in(t0, 0, horizon)?;
+    Ok((t0, values))
+}
+
+// The two words before the eight of a command.
+fn two_before_command<'a>(words: &[&'a [u8]]) -> Result<(&'a [u8], &'a [u8]), Fault>
+    ensures { seen (λ w. (w.0.now, w.1.now)) result ≡ spec.two_before_command (map (λ word. word.now) words.now) }
+{
+    match words {
+        [v, w, command @ ..] => {
+            if command.len() == 8 {
+                Ok((v, w))
+            } else {
+                Err(Fault::BadLine)
+            }
+        }
+        _ => Err(Fault::BadLine),
+    }
+}
+
+// The numbers that a word says, with commas between them.
+fn read_numbers(alloc: Global, line: u32, text: &[u8]) -> Result<Times, ReadStop>
+    ensures { Gives (λ numbers. numbers) result (at_line line (spec.numbers_of text.now)) }
+{
+    let parts = parts_of(alloc, text)?;
+    let numbers = times_in(alloc, line, &parts, ANY_NUMBER)?;
+    Ok(Times::new(numbers))
+}
+
+// The parts of a word, with commas between them.
+fn parts_of<'a>(alloc: Global, text: &'a [u8]) -> Result<Vec<&'a [u8]>, AllocError>
+    ensures { IfOk result (λ parts. map (λ part. part.now) parts.items ≡ slice_split (is_byte 44) text.now) }
+{
+    text.split(|byte| *byte == b',').collect(alloc)
+}

@@ -1,0 +1,165 @@
+// What the words of a `loop` line ask, before its rules are asked.
+ghost use Rattle.std.specs.Prelude.{◌≡◌, ◌≤◌, drop, length, map, take, IfOk};
+ghost use Rattle.cm_base.specs.LineView.{line_view};
+ghost use Rattle.cm_base.specs.ReadStop.{Gives};
+ghost use Rattle.cm_base.specs.Reading.{at_line, seen};
+ghost use Rattle.cm_cmd.specs.CommandText.{command_of};
+ghost use Rattle.cm_job.specs.LoopForms as spec;
+
+use cm_base::faults::{Fault, ReadStop};
+use cm_base::lines::Line;
+use cm_base::parts::{after_key, begins};
+use cm_base::words::{at_line, number_in, time_in};
+use cm_cmd::command::Cmd;
+use cm_cmd::reading::read_cmd;
+use cm_signal::signals::Signals;
+use std::alloc::{AllocError, Global};
+
+// The most samples of a list entry in a mean.
+const MOST_WINDOW: u32 = 16;
+
+// How many words a command has, and where the two commands of a line stand.
+const COMMAND: usize = 8;
+
+const INPUT_AT: usize = 4;
+
+const OUTPUT_AT: usize = INPUT_AT + COMMAND;
+
+/// What the words of a line ask.
+#[derive(Drop)]
+pub struct Asked {
+    pub t_in: u64,
+    pub t_out: u64,
+    pub window: u32,
+    pub input: Cmd,
+    pub output: Cmd,
+}
+
+/// What the words of a line ask over signals, or the first fault of them from left to right.
+pub(crate) fn read_asked(
+    alloc: Global,
+    signals: &Signals,
+    line: &Line<'_>,
+) -> Result<Asked, ReadStop>
+    ensures value { Gives (λ asked. asked) result (at_line line.now.number (spec.asked_of signals.now.horizon (line_view line.now))) }
+    ensures input { IfOk result (λ asked. length asked.input.list ≤ 256) }
+    ensures output { IfOk result (λ asked. length asked.output.list ≤ 256) }
+{
+    read_words(alloc, horizon_of(signals), line)
+}
+
+// The last nanosecond of signals.
+fn horizon_of(signals: &Signals) -> u64
+    ensures { result ≡ signals.now.horizon }
+{
+    signals.horizon
+}
+
+// What the words of a line ask whose times are up to a horizon.
+fn read_words(alloc: Global, horizon: u64, line: &Line<'_>) -> Result<Asked, ReadStop>
+    ensures value { Gives (λ asked. asked) result (at_line line.now.number (spec.asked_of horizon (line_view line.now))) }
+    ensures input { IfOk result (λ asked. length asked.input.list ≤ 256) }
+    ensures output { IfOk result (λ asked. length asked.output.list ≤ 256) }
+{
+    let (t_in, t_out, window) = at_line(line.number, loop_head(horizon, line))?;
+    let input = read_input(alloc, line)?;
+    let output = read_cmd(alloc, line, OUTPUT_AT)?;
+    Ok(Asked {
+        t_in,
+        t_out,
+        window,
+        input,
+        output,
+    })
+}
+
+// The times of both calls and the window of a line.
+fn loop_head(horizon: u64, line: &Line<'_>) -> Result<(u64, u64, u32), Fault>
+    ensures { result ≡ spec.loop_head horizon (line_view line.now) }
+{
+    let words = after_loop(line)?;
+    let (t_in, t_out, window) = three_before_commands(words)?;
+    let t_in = time_in(t_in, 0, horizon)?;
+    let t_out = time_in(t_out, 0, horizon)?;
+    let window = number_in(window, 1, MOST_WINDOW)?;
+    Ok((t_in, t_out, window))
+}
+
+// The words after the one word that may begin the line.
+fn after_loop<'a, 'b>(line: &'b Line<'a>) -> Result<&'b [&'a [u8]], Fault>
+    ensures { seen (λ words. map (λ word. word.now) words.now) result ≡ spec.after_loop (line_view line.now) }
+{
+    if line.bad {
+        Err(Fault::BadLine)
+    } else if begins(b"loop", line) {
+        Ok(after_key(line.words.as_slice()))
+    } else {
+        Err(Fault::Missing)
+    }
+}
+
+// The three words before the eight of each command.
+fn three_before_commands<'a>(words: &[&'a [u8]]) -> Result<(&'a [u8], &'a [u8], &'a [u8]), Fault>
+    ensures { seen (λ w. (w.0.now, w.1.now, w.2.now)) result ≡ spec.three_before_commands (map (λ word. word.now) words.now) }
+{
+    match words {
+        [v, w, x, commands @ ..] => {
+            if commands.len() == 16 {
+                Ok((v, w, x))
+            } else {
+                Err(Fault::BadLine)
+            }
+        }
+        _ => Err(Fault::BadLine),
+    }
+}
+
+// The input's command, which stands before the output's.
+fn read_input(alloc: Global, line: &Line<'_>) -> Result<Cmd, ReadStop>
+    ensures value { Gives (λ cmd. cmd) result (at_line line.now.number (command_of (take 8 (drop 4 (line_view line.now).words)))) }
+    ensures few { IfOk result (λ cmd. length cmd.list ≤ 256) }
+{
+    let words = words_of(alloc, line, INPUT_AT, COMMAND)?;
+    read_cmd(alloc, &words, 0)
+}
+
+// So many words of a line from a place on, as a line of their own with the same number.
+#[tactic(auto, using(crate::proofs::LoopWords::clean_part, crate::proofs::LoopWords::part_seen))]
+fn words_of<'a>(
+    alloc: Global,
+    line: &Line<'a>,
+    from: usize,
+    count: usize,
+) -> Result<Line<'a>, AllocError>
+    ensures words { IfOk result (λ part. (line_view part).words ≡ take count (drop from (line_view line.now).words)) }
+    ensures number { IfOk result (λ part. part.number ≡ line.now.number) }
+{
+    let words = copied(alloc, words_between(line, from, count))?;
+    Ok(Line {
+        number: line.number,
+        words,
+        bad: line.bad,
+    })
+}
+
+// So many words of a line from a place on.
+#[tactic(auto, using(crate::proofs::LoopWords::part_between))]
+fn words_between<'a, 'b>(line: &'b Line<'a>, from: usize, count: usize) -> &'b [&'a [u8]]
+    ensures { result.now ≡ take count (drop from line.now.words.items) }
+{
+    let from = from.min(line.words.len());
+    let words = &line.words[from..];
+    let count = count.min(words.len());
+    &words[..count]
+}
+
+// The same words in a list of their own.
+fn copied<'a>(alloc: Global, words: &[&'a [u8]]) -> Result<Vec<&'a [u8]>, AllocError>
+    ensures { IfOk result (λ copy. copy.items ≡ words.now) }
+{
+    let mut copy = Vec::new(alloc);
+    for word in words {
+        copy.push(*word)?;
+    }
+    Ok(copy)
+}

@@ -1,4 +1,0 @@
-pub mod Filters
-pub mod Loops
-pub mod Plans
-pub mod Parts

@@ -1,3 +1,0 @@
-pub mod LoopText
-pub mod Parts
-pub mod Side

@@ -1,9 +1,0 @@
-pub mod Calls
-pub mod Forms
-pub mod Job
-pub mod JobView
-pub mod RunLines
-pub mod RunPart
-pub mod Sessions
-pub mod Totals
-pub mod WatchLines

@@ -1,0 +1,11 @@
+use Rattle.std.proofs.Common.{◌≡◌, length}
+use Rattle.cm_stream.specs.Watched.{AreRead, AreSame}
+use Rattle.cm_stream.proofs.client.read_all.Given as goal
+
+-- the lines are those of all samples that the streams have given
+abbrev pub invariant-loop : goal.invariant-loop
+invariant-loop g l = record {
+  read : AreRead l.merge.streams l.texts;
+  watcher : l.watcher ≡ length l.events.lines.items;
+  same : AreSame l.initial.merge.streams l.merge.streams l.initial.texts l.texts;
+}

@@ -1,0 +1,182 @@
+// The threads of the watched lines.
+ghost use Rattle.std.specs.Prelude.{◌≡◌, ◌+◌, ◌<◌, ◌≤◌, ◌^◌, [], length, IfOk, IsErr, MatchOption};
+ghost use Rattle.std.specs.List.{All};
+ghost use Rattle.std.specs.Thread.{IsSync};
+ghost use Rattle.cm_client.specs.Idle.{IsIdle};
+ghost use Rattle.cm_stream.specs.Watched.{AreRead, HasWatched};
+
+use crate::client::{Watched, read_scans};
+use crate::events::WatchEvents;
+use crate::side::BoardSide;
+use cm_base::gate::Gate;
+use cm_base::transfer::NoMemory;
+use cm_client::claiming::{another_seat, claim_waiting};
+use cm_client::munging::munge_waiting;
+use cm_client::paced::PacedBoard;
+use cm_client::starting::Started;
+use cm_client::waiting::Relay;
+use cm_client::words::Words;
+use cm_ring::munger::Munger;
+use cm_sample::planned::Planned;
+use cm_sub::owners::{OwnerSeat, Owners};
+use std::alloc::Global;
+use std::sync::Wait;
+use std::thread::{Threads, join};
+
+// A board's thread: it has its subdevice while it puts its words.
+fn board_thread<R: Wait + Sync, P: Planned, W: Words, G: Gate>(
+    rt: &R,
+    owners: &Owners,
+    mut seat: OwnerSeat,
+    sub: u32,
+    board: PacedBoard<P, W>,
+    waiting: Relay<'_>,
+    gate: &G,
+    who: u32,
+)
+    requires idle { IsIdle owners.now seat }
+    requires place { sub < length owners.now.channels }
+{
+    let state = claim_waiting(rt, owners, &mut seat, sub);
+    board.put_all(rt, waiting, gate, who);
+    owners.give_back(&mut seat, sub, state);
+}
+
+// Takes the last side.
+fn last_side<P: Planned, W: Words>(
+    owners: &Owners,
+    sides: &mut Vec<BoardSide<P, W>>,
+) -> Option<BoardSide<P, W>>
+    requires { All (λ side. side.sub < length owners.now.channels) sides.old.items }
+    ensures { MatchOption result (sides.old.items ≡ []) (λ side.
+        (side.sub < length owners.now.channels)
+        × All (λ side. side.sub < length owners.now.channels) sides.new.items
+        × (length sides.old.items ≡ length sides.new.items + 1)) }
+{
+    // It is here for the contract alone: the owners have each side's place.
+    let _ = owners;
+    sides.pop()
+}
+
+/// Starts a board's thread and a munger's for each side, and reads all streams to their ends in this
+/// one. All threads have ended when it returns. It gives NoMemory, too, where a thread can't be made,
+/// and has asked every ring for the stop then.
+#[cycle(sides)]
+pub(crate) fn watch_sides<
+    'a,
+    R: Threads + Wait + Sync,
+    P: Planned + Send + Sync,
+    W: Words + Send,
+    G: Gate + Sync,
+>(
+    rt: &R,
+    alloc: Global,
+    owners: &Owners,
+    mut seat: OwnerSeat,
+    mut sides: Vec<BoardSide<P, W>>,
+    client: Watched<'a, P>,
+    events: &WatchEvents,
+    gate: &G,
+) -> Result<Watched<'a, P>, NoMemory>
+    requires idle { IsIdle owners.now seat }
+    requires sides { All (λ side. side.sub < length owners.now.channels) sides.items }
+    requires few { length sides.items < 2 ^ 32 }
+    requires events { length sides.items ≤ length events.now.lines.items }
+    requires streams { length client.merge.streams ≤ length events.now.lines.items }
+    requires read { AreRead client.merge.streams client.texts.items }
+    ensures { IfOk result (λ w. HasWatched client.entry.merge.streams w.merge.streams client.entry.texts.items w.texts.items) }
+{
+    let Some(side) = last_side(owners, &mut sides) else {
+        return read_scans(rt, alloc, client, events, gate);
+    };
+    let theirs = another_seat(owners, &mut seat);
+    let who = sides.len() as u32;
+    let waiting = events.board(sides.len());
+    let BoardSide { board, munger, sub } = side;
+    let started = Started::new();
+    let writing = &started;
+    let (_, watched) = join(
+        rt,
+        move ||
+            requires { IsIdle owners.now theirs × (sub < length owners.now.channels) }
+        {
+            writing.report();
+            board_thread(rt, owners, theirs, sub, board, waiting, gate, who)
+        },
+        move || -> Result<Watched<'_, P>, NoMemory>
+            requires { IsSync R.row × IsSync G.row × IsIdle owners.now seat × All (λ side. side.sub < length owners.now.channels) sides.items × (length sides.items < 2 ^ 32) × (length sides.items < length events.now.lines.items) × (length client.merge.streams ≤ length events.now.lines.items) × AreRead client.merge.streams client.texts.items }
+            ensures { IfOk result (λ w. HasWatched client.entry.merge.streams w.merge.streams client.entry.texts.items w.texts.items) }
+        {
+            munge_beside(
+                rt, alloc, owners, seat, sides, munger, writing, client, events, gate,
+            )
+        },
+    );
+    watched
+}
+
+// Starts the munger's thread of a line whose board's thread has started, and goes on to the others.
+#[cycle(sides)]
+fn munge_beside<
+    'a,
+    R: Threads + Wait + Sync,
+    P: Planned + Send + Sync,
+    W: Words + Send,
+    G: Gate + Sync,
+>(
+    rt: &R,
+    alloc: Global,
+    owners: &Owners,
+    seat: OwnerSeat,
+    sides: Vec<BoardSide<P, W>>,
+    munger: Munger<P>,
+    writing: &Started,
+    client: Watched<'a, P>,
+    events: &WatchEvents,
+    gate: &G,
+) -> Result<Watched<'a, P>, NoMemory>
+    requires idle { IsIdle owners.now seat }
+    requires sides { All (λ side. side.sub < length owners.now.channels) sides.items }
+    requires few { length sides.items < 2 ^ 32 }
+    requires events { length sides.items < length events.now.lines.items }
+    requires streams { length client.merge.streams ≤ length events.now.lines.items }
+    requires read { AreRead client.merge.streams client.texts.items }
+    ensures { IfOk result (λ w. HasWatched client.entry.merge.streams w.merge.streams client.entry.texts.items w.texts.items) }
+{
+    if !writing.wait() {
+        return stopped(client, events);
+    }
+    let waiting = events.munger(sides.len());
+    let started = Started::new();
+    let munging = &started;
+    let (_, watched) = join(
+        rt,
+        move || {
+            munging.report();
+            let _munger = munge_waiting(rt, munger, waiting);
+        },
+        move || -> Result<Watched<'_, P>, NoMemory>
+            requires { IsSync R.row × IsSync G.row × IsIdle owners.now seat × All (λ side. side.sub < length owners.now.channels) sides.items × (length sides.items < 2 ^ 32) × (length sides.items ≤ length events.now.lines.items) × (length client.merge.streams ≤ length events.now.lines.items) × AreRead client.merge.streams client.texts.items }
+            ensures { IfOk result (λ w. HasWatched client.entry.merge.streams w.merge.streams client.entry.texts.items w.texts.items) }
+        {
+            if !munging.wait() {
+                return stopped(client, events);
+            }
+            watch_sides(rt, alloc, owners, seat, sides, client, events, gate)
+        },
+    );
+    watched
+}
+
+// Asks every ring for the stop, since a thread can't be made.
+fn stopped<'a, P: Planned>(
+    client: Watched<'a, P>,
+    events: &WatchEvents,
+) -> Result<Watched<'a, P>, NoMemory>
+    ensures { IsErr result }
+{
+    let mut client = client;
+    client.merge.stop_all();
+    events.wake_boards();
+    Err(NoMemory)
+}

@@ -1,0 +1,120 @@
+// The one client of all watched lines.
+ghost use Rattle.std.specs.Prelude.{◌≡◌, ◌<◌, ◌≤◌, length, IfOk};
+ghost use Rattle.cm_stream.specs.Watched.{AreRead, AreSame, CanPut, HasPut, HasWatched};
+
+use crate::events::WatchEvents;
+use crate::merge::{Merge, MergeStep};
+use crate::watcher::Watcher;
+use cm_base::gate::Gate;
+use cm_base::transfer::NoMemory;
+use cm_sample::planned::Planned;
+use cm_text::sample_text::SampleText;
+use std::alloc::Global;
+use std::sync::Wait;
+
+/// What a client has read of its streams: the lines of the samples of each, and the streams.
+#[derive(Drop)]
+pub struct Watched<'a, P: Planned> {
+    pub texts: Vec<SampleText<'a>>,
+    pub merge: Merge<P>,
+}
+
+// Appends the lines of a source's next samples.
+fn put_lines(texts: &mut [SampleText<'_>], source: u32, words: &[u32]) -> Result<(), NoMemory>
+    requires { CanPut source words.now texts.old }
+    ensures { IfOk result (λ _. HasPut source words.now texts.old texts.new) }
+{
+    texts[source as usize].put(words)
+}
+
+// How many samples of further scans are taken at once.
+const PIECE: u32 = 256;
+
+// Appends the lines of a source's further whole scans that have come, a piece at most, by way of `room`.
+fn put_more<P: Planned, G: Gate>(
+    merge: &mut Merge<P>,
+    texts: &mut [SampleText<'_>],
+    room: &mut Vec<u32>,
+    watcher: &mut Watcher<'_>,
+    source: u32,
+    gate: &G,
+) -> Result<(), NoMemory>
+    requires source { source < length merge.old.streams }
+    requires watcher { source < watcher.old }
+    requires read { AreRead merge.old.streams texts.old }
+    ensures watcher { watcher.new ≡ watcher.old }
+    ensures read { IfOk result (λ _. AreRead merge.new.streams texts.new) }
+    ensures same { IfOk result (λ _. AreSame merge.old.streams merge.new.streams texts.old texts.new) }
+{
+    room.clear();
+    let scans = merge.append_scans(source, room, PIECE)?;
+    watcher.release(source, room.len());
+    put_lines(texts, source, room)?;
+    pass_each(gate, source, scans);
+    Ok(())
+}
+
+// Passes the gate's point once for each of so many scans.
+fn pass_each<G: Gate>(gate: &G, source: u32, scans: u32) {
+    for _ in 0..scans {
+        gate.pass(source, 4);
+    }
+}
+
+// Reads all streams to their ends.
+fn read_all<R: Wait + Sync, P: Planned, G: Gate>(
+    rt: &R,
+    alloc: Global,
+    merge: &mut Merge<P>,
+    texts: &mut [SampleText<'_>],
+    events: &WatchEvents,
+    gate: &G,
+) -> Result<(), NoMemory>
+    requires events { length merge.old.streams ≤ length events.now.lines.items }
+    requires read { AreRead merge.old.streams texts.old }
+    ensures { IfOk result (λ _. HasWatched merge.old.streams merge.new.streams texts.old texts.new) }
+{
+    let mut room = Vec::new(alloc);
+    let mut watcher = Watcher::new(alloc, events)?;
+    for _ in rt.forever() {
+        match merge.step() {
+            MergeStep::Given(source, scan) => {
+                watcher.release(source, scan.words.len());
+                put_lines(texts, source, &scan.words)?;
+                gate.pass(source, 4);
+                put_more(merge, texts, &mut room, &mut watcher, source, gate)?;
+            }
+            MergeStep::Ended => return Ok(()),
+            MergeStep::Waiting => watcher.wait(rt),
+            MergeStep::NoMemory(_) => return Err(NoMemory),
+        }
+    }
+    unreachable!()
+}
+
+/// Reads all streams to their ends, in turn: a scan of one, and those that stand after it. The lines of
+/// the samples are made as they come. Where memory runs out, it asks every ring for the stop.
+pub(crate) fn read_scans<'a, R: Wait + Sync, P: Planned, G: Gate>(
+    rt: &R,
+    alloc: Global,
+    client: Watched<'a, P>,
+    events: &WatchEvents,
+    gate: &G,
+) -> Result<Watched<'a, P>, NoMemory>
+    requires events { length client.merge.streams ≤ length events.now.lines.items }
+    requires read { AreRead client.merge.streams client.texts.items }
+    ensures { IfOk result (λ w. HasWatched client.entry.merge.streams w.merge.streams client.entry.texts.items w.texts.items) }
+{
+    let Watched {
+        mut texts,
+        mut merge,
+    } = client;
+    match read_all(rt, alloc, &mut merge, &mut texts, events, gate) {
+        Ok(()) => Ok(Watched { texts, merge }),
+        Err(NoMemory) => {
+            merge.stop_all();
+            events.wake_boards();
+            Err(NoMemory)
+        }
+    }
+}

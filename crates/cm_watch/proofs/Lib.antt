@@ -1,4 +1,0 @@
-pub mod Followed
-pub mod Openings
-pub mod Starts
-pub mod Wholes

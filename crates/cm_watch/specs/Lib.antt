@@ -1,4 +1,0 @@
-pub mod Opened
-pub mod Watched
-pub mod Watching
-pub mod Whole

@@ -1,8 +1,0 @@
--- A watch job.
-use Rattle.std.specs.List.{All}
-use Rattle.cm_run_lines.specs.Job.{RunJobText}
-use Rattle.cm_run_lines.specs.WatchLines.{IsWatched}
-
--- a run job whose lines can be watched
-abbrev pub IsWatchJob : RunJobText → Type 0
-IsWatchJob job = All (IsWatched job.board) job.lines
