@@ -14,9 +14,5 @@ pub mod paced;
 pub mod reading;
 pub mod starting;
 pub mod streaming;
-#[cfg(test)]
-mod tests;
 pub mod waiting;
-#[cfg(test)]
-mod waiting_tests;
 pub mod words;

@@ -6,6 +6,4 @@ pub mod law;
 pub mod looped;
 pub mod rule;
 pub mod state;
-#[cfg(test)]
-mod tests;
 pub mod work;

@@ -7,5 +7,3 @@ pub mod asked;
 pub mod job;
 pub mod line;
 pub mod reading;
-#[cfg(test)]
-mod tests;

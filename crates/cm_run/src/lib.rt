@@ -17,6 +17,4 @@ pub mod opening;
 pub mod outputs;
 pub mod running;
 pub mod sample_text;
-#[cfg(test)]
-mod tests;
 pub mod whole;

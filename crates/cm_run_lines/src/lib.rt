@@ -6,6 +6,4 @@ pub mod asked;
 pub mod job;
 pub mod line;
 pub mod reading;
-#[cfg(test)]
-mod tests;
 pub mod totals;

@@ -11,5 +11,3 @@ mod round;
 pub mod scan;
 pub mod step;
 pub mod stream;
-#[cfg(test)]
-mod tests;

@@ -6,5 +6,3 @@ pub mod output;
 pub mod samples;
 pub mod scales;
 pub mod tail;
-#[cfg(test)]
-mod tests;
