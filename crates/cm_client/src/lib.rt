@@ -16,10 +16,6 @@ pub mod paced;
 pub mod reading;
 pub mod starting;
 pub mod streaming;
-#[cfg(test)]
-mod tests;
 pub mod waiting;
-#[cfg(test)]
-mod waiting_tests;
 pub mod whole;
 pub mod words;

@@ -5,5 +5,3 @@ pub mod board;
 mod filling;
 pub mod law;
 mod requests;
-#[cfg(test)]
-mod tests;

@@ -5,5 +5,3 @@ mod bits;
 pub mod insn;
 pub mod law;
 mod site;
-#[cfg(test)]
-mod tests;

@@ -11,7 +11,5 @@ mod rings;
 pub mod rule;
 pub mod side;
 pub mod state;
-#[cfg(test)]
-mod tests;
 mod text;
 pub mod work;

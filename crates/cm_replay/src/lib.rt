@@ -28,8 +28,6 @@ pub mod seat;
 pub mod setting;
 pub mod storing;
 pub mod testing;
-#[cfg(test)]
-mod tests;
 pub mod text;
 pub mod trying;
 pub mod writing;

@@ -7,6 +7,4 @@ pub mod open;
 mod place;
 pub mod reader;
 mod steps;
-#[cfg(test)]
-mod tests;
 pub mod writer;

@@ -7,6 +7,4 @@ pub mod kinds;
 pub mod law;
 pub mod local;
 pub mod rule;
-#[cfg(test)]
-mod tests;
 pub mod view;

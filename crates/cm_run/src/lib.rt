@@ -7,5 +7,3 @@ mod gone;
 pub mod law;
 pub mod lines;
 pub mod running;
-#[cfg(test)]
-mod tests;

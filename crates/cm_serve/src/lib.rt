@@ -13,5 +13,3 @@ pub mod script;
 pub mod serving;
 pub mod standard;
 pub mod stop;
-#[cfg(test)]
-mod tests;

@@ -6,5 +6,3 @@ pub mod instructions;
 pub mod law;
 pub mod op;
 pub mod reading;
-#[cfg(test)]
-mod tests;

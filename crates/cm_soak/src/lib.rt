@@ -7,7 +7,5 @@ pub mod part;
 pub mod soaking;
 pub mod sum;
 pub mod summing;
-#[cfg(test)]
-mod tests;
 pub mod text;
 pub mod whole;

@@ -18,7 +18,5 @@ pub mod scan;
 pub mod side;
 pub mod step;
 pub mod stream;
-#[cfg(test)]
-mod tests;
 pub mod watcher;
 pub mod watching;

@@ -8,6 +8,4 @@ pub mod law;
 pub mod owners;
 pub mod state;
 mod steps;
-#[cfg(test)]
-mod tests;
 mod turns;

@@ -14,5 +14,3 @@ pub mod sample_text;
 pub mod samples;
 pub mod scales;
 pub mod tail;
-#[cfg(test)]
-mod tests;
