@@ -68,7 +68,8 @@ IsGoBlock Free p most text = (text ≡ paced_block p most) ⊎ HasOverrun p most
 abbrev pub outputs_of : ℕ → List Conv → List ℕ → List Output
 outputs_of sub [] words = []
 outputs_of sub (conv ∷ convs) [] = []
-outputs_of sub (conv ∷ convs) (word ∷ words) = record { sub = sub; time = conv.time; index = conv.list_index; word = word } ∷ outputs_of sub convs words
+outputs_of sub (conv ∷ convs) (word ∷ words) =
+    record { sub = sub; time = conv.time; index = conv.list_index; word = word } ∷ outputs_of sub convs words
 
 -- `underrun` where fewer values were given than there are conversions
 abbrev pub values_tail : PlanText → ℕ → Tail
@@ -114,4 +115,7 @@ ArePaced (Drive t0 values cmd ∷ lines) = ArePaced lines
 
 -- a run without free lines has one text, whatever the schedule
 abbrev pub PacedLaw : Type 0
-PacedLaw = (board : BoardText) (signals : SignalsText) (lines : List RunLine) (text : List ℕ) → ArePaced lines → IsRunText board signals lines text → text ≡ run_text board signals lines
+PacedLaw =
+    (board : BoardText) (signals : SignalsText) (lines : List RunLine) (text : List ℕ)
+    → ArePaced lines → IsRunText board signals lines text
+    → text ≡ run_text board signals lines
