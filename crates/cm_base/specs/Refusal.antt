@@ -5,7 +5,9 @@ use Rattle.cm_base.specs.declared.faults.Fault.{Fault}
 use Rattle.cm_base.specs.declared.faults.Refused.{Refused}
 
 -- the first line that fails: those before it are read, and after what they say it has the fault that is reported
-pub record FirstFault {S Y : Type 0} (so_far : List LineText → Result S Refused) (next : S → LineText → Result Y Fault) (lines : List LineText) (refused : Refused) : Type 0 where
+pub record FirstFault
+    {S Y : Type 0} (so_far : List LineText → Result S Refused) (next : S → LineText → Result Y Fault)
+    (lines : List LineText) (refused : Refused) : Type 0 where
   pub good : List LineText
   pub line : LineText
   pub rest : List LineText

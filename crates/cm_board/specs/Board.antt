@@ -1,5 +1,6 @@
 -- What a board's subdevices promise.
-use Rattle.std.specs.Prelude.{◌≡◌, ◌≤◌, ◌<◌, ◌*◌, ◌^◌, ◌%◌, ◌/◌, ◌-◌, ◌+◌, ℕ, Bool, true, false, not, ◌&&◌, ◌||◌, ◌==◌, nat_le, nat_lt, pos, ◌<ℤ◌, List, [], ◌∷◌, length, slice_index_or, IsTrue, bit_and, if◌then◌else◌, Option, Some, None, option_to_list}
+use Rattle.std.specs.Prelude.{◌≡◌, ◌≤◌, ◌<◌, ◌*◌, ◌^◌, ◌%◌, ◌/◌, ◌-◌, ◌+◌, ℕ, Bool, true, false, not, ◌&&◌, ◌||◌, ◌==◌, nat_le, nat_lt, pos, ◌<ℤ◌}
+use Rattle.std.specs.Prelude.{List, [], ◌∷◌, length, slice_index_or, IsTrue, bit_and, if◌then◌else◌, Option, Some, None, option_to_list}
 use Rattle.std.specs.Option.{is_some, unwrap_or}
 use Rattle.std.specs.List.{All, list_all, list_any, range_with_len}
 use Rattle.cm_base.specs.Lines.{is_printable}
@@ -211,7 +212,8 @@ are_empty m = m.start == 0 && m.scan_begin == 0 && m.convert == 0 && m.scan_end 
 abbrev pub takes_commands : SubText → Bool
 takes_commands sub = not (are_empty sub.masks)
 
--- each trigger has sources: start now, ext or int; scan_begin follow, timer or ext; convert now, timer or ext; scan_end count; stop none, count or ext
+-- each trigger has sources: start now, ext or int; scan_begin follow, timer or ext;
+-- convert now, timer or ext; scan_end count; stop none, count or ext
 abbrev pub are_full : Masks → Bool
 are_full m = is_among 194 m.start && is_among 84 m.scan_begin && is_among 82 m.convert && is_among 32 m.scan_end && is_among 97 m.stop
 
@@ -263,7 +265,12 @@ fits_commands s = (if takes_commands s then are_full s.masks && may_command s.ki
 
 -- each number, range, pair and FIFO is one that a line can say
 abbrev pub fits_lines : SubText → Bool
-fits_lines s = is_maxdata s.maxdata && is_munge s.munge && list_all fits_range s.ranges && list_all is_pair s.forbidden && list_all is_fifo (option_to_list s.fifo)
+fits_lines s =
+    is_maxdata s.maxdata
+    && is_munge s.munge
+    && list_all fits_range s.ranges
+    && list_all is_pair s.forbidden
+    && list_all is_fifo (option_to_list s.fifo)
 
 -- what only the text of a board looks at
 unfoldable pub has_text : SubText → Bool

@@ -68,7 +68,10 @@ abbrev pub blocks_from : ℕ → ℕ → ℕ → List LineText → Result (List 
 blocks_from version end count [] = Err (record { line = end; cause = Missing })
 blocks_from version end count (line ∷ rest) =
     if is_signals line then Ok [] else
-    if is_subdevice line then (next_block version end count line rest >>= λ sub. blocks_from version end (count + 1) rest >>= λ subs. Ok (sub ∷ subs)) else
+    if is_subdevice line then (
+    next_block version end count line rest >>= λ sub.
+    blocks_from version end (count + 1) rest >>= λ subs.
+    Ok (sub ∷ subs)) else
     blocks_from version end count rest
 
 -- these lines stand after whole blocks

@@ -2,7 +2,8 @@
 use Rattle.std.specs.Prelude.{ℕ, List, [], ◌∷◌, map, codes, nat_le, Result, Ok, Err, if◌then◌else◌}
 use Rattle.cm_base.specs.Lines.{LineText}
 use Rattle.cm_base.specs.Reading.{◌>>=◌}
-use Rattle.cm_base.specs.Words.{Form, alone, chosen, five, four, keyword, two_words, three_words, number_below, number_in, one, one_word, signed_number, source_in, sources_in, two}
+use Rattle.cm_base.specs.Words.{Form, alone, chosen, five, four, keyword, two_words, three_words, number_below}
+use Rattle.cm_base.specs.Words.{number_in, one, one_word, signed_number, source_in, sources_in, two}
 use Rattle.cm_base.specs.declared.faults.Fault.{Fault}
 use Rattle.cm_base.specs.declared.faults.Fault.TheVariants.{BadLine, Unknown}
 use Rattle.cm_board.specs.Rows.{may_stand}
@@ -54,7 +55,11 @@ munge_later = chosen munge_forms
 
 -- the ends of a range and its unit
 abbrev pub range_said : List ℕ × List ℕ × List ℕ → Result Range Fault
-range_said w = signed_number w.0 >>= λ least. signed_number w.1 >>= λ most. number_in 0 2 w.2 >>= λ unit. Ok (record { min = least; max = most; unit = unit })
+range_said w =
+    signed_number w.0 >>= λ least.
+    signed_number w.1 >>= λ most.
+    number_in 0 2 w.2 >>= λ unit.
+    Ok (record { min = least; max = most; unit = unit })
 
 -- the least and the greatest of something
 abbrev pub span : ℕ → ℕ → Span

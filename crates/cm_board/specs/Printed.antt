@@ -59,7 +59,12 @@ abbrev pub values_text : Item → List (List ℕ)
 values_text (items.Bits k) = decimal k ∷ []
 values_text (items.Munge m) = munge_text m
 values_text (items.Range r) = range_text r
-values_text (items.Sources s) = source_text s.start ∷ source_text s.scan_begin ∷ source_text s.convert ∷ source_text s.scan_end ∷ source_text s.stop ∷ []
+values_text (items.Sources s) =
+    source_text s.start ∷
+    source_text s.scan_begin ∷
+    source_text s.convert ∷
+    source_text s.scan_end ∷
+    source_text s.stop ∷ []
 values_text (items.Tick n) = decimal n ∷ []
 values_text (items.Scan s) = decimal s.min ∷ decimal s.max ∷ []
 values_text (items.Convert s) = decimal s.min ∷ decimal s.max ∷ []
@@ -122,7 +127,9 @@ set_items c =
 -- what the lines of a block say: those with defaults too, and none where the subdevice is unused
 abbrev pub items_of : SubText → List Item
 items_of s =
-    if is_unused s.kind then [] else items.Bits (bits_of s.maxdata) ∷ items.Munge s.munge ∷ (map items.Range s.ranges ++ (command_items s ++ flat_map set_items s.chans))
+    if is_unused s.kind then [] else
+    items.Bits (bits_of s.maxdata) ∷ items.Munge s.munge ∷
+    (map items.Range s.ranges ++ (command_items s ++ flat_map set_items s.chans))
 
 -- the first line of a block
 abbrev pub head_line : SubText → List (List ℕ)

@@ -9,7 +9,8 @@ use Rattle.cm_board.specs.BoardPart.{board_of, next_number}
 abbrev pub RefusedAtEnd : List LineText → Type 0
 RefusedAtEnd lines = (end : ℕ) → (cause : Fault) × (board_of end lines ≡ Err (record { line = end; cause = cause }))
 
--- what is refused is the first line that fails, or the end: no reading of the lines before it fails, and together with them it is refused by its cause
+-- what is refused is the first line that fails, or the end:
+-- no reading of the lines before it fails, and together with them it is refused by its cause
 pub record IsFirstFault (end : ℕ) (lines : List LineText) (refused : Refused) : Type 0 where
   pub good : List LineText
   pub rest : List LineText

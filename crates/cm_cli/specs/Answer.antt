@@ -31,7 +31,8 @@ byte_limit = 1048576
 
 -- what comes of the bytes of the input, of which a million and some are read
 abbrev pub outcome_of_bytes : Task → List ℕ → Outcome
-outcome_of_bytes task bytes = if nat_lt byte_limit (length bytes) then Declined (record { line = 0; cause = TooLong }) else as_outcome (said task bytes)
+outcome_of_bytes task bytes =
+    if nat_lt byte_limit (length bytes) then Declined (record { line = 0; cause = TooLong }) else as_outcome (said task bytes)
 
 -- the outcome of a task that was named, or of arguments that name none
 abbrev pub outcome_if : Option Task → List ℕ → Outcome

@@ -19,7 +19,13 @@ IsSameRing old new = (new.table ≡ old.table) × (new.ring ≡ old.ring)
 
 -- a reader has released so many samples more
 pub record HasRead (old new : Reading) (count : ℕ) : Type 0 where
-  pub same : new ≡ record old { part = record old.part { released = old.part.released + count; known = new.part.known; munged_looks = new.part.munged_looks } }
+  pub same : new ≡ record old {
+    part = record old.part {
+      released = old.part.released + count;
+      known = new.part.known;
+      munged_looks = new.part.munged_looks;
+    };
+  }
   pub within : old.part.released + count ≤ length old.ring.samples
 
 -- a word may be the sample of a place, for each munged sample of a ring
@@ -37,9 +43,14 @@ pub record HasAll (count : ℕ) (made : List ℕ) (makes : List ℕ → List ℕ
 -- why a client reads no further: it has as many samples as it takes, or all up to the end that it found
 abbrev pub Stops : Reading → Option ℕ → Option End → Type 0
 Stops r most None = most ≡ Some r.part.released
-Stops r most (Some e) = (r.part.found ≡ Some e) × (r.part.released ≡ e.count) × (r.part.released ≡ up_to e.count most) × IsFoundEnd r.ring r.part e.kind e.count
+Stops r most (Some e) =
+    (r.part.found ≡ Some e)
+    × (r.part.released ≡ e.count)
+    × (r.part.released ≡ up_to e.count most)
+    × IsFoundEnd r.ring r.part e.kind e.count
 
--- a client has read to the end: its words are the munged plan up to the end's count, or up to the number to take where that is smaller, and it has released these and no others
+-- a client has read to the end: its words are the munged plan up to the end's count,
+-- or up to the number to take where that is smaller, and it has released these and no others
 pub record IsReadToEnd (old new : Reading) (most : Option ℕ) (words : List ℕ) (e : End) : Type 0 where
   pub are : words ≡ first_munged old.ring (up_to e.count most)
   pub count : length words ≡ up_to e.count most

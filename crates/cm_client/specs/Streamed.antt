@@ -17,7 +17,8 @@ EndsTruly c = MayEndAs c.ring c.part.at c.part.freed c.part.saw_stop c.end.kind 
 abbrev pub IsFresh : Reading → Type 0
 IsFresh r = (r.part ≡ first_reader) × (r.mapped ≡ 0)
 
--- the munged words up to the end that was found, or to the number to take, were read and released; the reader's stop was asked for by none but the client
+-- the munged words up to the end that was found, or to the number to take, were read and released;
+-- the reader's stop was asked for by none but the client
 pub record HasStreamed (ring : RingConstants) (most : Option ℕ) (words : List ℕ) (e : End) (r : Reading) : Type 0 where
   pub of : r.ring ≡ ring
   pub are : words ≡ first_munged ring (up_to e.count most)

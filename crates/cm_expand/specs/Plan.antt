@@ -1,5 +1,6 @@
 -- What a command's expansion is made from.
-use Rattle.std.specs.Prelude.{◌≡◌, ℕ, ◌+◌, ◌-◌, ◌≤◌, ◌*◌, Bool, true, false, ◌&&◌, ◌||◌, ◌==◌, if◌then◌else◌, nat_le, List, [], length, Option, Some, None, option_map, option_and_then, unwrap_or, is_some}
+use Rattle.std.specs.Prelude.{◌≡◌, ℕ, ◌+◌, ◌-◌, ◌≤◌, ◌*◌, Bool, true, false, ◌&&◌, ◌||◌, ◌==◌, if◌then◌else◌, nat_le}
+use Rattle.std.specs.Prelude.{List, [], length, Option, Some, None, option_map, option_and_then, unwrap_or, is_some}
 use Rattle.std.specs.List.{list_any}
 use Rattle.cm_board.specs.Board.{SubText, is_fall, line_of}
 use Rattle.cm_base.specs.Source as source
@@ -121,7 +122,8 @@ abbrev pub all_full : Option Course → Bool
 all_full None = true
 all_full (Some c) = are_full c (begins c)
 
--- whether all conversions of a stop count come by the horizon; without a count, whether there is a stop edge and all come of the scans that begin before it
+-- whether all conversions of a stop count come by the horizon;
+-- without a count, whether there is a stop edge and all come of the scans that begin before it
 abbrev pub is_complete_by : Option ℕ → PlanText → Bool
 is_complete_by (Some count) p = length (times_of p) == count
 is_complete_by None p = is_some (stop_edge_of p) && all_full (course_of p)

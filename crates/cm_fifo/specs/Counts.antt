@@ -14,7 +14,8 @@ request_at f p q = time_or (last_of p) (slice_get (items_of p) (q + (f.depth / 2
 abbrev pub drain_at : Fifo → PlanText → ℕ → ℕ
 drain_at f p q = min (request_at f p q + f.latency) p.signals.horizon
 
--- what comes next: a drain of all conversions that have come by its time, so that so many were then handed over of the whole expansion, or an overflow
+-- what comes next: a drain of all conversions that have come by its time,
+-- so that so many were then handed over of the whole expansion, or an overflow
 abbrev pub next_at : Fifo → PlanText → ℕ → Coming
 next_at f p q =
     if nat_lt q (length (items_of p)) then unless_lost (slice_get (items_of p) (q + f.depth)) (drain_at f p q) (come (drain_at f p q) (items_of p))

@@ -1,5 +1,6 @@
 -- What a board with a FIFO of its own hands over, and when.
-use Rattle.std.specs.Prelude.{ℕ, zero, suc, ◌+◌, ◌-◌, ◌/◌, min, max, Bool, nat_le, List, [], ◌∷◌, ◌++◌, length, map, take, drop, slice_get, Option, Some, None, if◌then◌else◌}
+use Rattle.std.specs.Prelude.{ℕ, zero, suc, ◌+◌, ◌-◌, ◌/◌, min, max, Bool, nat_le}
+use Rattle.std.specs.Prelude.{List, [], ◌∷◌, ◌++◌, length, map, take, drop, slice_get, Option, Some, None, if◌then◌else◌}
 use Rattle.cm_board.specs.declared.board.Fifo.{Fifo}
 use Rattle.cm_expand.specs.Items.{items_of}
 use Rattle.cm_expand.specs.Plan.{PlanText, is_complete, stop_edge_of}
@@ -39,7 +40,8 @@ abbrev pub unless_lost : Option Conv → ℕ → ℕ → Coming
 unless_lost None time count = Drains time count
 unless_lost (Some c) time count = if nat_le c.time time then Overflows c.time else Drains time count
 
--- what comes next where these conversions are left: a drain of all that have come by its time, or an overflow by the first one that the FIFO has no room for
+-- what comes next where these conversions are left: a drain of all that have come by its time,
+-- or an overflow by the first one that the FIFO has no room for
 abbrev pub coming : Fifo → ℕ → ℕ → List Conv → Coming
 coming f last horizon [] = Nothing
 coming f last horizon (c ∷ left) =

@@ -56,11 +56,19 @@ AllHanded = OfEach (λ p h. h.lost_at ≡ None → length h.arrivals ≡ length 
 
 -- where one is lost at a time, that is by the horizon, all that is handed over was handed over by then, and one more conversion there is at least
 abbrev pub LostAfterHanded : Type 0
-LostAfterHanded = OfEach (λ p h. (t : ℕ) → h.lost_at ≡ Some t → (t ≤ p.signals.horizon) × (come t h.arrivals ≡ length h.arrivals) × (length h.arrivals < length (items_of p)))
+LostAfterHanded =
+    OfEach (λ p h. (t : ℕ)
+    → h.lost_at ≡ Some t
+    → (t ≤ p.signals.horizon)
+    × (come t h.arrivals ≡ length h.arrivals)
+    × (length h.arrivals < length (items_of p)))
 
 -- the same by places of the whole expansion: each drain hands over all that has come by its time, unless one comes for which the FIFO has no room
 abbrev pub HandedByCounts : Type 0
-HandedByCounts = (p : PlanText) (f : Fifo) (t : ℕ) → IsSoundSub p.sub → IsSoundSignals p.signals → IsPlan p → come t (handed_of p f).arrivals ≡ count_of f p t
+HandedByCounts =
+    (p : PlanText) (f : Fifo) (t : ℕ)
+    → IsSoundSub p.sub → IsSoundSignals p.signals → IsPlan p
+    → come t (handed_of p f).arrivals ≡ count_of f p t
 
 -- and when one is lost
 abbrev pub LostByCounts : Type 0

@@ -1,5 +1,6 @@
 -- What each instruction does to a subdevice and to its data words.
-use Rattle.std.specs.Prelude.{ℕ, ◌-◌, ◌/◌, ◌%◌, Bool, true, false, not, ◌&&◌, ◌==◌, nat_le, List, [], ◌∷◌, length, get_or, set, slice_index, replicate, Option, Some, None, Result, Ok, Err, if◌then◌else◌}
+use Rattle.std.specs.Prelude.{ℕ, ◌-◌, ◌/◌, ◌%◌, Bool, true, false, not, ◌&&◌, ◌==◌, nat_le}
+use Rattle.std.specs.Prelude.{List, [], ◌∷◌, length, get_or, set, slice_index, replicate, Option, Some, None, Result, Ok, Err, if◌then◌else◌}
 use Rattle.std.specs.List.{list_all}
 use Rattle.cm_board.specs.Board.{SubText, is_digital, is_unused, maxdata_of}
 use Rattle.cm_board.specs.declared.board.Kind.{Kind}
@@ -95,7 +96,8 @@ insn s state codes.Gtod entry given = gtod s.time state given
 
 -- an instruction on the subdevice at a place of its board, with its signals, at a time
 abbrev pub insn_at : SubText → ℕ → SignalsText → ℕ → StateText → Instr → List ℕ → Option Done
-insn_at sub index signals time state what given = insn (record { sub = sub; index = index; signals = signals; time = time }) state what.code what.entry given
+insn_at sub index signals time state what given =
+    insn (record { sub = sub; index = index; signals = signals; time = time }) state what.code what.entry given
 
 -- the number of data words, or that the instruction isn't valid
 abbrev pub answer_of : Option Done → Result ℕ Errno

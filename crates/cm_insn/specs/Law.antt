@@ -7,7 +7,10 @@ use Rattle.cm_insn.specs.Site.{SiteText, value_at}
 
 -- the word of a subdevice has a bit for each of its first 32 channels, 1 where the channel's value is 1
 abbrev pub BitsAreValues : Type 0
-BitsAreValues = (s : SiteText) (state : StateText) (c : ℕ) → c < min 32 s.sub.channels → bit (bits_of s state) c ≡ (if value_at s state c 0 == 1 then 1 else 0)
+BitsAreValues =
+    (s : SiteText) (state : StateText) (c : ℕ)
+    → c < min 32 s.sub.channels
+    → bit (bits_of s state) c ≡ (if value_at s state c 0 == 1 then 1 else 0)
 
 -- and no others
 abbrev pub BitsAreFew : Type 0

@@ -67,7 +67,10 @@ drive_head horizon words = two_before_command words >>= λ w. number_in 0 horizo
 -- `drive CALL VALUES COMMAND`
 abbrev pub drive_line : ℕ → LineText → Result Asked Fault
 drive_line horizon line =
-    drive_head horizon (drop 1 line.words) >>= λ h. numbers_of h.1 >>= λ numbers. command_of (drop 3 line.words) >>= λ cmd. Ok (asks.Drive h.0 numbers cmd)
+    drive_head horizon (drop 1 line.words) >>= λ h.
+    numbers_of h.1 >>= λ numbers.
+    command_of (drop 3 line.words) >>= λ cmd.
+    Ok (asks.Drive h.0 numbers cmd)
 
 -- the form that a word names
 abbrev pub key_named : List ℕ → Result Key Fault

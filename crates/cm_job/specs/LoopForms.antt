@@ -21,7 +21,11 @@ three_before_commands words = Err BadLine
 -- what stands before the commands in `loop CALL_IN CALL_OUT WINDOW INPUT OUTPUT`: both times are up to the horizon, and the window is 1 to 16
 abbrev pub loop_head : ℕ → LineText → Result (ℕ × ℕ × ℕ) Fault
 loop_head horizon line =
-    after_loop line >>= λ words. three_before_commands words >>= λ w. number_in 0 horizon w.0 >>= λ t_in. number_in 0 horizon w.1 >>= λ t_out. number_in 1 16 w.2 >>= λ window.
+    after_loop line >>= λ words.
+    three_before_commands words >>= λ w.
+    number_in 0 horizon w.0 >>= λ t_in.
+    number_in 0 horizon w.1 >>= λ t_out.
+    number_in 1 16 w.2 >>= λ window.
     Ok (t_in, t_out, window)
 
 -- what the words of a line ask

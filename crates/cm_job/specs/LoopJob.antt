@@ -40,7 +40,8 @@ pub record CanLoop (board : BoardText) (signals : SignalsText) (out : Bool) (t0 
   pub munged : is_raw cmd.flags ≡ false
   pub few : length (items_of (plan_at board signals t0 cmd)) ≤ 1000000
 
--- what each loop job keeps: an input's command and an output's, whose lists have the same length, a window of 1 to 16, and each output later than the sample of its place
+-- what each loop job keeps: an input's command and an output's, whose lists have the same length, a window of 1 to 16,
+-- and each output later than the sample of its place
 pub record IsLoopJob (job : LoopJobText) : Type 0 where
   pub input : CanLoop job.board job.signals false job.t_in job.input
   pub output : CanLoop job.board job.signals true job.t_out job.output

@@ -66,11 +66,22 @@ no_more horizon (line ∷ rest) = at_line line.number (further_line horizon line
 -- the one line of these, or Missing at the end of the text
 abbrev pub only_line : BoardText → SignalsText → ℕ → List LineText → Result LoopLine Refused
 only_line board signals end [] = Err (record { line = end; cause = Missing })
-only_line board signals end (first ∷ rest) = at_line first.number (loop_line board signals first) >>= λ line. no_more signals.horizon rest >>= λ none. Ok line
+only_line board signals end (first ∷ rest) =
+    at_line first.number (loop_line board signals first) >>= λ line.
+    no_more signals.horizon rest >>= λ none.
+    Ok line
 
 -- the job of a line over a board and signals
 abbrev pub job_of : BoardText → SignalsText → LoopLine → LoopJobText
-job_of board signals line = record { board = board; signals = signals; t_in = line.t_in; t_out = line.t_out; window = line.window; input = line.input; output = line.output }
+job_of board signals line = record {
+  board = board;
+  signals = signals;
+  t_in = line.t_in;
+  t_out = line.t_out;
+  window = line.window;
+  input = line.input;
+  output = line.output;
+}
 
 -- the job that lines say over a board and signals
 abbrev pub loop_of : BoardText → SignalsText → ℕ → List LineText → Result LoopJobText Refused

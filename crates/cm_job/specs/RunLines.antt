@@ -12,7 +12,11 @@ use Rattle.cm_job.specs.declared.line.RunLine.TheVariants.{Go, Drive}
 -- `go` takes all samples of an input or 1 to 1,000,000, and `drive` gives an output 1 to 1,024 codes of its channels
 abbrev pub HasLimits : SubText → RunLine → Type 0
 HasLimits sub (Go mode access t0 most cmd) = (is_output sub.kind ≡ false) × IfSome most (λ n. (1 ≤ n) × (n ≤ 1000000))
-HasLimits sub (Drive t0 values cmd) = (is_output sub.kind ≡ true) × (1 ≤ length values) × (length values ≤ 1024) × (are_codes sub cmd.list 0 values ≡ true)
+HasLimits sub (Drive t0 values cmd) =
+    (is_output sub.kind ≡ true)
+    × (1 ≤ length values)
+    × (length values ≤ 1024)
+    × (are_codes sub cmd.list 0 values ≡ true)
 
 -- a line can be run: its command can be called, it has the limits of its form, and it has 1,000,000 conversions at most
 pub record CanRun (board : BoardText) (signals : SignalsText) (line : RunLine) : Type 0 where

@@ -1,5 +1,6 @@
 -- The session part of a run job.
-use Rattle.std.specs.Prelude.{ℕ, suc, ◌%◌, Bool, true, false, not, ◌&&◌, ◌==◌, nat_le, nat_lt, List, [], ◌∷◌, length, slice_index, Result, Ok, Err, if◌then◌else◌}
+use Rattle.std.specs.Prelude.{ℕ, suc, ◌%◌, Bool, true, false, not, ◌&&◌, ◌==◌, nat_le, nat_lt}
+use Rattle.std.specs.Prelude.{List, [], ◌∷◌, length, slice_index, Result, Ok, Err, if◌then◌else◌}
 use Rattle.cm_base.specs.Lines.{LineText}
 use Rattle.cm_base.specs.Reading.{◌>>=◌, read_each}
 use Rattle.cm_base.specs.Words.{limited}
@@ -77,12 +78,16 @@ taken_line session board asked = if takes session board asked then line_of board
 
 -- the line that a text says after so many others, of which there may be 16
 abbrev pub next_line : Session → BoardText → ℕ → ℕ → LineText → Result RunLine Fault
-next_line session board horizon count line = asked_of horizon line >>= λ asked. limited (nat_lt count 16) asked >>= λ asked. taken_line session board asked
+next_line session board horizon count line =
+    asked_of horizon line >>= λ asked.
+    limited (nat_lt count 16) asked >>= λ asked.
+    taken_line session board asked
 
 -- that line, where there is room for its conversions
 abbrev pub line_after : Session → BoardText → SignalsText → List RunLine → LineText → Result RunLine Fault
 line_after session board signals before line =
-    next_line session board signals.horizon (length before) line >>= λ next. limited (has_room (length_of_all board signals before) (length_of board signals next)) next
+    next_line session board signals.horizon (length before) line >>= λ next.
+    limited (has_room (length_of_all board signals before) (length_of board signals next)) next
 
 -- the lines of a session
 abbrev pub lines_of : Session → BoardText → SignalsText → List LineText → Result (List RunLine) Refused

@@ -1,5 +1,6 @@
 -- The filter of a control loop.
-use Rattle.std.specs.Prelude.{◌≡◌, ℕ, zero, suc, ◌-◌, ◌*◌, ◌/◌, ◌%◌, ◌<◌, ◌≤◌, ◌^◌, if◌then◌else◌, nat_lt, List, [], ◌∷◌, length, map, sum, slice_index, slice_get, Option, Some, None}
+use Rattle.std.specs.Prelude.{◌≡◌, ℕ, zero, suc, ◌-◌, ◌*◌, ◌/◌, ◌%◌, ◌<◌, ◌≤◌, ◌^◌, if◌then◌else◌, nat_lt}
+use Rattle.std.specs.Prelude.{List, [], ◌∷◌, length, map, sum, slice_index, slice_get, Option, Some, None}
 use Rattle.std.specs.List.{range_with_len}
 use Rattle.cm_loop.specs.declared.rule.LoopItem.{LoopItem}
 

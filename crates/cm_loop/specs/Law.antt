@@ -12,4 +12,6 @@ IsAsLong = (raw : List ℕ) (munge : RuleText) (rule : FilterText) → length (l
 -- no output is above the greatest code of its entry's output channel
 abbrev pub IsOnScale : Type 0
 IsOnScale =
-    (rule : FilterText) (x : List ℕ) (k : ℕ) (item : LoopItem) → IsFilter rule → AreWithin rule x → k < length x → slice_get rule.items (k % length rule.items) ≡ Some item → filtered rule x k ≤ item.out_max
+    (rule : FilterText) (x : List ℕ) (k : ℕ) (item : LoopItem)
+    → IsFilter rule → AreWithin rule x → k < length x → slice_get rule.items (k % length rule.items) ≡ Some item
+    → filtered rule x k ≤ item.out_max

@@ -1,6 +1,7 @@
 -- What a client asks between the lines of a session. Each question is a line of a session in other words: it has that line's checks
 -- and that line's effect, and where nothing refuses it, more is reported than for the line.
-use Rattle.std.specs.Prelude.{ℕ, ◌+◌, ◌-◌, min, max, Bool, ◌||◌, nat_le, List, [], ◌++◌, length, take, drop, slice_get, codes, Option, Some, None, if◌then◌else◌}
+use Rattle.std.specs.Prelude.{ℕ, ◌+◌, ◌-◌, min, max, Bool, ◌||◌, nat_le}
+use Rattle.std.specs.Prelude.{List, [], ◌++◌, length, take, drop, slice_get, codes, Option, Some, None, if◌then◌else◌}
 use Rattle.std.specs.Option.{is_some, unwrap_or}
 use Rattle.std.specs.Fmt.{decimal}
 use Rattle.cm_expand.specs.declared.conv.Conv.{Conv}

@@ -19,4 +19,7 @@ pub record IsSoonest (n from : ℕ) (c : Running) (t : ℕ) : Type 0 where
 
 -- the time of an await is the soonest, for each command that was brought to `from` and whose conversions come in order and in time
 abbrev pub AwaitLaw : Type 0
-AwaitLaw = (n from : ℕ) (c : Running) → NeverFalls c.schedule.arrivals → IsTimely c.schedule → brought from c ≡ c → from ≤ c.schedule.horizon → IsSoonest n from c (await_time n from (Some c))
+AwaitLaw =
+    (n from : ℕ) (c : Running)
+    → NeverFalls c.schedule.arrivals → IsTimely c.schedule → brought from c ≡ c → from ≤ c.schedule.horizon
+    → IsSoonest n from c (await_time n from (Some c))

@@ -16,7 +16,11 @@ use Rattle.cm_replay.specs.declared.ending.End.{End}
 
 -- a command starts
 abbrev pub start_reply : Here → CmdText → Reply
-start_reply h cmd = record { answer = Begun; files = with_runner (Some h.file) h.index h.files; device = record h.device { running = Some (started (schedule_of (plan_here h cmd))) } }
+start_reply h cmd = record {
+  answer = Begun;
+  files = with_runner (Some h.file) h.index h.files;
+  device = record h.device { running = Some (started (schedule_of (plan_here h cmd))) };
+}
 
 -- `cmd`: a command that its subdevice accepts starts, and of another one the step that it fails is answered
 abbrev pub cmd_reply : Here → CmdText → Reply

@@ -16,7 +16,9 @@ ready_at at b = map (at_time at) (take b.ready (drop b.taken (items_of b.plan)))
 
 -- what is handed over after them; nothing, once one was lost
 abbrev pub later_than : ℕ → FifoState → Handed
-later_than at b = if b.over then record { arrivals = []; lost_at = Some at } else handed_after b.fifo b.plan (b.taken + b.ready) (length (items_of b.plan))
+later_than at b =
+    if b.over then record { arrivals = []; lost_at = Some at } else
+    handed_after b.fifo b.plan (b.taken + b.ready) (length (items_of b.plan))
 
 -- what is still to come of a board whose last drain or overflow was at a time
 abbrev pub to_hand_over : ℕ → FifoState → Option ℕ → ToCome

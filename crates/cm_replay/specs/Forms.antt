@@ -33,25 +33,56 @@ writer_checks h = refuse Inval (not (is_out_here h)) ∷ refuse Access (is_forei
 abbrev pub form : Op → Here → Form
 form (ops.Lock sub) h = record { checks = lock_checks (claim_of h); reply = claimed h (with_holder (Some h.file) h.index h.files) Fine }
 form (ops.Unlock sub) h = record { checks = unlock_checks h.file (claim_of h); reply = claimed h (with_holder None h.index h.files) Fine }
-form (ops.Cmd cmd) h = record { checks = use_checks h.file (claim_of h) ++ refuse Inval (not (is_valid_list h.sub cmd.list)) ∷ []; reply = cmd_reply h cmd }
+form (ops.Cmd cmd) h = record {
+  checks = use_checks h.file (claim_of h) ++ refuse Inval (not (is_valid_list h.sub cmd.list)) ∷ [];
+  reply = cmd_reply h cmd;
+}
 form (ops.Cancel sub) h = record { checks = cancel_checks h.file (claim_of h); reply = idle h Fine }
-form (ops.Read sub n) h = record { checks = reader_checks h ++ refuse Inval (not (nat_eq (mapped h.device.running) 0)) ∷ []; reply = read_reply n h h.device.running }
+form (ops.Read sub n) h = record {
+  checks = reader_checks h ++ refuse Inval (not (nat_eq (mapped h.device.running) 0)) ∷ [];
+  reply = read_reply n h h.device.running;
+}
 form (ops.Map sub n) h = record { checks = reader_checks h; reply = map_reply n h h.device.running }
-form (ops.Look sub i) h = record { checks = reader_checks h ++ refuse Inval (nat_le (mapped h.device.running) i) ∷ []; reply = look_reply i h h.device.running }
-form (ops.Release sub k) h = record { checks = reader_checks h ++ refuse Inval (nat_lt (mapped h.device.running) k) ∷ []; reply = release_reply k h h.device.running }
+form (ops.Look sub i) h = record {
+  checks = reader_checks h ++ refuse Inval (nat_le (mapped h.device.running) i) ∷ [];
+  reply = look_reply i h h.device.running;
+}
+form (ops.Release sub k) h = record {
+  checks = reader_checks h ++ refuse Inval (nat_lt (mapped h.device.running) k) ∷ [];
+  reply = release_reply k h h.device.running;
+}
 form (ops.Contents sub) h = record { checks = refuse Access (is_foreign h) ∷ []; reply = contents_reply h h.device.running }
 form (ops.Write sub words) h = record {
   checks = writer_checks h ++ refuse Inval (not (nat_eq (unmarked h.device.running) 0)) ∷ refuse Inval (not (fit h words)) ∷ [];
   reply = write_reply words h h.device.running;
 }
-form (ops.Fill sub words) h = record { checks = writer_checks h ++ refuse Inval (not (fit h words)) ∷ []; reply = fill_reply words h h.device.running }
-form (ops.Mark sub k) h = record { checks = writer_checks h ++ refuse Inval (nat_lt (unmarked h.device.running) k) ∷ []; reply = mark_reply k h h.device.running }
-form (ops.InsnRead sub entry n) h = record { checks = use_checks h.file (claim_of h); reply = insn_reply true h (insn_here h codes.Read entry (replicate n 0)) }
-form (ops.InsnWrite sub entry words) h = record { checks = use_checks h.file (claim_of h); reply = insn_reply false h (insn_here h codes.Write entry words) }
-form (ops.InsnBits sub mask bits) h = record { checks = use_checks h.file (claim_of h); reply = insn_reply true h (insn_here h codes.Bits 0 (mask ∷ bits ∷ [])) }
-form (ops.InsnConfig sub entry word) h = record { checks = use_checks h.file (claim_of h); reply = insn_reply false h (insn_here h codes.Config entry (word ∷ [])) }
+form (ops.Fill sub words) h = record {
+  checks = writer_checks h ++ refuse Inval (not (fit h words)) ∷ [];
+  reply = fill_reply words h h.device.running;
+}
+form (ops.Mark sub k) h = record {
+  checks = writer_checks h ++ refuse Inval (nat_lt (unmarked h.device.running) k) ∷ [];
+  reply = mark_reply k h h.device.running;
+}
+form (ops.InsnRead sub entry n) h = record {
+  checks = use_checks h.file (claim_of h);
+  reply = insn_reply true h (insn_here h codes.Read entry (replicate n 0));
+}
+form (ops.InsnWrite sub entry words) h = record {
+  checks = use_checks h.file (claim_of h);
+  reply = insn_reply false h (insn_here h codes.Write entry words);
+}
+form (ops.InsnBits sub mask bits) h = record {
+  checks = use_checks h.file (claim_of h);
+  reply = insn_reply true h (insn_here h codes.Bits 0 (mask ∷ bits ∷ []));
+}
+form (ops.InsnConfig sub entry word) h = record {
+  checks = use_checks h.file (claim_of h);
+  reply = insn_reply false h (insn_here h codes.Config entry (word ∷ []));
+}
 form (ops.InsnIntTrig sub number) h = record {
-  checks = cancel_checks h.file (claim_of h) ++ refuse Again (not (waits h.time h.device.running)) ∷ refuse Inval (not (takes_number number h.device.running)) ∷ [];
+  checks = cancel_checks h.file (claim_of h)
+      ++ refuse Again (not (waits h.time h.device.running)) ∷ refuse Inval (not (takes_number number h.device.running)) ∷ [];
   reply = trigger_reply h h.device.running;
 }
 form ops.OpenFile h = record { checks = []; reply = kept h Fine }

@@ -1,5 +1,6 @@
 -- What holds at every line of a session.
-use Rattle.std.specs.Prelude.{◌≡◌, ℕ, ◌+◌, ◌-◌, ◌<◌, ◌≤◌, Bool, true, false, List, [], ◌∷◌, ◌++◌, length, take, drop, slice_index, Option, Some, None, nat_eq, if◌then◌else◌}
+use Rattle.std.specs.Prelude.{◌≡◌, ℕ, ◌+◌, ◌-◌, ◌<◌, ◌≤◌, Bool, true, false}
+use Rattle.std.specs.Prelude.{List, [], ◌∷◌, ◌++◌, length, take, drop, slice_index, Option, Some, None, nat_eq, if◌then◌else◌}
 use Rattle.std.specs.List.{All}
 use Rattle.cm_board.specs.Board.{IsSoundSub, SubText}
 use Rattle.cm_expand.specs.Plan.{PlanText}
@@ -134,7 +135,9 @@ GoesWell s histories state [] = Unit {0}
 GoesWell s histories state (line ∷ rest) =
     ((i : ℕ) → Keeps (spot_at s i) line.time (histories i) (device_at (brought_all line.time state).devices i).running)
     × ((i : ℕ) → PutsOut i line.time (histories i) (device_at state.devices i).running)
-    × Continues (step s line state).answer (histories (named_sub line.op)) (device_at (brought_all line.time state).devices (named_sub line.op)).running
+    × Continues (step s line state).answer
+    (histories (named_sub line.op))
+    (device_at (brought_all line.time state).devices (named_sub line.op)).running
     × GoesWell s (remembered_at histories (named_sub line.op) (step s line state).answer) (step s line state).state rest
 
 -- what a job and its board keep
@@ -180,8 +183,14 @@ abbrev pub ReadsPrefixes : Setting → (ℕ → List ℕ) → State → List Ses
 ReadsPrefixes s reported state [] = Unit {0}
 ReadsPrefixes s reported state (line ∷ rest) =
     ((i : ℕ) → IsPrefix (reported i) (device_at (brought_all line.time state).devices i).running)
-    × EndsWell (step s line state).answer (reported (named_sub line.op)) (device_at (brought_all line.time state).devices (named_sub line.op)).running
-    × ReadsPrefixes s (reported_of reported (named_sub line.op) (device_at (brought_all line.time state).devices (named_sub line.op)).running (step s line state).answer) (step s line state).state rest
+    × EndsWell (step s line state).answer
+    (reported (named_sub line.op))
+    (device_at (brought_all line.time state).devices (named_sub line.op)).running
+    × ReadsPrefixes s
+    (reported_of reported (named_sub line.op)
+    (device_at (brought_all line.time state).devices (named_sub line.op)).running
+    (step s line state).answer)
+    (step s line state).state rest
 
 -- what is marked as read is a prefix of the munged expansion in trigger order, and the whole where `done` or `dry` is reported
 abbrev pub PrefixLaw : Type 0

@@ -24,7 +24,9 @@ Leaves sub before other after = Unit {0}
 
 -- the refusal law
 abbrev pub RefusalLaw : Type 0
-RefusalLaw = (s : Setting) (line : SessionLine) (state : State) → Leaves (named_sub line.op) (brought_all line.time state) (step s line state).answer (step s line state).state
+RefusalLaw =
+    (s : Setting) (line : SessionLine) (state : State)
+    → Leaves (named_sub line.op) (brought_all line.time state) (step s line state).answer (step s line state).state
 
 -- a line never changes a command or a lock of another file
 pub record IsForeign (file i : ℕ) (before after : State) : Type 0 where
@@ -34,7 +36,9 @@ pub record IsForeign (file i : ℕ) (before after : State) : Type 0 where
 
 -- the law on other files
 abbrev pub ForeignLaw : Type 0
-ForeignLaw = (s : Setting) (line : SessionLine) (state : State) (i : ℕ) → IsForeign line.file i (brought_all line.time state) (step s line state).state
+ForeignLaw =
+    (s : Setting) (line : SessionLine) (state : State) (i : ℕ)
+    → IsForeign line.file i (brought_all line.time state) (step s line state).state
 
 -- a subdevice is busy exactly where a command is there
 abbrev pub IsTied : State → Type 0
@@ -42,4 +46,7 @@ IsTied state = (i : ℕ) → is_some (claim_at state.files i).runner ≡ is_some
 
 -- each line keeps it so
 abbrev pub TiedLaw : Type 0
-TiedLaw = (s : Setting) (line : SessionLine) (state : State) → length state.files.claims ≡ length state.devices → IsTied state → IsTied (step s line state).state
+TiedLaw =
+    (s : Setting) (line : SessionLine) (state : State)
+    → length state.files.claims ≡ length state.devices → IsTied state
+    → IsTied (step s line state).state

@@ -25,7 +25,15 @@ use Rattle.cm_replay.specs.declared.at.At.{At}
 
 -- what a line sees
 abbrev pub here_at : At → FilesText → Device → Here
-here_at at files device = record { time = at.time; file = at.file; index = at.index; sub = at.sub.now; signals = at.signals.now; files = files; device = device }
+here_at at files device = record {
+  time = at.time;
+  file = at.file;
+  index = at.index;
+  sub = at.sub.now;
+  signals = at.signals.now;
+  files = files;
+  device = device;
+}
 
 -- the file is open and the subdevice is there
 abbrev pub IsReached : At → FilesText → Type 0

@@ -1,5 +1,6 @@
 -- A command that runs, and what the passing of time does to it.
-use Rattle.std.specs.Prelude.{ℕ, ◌+◌, ◌-◌, min, Bool, true, ◌&&◌, nat_eq, nat_le, nat_lt, List, [], ◌∷◌, length, take, drop, Option, Some, None, if◌then◌else◌}
+use Rattle.std.specs.Prelude.{ℕ, ◌+◌, ◌-◌, min, Bool, true, ◌&&◌, nat_eq, nat_le, nat_lt}
+use Rattle.std.specs.Prelude.{List, [], ◌∷◌, length, take, drop, Option, Some, None, if◌then◌else◌}
 use Rattle.cm_expand.specs.Plan.{PlanText}
 use Rattle.cm_expand.specs.declared.conv.Conv.{Conv}
 use Rattle.cm_expand.specs.Rule.{is_output, munged_at}
@@ -24,7 +25,8 @@ pub record Schedule : Type 0 where
   pub size : ℕ
   pub format : Format
 
--- a command that runs: what is planned for it, its places, the words of an output from place r on (those below w munged), and its end where it has come
+-- a command that runs: what is planned for it, its places, the words of an output from place r on (those below w munged),
+-- and its end where it has come
 pub record Running : Type 0 where
   pub schedule : Schedule
   pub r : ℕ

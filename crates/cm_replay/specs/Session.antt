@@ -61,7 +61,8 @@ closed_state f state = record { files = closed f state.files; devices = left_dev
 -- what a line does once all commands are brought to its time
 abbrev pub act : Setting → SessionLine → Op → State → Outcome
 act s line ops.OpenFile state =
-    unless_refused (first_refusal (open_checks line.file state.files)) state (record { answer = Fine; state = record state { files = opened line.file state.files } })
+    unless_refused (first_refusal (open_checks line.file state.files)) state
+    (record { answer = Fine; state = record state { files = opened line.file state.files } })
 act s line ops.CloseFile state =
     unless_refused (first_refusal (close_checks line.file state.files)) state (record { answer = Fine; state = closed_state line.file state })
 act s line (ops.InsnGtod sub) state =

@@ -11,4 +11,5 @@ pub record IsTimely (s : Schedule) : Type 0 where
   pub cut : arrived s s.horizon ≡ length s.arrivals
   pub within : length s.arrivals ≤ length s.conversions
   pub whole : s.lost_at ≡ None → length s.arrivals ≡ length s.conversions
-  pub lost : (time : ℕ) → s.lost_at ≡ Some time → (time ≤ s.horizon) × (arrived s time ≡ length s.arrivals) × (length s.arrivals < length s.conversions)
+  pub lost : (time : ℕ) → s.lost_at ≡ Some time
+      → (time ≤ s.horizon) × (arrived s time ≡ length s.arrivals) × (length s.arrivals < length s.conversions)

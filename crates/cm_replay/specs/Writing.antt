@@ -1,5 +1,6 @@
 -- What the lines do that write into a command's buffer, each where no check refuses it.
-use Rattle.std.specs.Prelude.{ℕ, suc, ◌+◌, ◌-◌, Bool, true, ◌&&◌, nat_le, nat_lt, List, [], ◌∷◌, ◌++◌, length, take, Option, Some, None, if◌then◌else◌}
+use Rattle.std.specs.Prelude.{ℕ, suc, ◌+◌, ◌-◌, Bool, true, ◌&&◌, nat_le, nat_lt}
+use Rattle.std.specs.Prelude.{List, [], ◌∷◌, ◌++◌, length, take, Option, Some, None, if◌then◌else◌}
 use Rattle.cm_board.specs.Board.{SubText, maxdata_of}
 use Rattle.cm_cmd.specs.Entry.{chan}
 use Rattle.cm_sample.specs.Rule.{map_from}

@@ -93,7 +93,9 @@ pub record AreKept (base size : ℕ) (ring : RingConstants) : Type 0 where
   pub finite : length ring.samples ≤ 1099511627776
 
 -- the writer's own counts are its fields, and `cell` is the cell of the next place
-pub record IsSoundWriter {X Q : Type 0} (samples : X → List ℕ) (t : Shared (Unit {0}) View (OpenedWith X) Q) (seat : Seat (Unit {0}) View) (base size next freed cell : ℕ) : Type 0 where
+pub record IsSoundWriter
+    {X Q : Type 0} (samples : X → List ℕ) (t : Shared (Unit {0}) View (OpenedWith X) Q) (seat : Seat (Unit {0}) View)
+    (base size next freed cell : ℕ) : Type 0 where
   pub of : IsSeatOf samples t seat
   pub kept : AreKept base size seat.me.0.ring
   pub part : WriterPart
@@ -108,7 +110,9 @@ pub record IsSoundWriter {X Q : Type 0} (samples : X → List ℕ) (t : Shared (
   pub next_end : next ≤ length seat.me.0.ring.samples
 
 -- the munger's own counts are its fields, and `cell` is the cell of the next place to munge
-pub record IsSoundMunger {X Q : Type 0} (samples : X → List ℕ) (t : Shared (Unit {0}) View (OpenedWith X) Q) (seat : Seat (Unit {0}) View) (rule : RuleText) (base size munged avail cell : ℕ) : Type 0 where
+pub record IsSoundMunger
+    {X Q : Type 0} (samples : X → List ℕ) (t : Shared (Unit {0}) View (OpenedWith X) Q) (seat : Seat (Unit {0}) View)
+    (rule : RuleText) (base size munged avail cell : ℕ) : Type 0 where
   pub of : IsSeatOf samples t seat
   pub kept : AreKept base size seat.me.0.ring
   pub part : MungerPart
@@ -124,7 +128,9 @@ pub record IsSoundMunger {X Q : Type 0} (samples : X → List ℕ) (t : Shared (
   pub avail_end : avail ≤ length seat.me.0.ring.samples
 
 -- the reader's own counts are its fields, and `cell` is the cell of the first place that isn't released
-pub record IsSoundReader {X Q : Type 0} (samples : X → List ℕ) (t : Shared (Unit {0}) View (OpenedWith X) Q) (seat : Seat (Unit {0}) View) (base size released known mapped cell : ℕ) : Type 0 where
+pub record IsSoundReader
+    {X Q : Type 0} (samples : X → List ℕ) (t : Shared (Unit {0}) View (OpenedWith X) Q) (seat : Seat (Unit {0}) View)
+    (base size released known mapped cell : ℕ) : Type 0 where
   pub of : IsSeatOf samples t seat
   pub kept : AreKept base size seat.me.0.ring
   pub part : ReaderPart
@@ -138,7 +144,14 @@ pub record IsSoundReader {X Q : Type 0} (samples : X → List ℕ) (t : Shared (
 
 -- a munger's seat may munge so many places from one on
 abbrev pub MayRun : RuleText → ℕ → ℕ → View → Type 0
-MayRun rule from count v = (m : MungerPart) × (v.munger ≡ Some m) × (m.exchanged ≡ from) × (from + count ≤ m.avail) × (rule ≡ v.ring.rule) × IsRule rule × (from + count < 18446744073709551616)
+MayRun rule from count v =
+    (m : MungerPart)
+    × (v.munger ≡ Some m)
+    × (m.exchanged ≡ from)
+    × (from + count ≤ m.avail)
+    × (rule ≡ v.ring.rule)
+    × IsRule rule
+    × (from + count < 18446744073709551616)
 
 -- and has munged them
 abbrev pub HasRun : ℕ → View → View → Type 0

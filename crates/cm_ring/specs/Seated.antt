@@ -8,7 +8,11 @@ use Rattle.cm_ring_core.specs.Lawful.{constants_of, AreConstants}
 
 -- the seat is one of this table, and knows the constants of its ring
 abbrev pub IsSeatOf : {X Q : Type 0} → (X → List ℕ) → Shared (Unit {0}) View (OpenedWith X) Q → Seat (Unit {0}) View → Type 0
-IsSeatOf samples t seat = (seat.table_id ≡ t.table_id) × (t.table_id.words ≡ t.key.size + 5) × (seat.me.0.ring ≡ constants_of samples t.key) × AreConstants (constants_of samples t.key)
+IsSeatOf samples t seat =
+    (seat.table_id ≡ t.table_id)
+    × (t.table_id.words ≡ t.key.size + 5)
+    × (seat.me.0.ring ≡ constants_of samples t.key)
+    × AreConstants (constants_of samples t.key)
 
 -- the same seat after a step
 abbrev pub IsSameSeat : Seat (Unit {0}) View → Seat (Unit {0}) View → Type 0

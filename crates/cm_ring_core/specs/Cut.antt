@@ -39,7 +39,10 @@ all_written c = record c { written = c.put }
 
 -- the next word is munged in its cell
 abbrev pub next_munged : RuleText → Cut → Cut
-next_munged rule c = record c { munged = c.munged + 1; cells = slice_set c.cells (c.munged % c.size) (munged_word rule c.munged (slice_index c.cells (c.munged % c.size))) }
+next_munged rule c = record c {
+  munged = c.munged + 1;
+  cells = slice_set c.cells (c.munged % c.size) (munged_word rule c.munged (slice_index c.cells (c.munged % c.size)));
+}
 
 -- so many words are munged, one after another
 abbrev pub munged_by : RuleText → ℕ → Cut → Cut

@@ -1,4 +1,5 @@
--- The kinds of step: where each may be made, and what it gives the seat that makes it. `v` is what the seat knows before, `n` the number found or stored, and `u` what it knows after.
+-- The kinds of step: where each may be made, and what it gives the seat that makes it.
+-- `v` is what the seat knows before, `n` the number found or stored, and `u` what it knows after.
 use Rattle.std.specs.Prelude.{◌≡◌, ℕ, ◌+◌, ◌%◌, ◌<◌, ◌≤◌, true, length, Option, Some, None, eqb}
 use Rattle.atomic_table.specs.Table.{Me, Step}
 use Rattle.cm_ring_core.specs.declared.view.End.{End}
@@ -19,14 +20,26 @@ cell_of ring k = k % ring.size + 5
 -- the writer loads the released count: its room is known up to there
 abbrev pub SeesRead : View → ℕ → View → Type 0
 SeesRead v n u = (w : WriterPart) → v.writer ≡ Some w
-    → (k : ℕ) × (n ≡ shown v.ring k) × (w.freed ≤ k) × (k ≤ w.written) × (u ≡ record v { writer = Some (record w { freed = k; at = w.next; read_looks = w.read_looks + 1 }) })
+    → (k : ℕ)
+    × (n ≡ shown v.ring k)
+    × (w.freed ≤ k)
+    × (k ≤ w.written)
+    × (u ≡ record v { writer = Some (record w { freed = k; at = w.next; read_looks = w.read_looks + 1 }) })
 
 abbrev pub sees_read : Step (Unit {0}) → Seat → ℕ → Seat → Type 0
 sees_read st me n me' = SeesRead me.0 n me'.0
 
 -- the writer stores the plan's next word into its cell, where there is room
 abbrev pub MayPut : View → ℕ → ℕ → Type 0
-MayPut v i word = (w : WriterPart) × (v.writer ≡ Some w) × (w.closed ≡ None) × (w.next < w.freed + v.ring.size) × (w.next < length v.ring.samples) × (i ≡ cell_of v.ring w.next) × (word ≡ plan_at v.ring w.next) × (word < 4294967296)
+MayPut v i word =
+    (w : WriterPart)
+    × (v.writer ≡ Some w)
+    × (w.closed ≡ None)
+    × (w.next < w.freed + v.ring.size)
+    × (w.next < length v.ring.samples)
+    × (i ≡ cell_of v.ring w.next)
+    × (word ≡ plan_at v.ring w.next)
+    × (word < 4294967296)
 
 abbrev pub Puts : View → View → Type 0
 Puts v u = (w : WriterPart) → v.writer ≡ Some w → u ≡ record v { writer = Some (record w { next = w.next + 1 }) }
@@ -46,10 +59,18 @@ publishes st me n me' = Publishes me.0 me'.0
 
 -- the munger exchanges the next raw word for its munged word
 abbrev pub MayMunge : View → ℕ → ℕ → Type 0
-MayMunge v i word = (m : MungerPart) × (v.munger ≡ Some m) × (m.exchanged < m.avail) × (i ≡ cell_of v.ring m.exchanged) × (word ≡ munged_at v.ring m.exchanged) × (word < 4294967296)
+MayMunge v i word =
+    (m : MungerPart)
+    × (v.munger ≡ Some m)
+    × (m.exchanged < m.avail)
+    × (i ≡ cell_of v.ring m.exchanged)
+    × (word ≡ munged_at v.ring m.exchanged)
+    × (word < 4294967296)
 
 abbrev pub Munges : View → ℕ → View → Type 0
-Munges v n u = (m : MungerPart) → v.munger ≡ Some m → (n ≡ plan_at v.ring m.exchanged) × (u ≡ record v { munger = Some (record m { exchanged = m.exchanged + 1 }) })
+Munges v n u =
+    (m : MungerPart) → v.munger ≡ Some m
+    → (n ≡ plan_at v.ring m.exchanged) × (u ≡ record v { munger = Some (record m { exchanged = m.exchanged + 1 }) })
 
 abbrev pub munges : Step (Unit {0}) → Seat → ℕ → Seat → Type 0
 munges st me n me' = Munges me.0 n me'.0
@@ -67,21 +88,35 @@ shows st me n me' = Shows me.0 me'.0
 -- the reader loads the munged count. Where an end was found, the load does not pass its count
 abbrev pub SeesMunged : View → ℕ → View → Type 0
 SeesMunged v n u = (r : ReaderPart) → v.reader ≡ Some r
-    → (k : ℕ) × (n ≡ shown v.ring k) × (r.known ≤ k) × (k ≤ r.released + v.ring.size) × (k ≤ length v.ring.samples) × ((e : End) → r.found ≡ Some e → k ≤ e.count) × (u ≡ record v { reader = Some (record r { known = k; munged_looks = r.munged_looks + 1 }) })
+    → (k : ℕ)
+    × (n ≡ shown v.ring k)
+    × (r.known ≤ k)
+    × (k ≤ r.released + v.ring.size)
+    × (k ≤ length v.ring.samples)
+    × ((e : End) → r.found ≡ Some e → k ≤ e.count)
+    × (u ≡ record v { reader = Some (record r { known = k; munged_looks = r.munged_looks + 1 }) })
 
 abbrev pub sees_munged : Step (Unit {0}) → Seat → ℕ → Seat → Type 0
 sees_munged st me n me' = SeesMunged me.0 n me'.0
 
 -- the reader loads a cell: where it is that of a known place, it has the munged word
 abbrev pub ReadsCell : View → ℕ → ℕ → View → Type 0
-ReadsCell v i n u = (u ≡ v) × ((r : ReaderPart) → v.reader ≡ Some r → (k : ℕ) → r.released ≤ k → k < r.known → i ≡ cell_of v.ring k → (n ≡ munged_at v.ring k) × (n < 4294967296))
+ReadsCell v i n u =
+    (u ≡ v)
+    × ((r : ReaderPart) → v.reader ≡ Some r
+    → (k : ℕ) → r.released ≤ k → k < r.known → i ≡ cell_of v.ring k
+    → (n ≡ munged_at v.ring k) × (n < 4294967296))
 
 abbrev pub reads_cell : Step (Unit {0}) → Seat → ℕ → Seat → Type 0
 reads_cell st me n me' = ReadsCell me.0 st.word n me'.0
 
 -- the munger loads a cell: where it is that of the next published place, it has the plan's word
 abbrev pub TakesCell : View → ℕ → ℕ → View → Type 0
-TakesCell v i n u = (u ≡ v) × ((m : MungerPart) → v.munger ≡ Some m → m.exchanged < m.avail → i ≡ cell_of v.ring m.exchanged → (n ≡ plan_at v.ring m.exchanged) × (n < 4294967296))
+TakesCell v i n u =
+    (u ≡ v)
+    × ((m : MungerPart) → v.munger ≡ Some m
+    → m.exchanged < m.avail → i ≡ cell_of v.ring m.exchanged
+    → (n ≡ plan_at v.ring m.exchanged) × (n < 4294967296))
 
 abbrev pub takes_cell : Step (Unit {0}) → Seat → ℕ → Seat → Type 0
 takes_cell st me n me' = TakesCell me.0 st.word n me'.0
@@ -91,7 +126,10 @@ abbrev pub MayRelease : View → ℕ → Type 0
 MayRelease v word = (r : ReaderPart) × (v.reader ≡ Some r) × ((k : ℕ) × (r.released ≤ k) × (k ≤ r.known) × (word ≡ shown v.ring k))
 
 abbrev pub Releases : View → ℕ → View → Type 0
-Releases v n u = (r : ReaderPart) → v.reader ≡ Some r → (k : ℕ) → r.released ≤ k → k ≤ r.known → n ≡ shown v.ring k → u ≡ record v { reader = Some (record r { released = k }) }
+Releases v n u =
+    (r : ReaderPart) → v.reader ≡ Some r
+    → (k : ℕ) → r.released ≤ k → k ≤ r.known → n ≡ shown v.ring k
+    → u ≡ record v { reader = Some (record r { released = k }) }
 
 abbrev pub releases : Step (Unit {0}) → Seat → ℕ → Seat → Type 0
 releases st me n me' = Releases me.0 n me'.0
@@ -101,7 +139,10 @@ abbrev pub MayEnd : View → ℕ → Type 0
 MayEnd v word = (w : WriterPart) × (v.writer ≡ Some w) × (w.closed ≡ None) × ((e : End) × (word ≡ end_word (Some e)) × IsRightEnd v.ring w e)
 
 abbrev pub EndsWith : View → ℕ → View → Type 0
-EndsWith v n u = (w : WriterPart) → v.writer ≡ Some w → (e : End) → n ≡ end_word (Some e) → u ≡ record v { writer = Some (record w { closed = Some e }) }
+EndsWith v n u =
+    (w : WriterPart) → v.writer ≡ Some w
+    → (e : End) → n ≡ end_word (Some e)
+    → u ≡ record v { writer = Some (record w { closed = Some e }) }
 
 abbrev pub ends_with : Step (Unit {0}) → Seat → ℕ → Seat → Type 0
 ends_with st me n me' = EndsWith me.0 n me'.0
@@ -109,7 +150,11 @@ ends_with st me n me' = EndsWith me.0 n me'.0
 -- the reader loads the end. An end that was found stays, and says what holds of its kind
 abbrev pub Finds : View → ℕ → View → Type 0
 Finds v n u = (r : ReaderPart) → v.reader ≡ Some r
-    → (found : Option End) × (n ≡ end_word found) × (u ≡ record v { reader = Some (record r { found = found; end_looks = r.end_looks + 1 }) }) × ((e : End) → r.found ≡ Some e → found ≡ Some e) × ((e : End) → found ≡ Some e → (r.known ≤ e.count) × IsFoundEnd v.ring r e.kind e.count)
+    → (found : Option End)
+    × (n ≡ end_word found)
+    × (u ≡ record v { reader = Some (record r { found = found; end_looks = r.end_looks + 1 }) })
+    × ((e : End) → r.found ≡ Some e → found ≡ Some e)
+    × ((e : End) → found ≡ Some e → (r.known ≤ e.count) × IsFoundEnd v.ring r e.kind e.count)
 
 abbrev pub finds : Step (Unit {0}) → Seat → ℕ → Seat → Type 0
 finds st me n me' = Finds me.0 n me'.0
@@ -117,7 +162,11 @@ finds st me n me' = Finds me.0 n me'.0
 -- the munger loads the end. An end that was found stays, and its count is not below what the munger knows as written
 abbrev pub MungerFinds : View → ℕ → View → Type 0
 MungerFinds v n u = (m : MungerPart) → v.munger ≡ Some m
-    → (found : Option End) × (n ≡ end_word found) × (u ≡ record v { munger = Some (record m { found = found; end_looks = m.end_looks + 1 }) }) × ((e : End) → m.found ≡ Some e → found ≡ Some e) × ((e : End) → found ≡ Some e → m.avail ≤ e.count)
+    → (found : Option End)
+    × (n ≡ end_word found)
+    × (u ≡ record v { munger = Some (record m { found = found; end_looks = m.end_looks + 1 }) })
+    × ((e : End) → m.found ≡ Some e → found ≡ Some e)
+    × ((e : End) → found ≡ Some e → m.avail ≤ e.count)
 
 abbrev pub munger_finds : Step (Unit {0}) → Seat → ℕ → Seat → Type 0
 munger_finds st me n me' = MungerFinds me.0 n me'.0
@@ -131,7 +180,11 @@ asks st me n me' = Asks me.0 me'.0
 
 -- the writer loads the stop. A stop that was seen stays
 abbrev pub SeesStop : View → ℕ → View → Type 0
-SeesStop v n u = (w : WriterPart) → v.writer ≡ Some w → (n < 2) × (w.saw_stop ≡ true → n ≡ 1) × (u ≡ record v { writer = Some (record w { saw_stop = eqb n 1; stop_looks = w.stop_looks + 1 }) })
+SeesStop v n u =
+    (w : WriterPart) → v.writer ≡ Some w
+    → (n < 2)
+    × (w.saw_stop ≡ true → n ≡ 1)
+    × (u ≡ record v { writer = Some (record w { saw_stop = eqb n 1; stop_looks = w.stop_looks + 1 }) })
 
 abbrev pub sees_stop : Step (Unit {0}) → Seat → ℕ → Seat → Type 0
 sees_stop st me n me' = SeesStop me.0 n me'.0
@@ -139,7 +192,13 @@ sees_stop st me n me' = SeesStop me.0 n me'.0
 -- the munger loads the written count. Where an end was found, the load gives its count
 abbrev pub SeesWritten : View → ℕ → View → Type 0
 SeesWritten v n u = (m : MungerPart) → v.munger ≡ Some m
-    → (k : ℕ) × (n ≡ shown v.ring k) × (m.avail ≤ k) × (k ≤ m.munged + v.ring.size) × (k ≤ length v.ring.samples) × ((e : End) → m.found ≡ Some e → k ≡ e.count) × (u ≡ record v { munger = Some (record m { avail = k; written_looks = m.written_looks + 1 }) })
+    → (k : ℕ)
+    × (n ≡ shown v.ring k)
+    × (m.avail ≤ k)
+    × (k ≤ m.munged + v.ring.size)
+    × (k ≤ length v.ring.samples)
+    × ((e : End) → m.found ≡ Some e → k ≡ e.count)
+    × (u ≡ record v { munger = Some (record m { avail = k; written_looks = m.written_looks + 1 }) })
 
 abbrev pub sees_written : Step (Unit {0}) → Seat → ℕ → Seat → Type 0
 sees_written st me n me' = SeesWritten me.0 n me'.0

@@ -5,7 +5,9 @@ use lib.ListN.{get_elem?}
 use Rattle.atomic_table.specs.Table.{State, Me, keeps, step, stepped, Allows, Splits, opening}
 use Rattle.cm_ring_core.specs.Local.{Ring, IsRing}
 use Rattle.cm_ring_core.specs.Lawful.{Words, Lawful, AreConstants, Each, laid, shown, opened}
-use Rattle.cm_ring_core.specs.Kinds.{sees_read, puts, publishes, munges, shows, sees_munged, reads_cell, takes_cell, releases, ends_with, finds, munger_finds, asks, sees_stop, sees_written, without_reader, only_reader, without_munger, only_munger, cell_of, MayPut, MayPublish, MayMunge, MayShow, MayRelease, MayEnd}
+use Rattle.cm_ring_core.specs.Kinds.{sees_read, puts, publishes, ends_with, sees_stop, munges, shows, takes_cell, munger_finds, sees_written}
+use Rattle.cm_ring_core.specs.Kinds.{sees_munged, reads_cell, releases, finds, asks, without_reader, only_reader, without_munger, only_munger}
+use Rattle.cm_ring_core.specs.Kinds.{cell_of, MayPut, MayPublish, MayMunge, MayShow, MayRelease, MayEnd}
 use Rattle.cm_ring_core.specs.Cut.{Cut, local_cut, shared_cut, with_put, all_written, next_munged, released_to, word_at}
 use Rattle.cm_ring_core.specs.declared.view.RingConstants.{RingConstants}
 use Rattle.cm_ring_core.specs.declared.view.WriterPart.{WriterPart}
@@ -23,51 +25,83 @@ RingMe = Me (Unit {0}) View
 abbrev pub first_words : RingConstants → Words
 first_words ring = record { read = shown ring 0; munged = shown ring 0; written = shown ring 0; end = 0; stop = 0; cells = replicate ring.size 0 }
 
--- the rule holds when a ring is opened; and whatever the ring is when a seat makes a step that it may make, the rule holds after it, and the seat knows what its kind says
+-- the rule holds when a ring is opened; and whatever the ring is when a seat makes a step that it may make,
+-- the rule holds after it, and the seat knows what its kind says
 pub record StepLaw : Type 0 where
-  pub opens : (ring : RingConstants) → AreConstants ring → (words : List ℕ) → words ≡ laid (first_words ring) → Lawful ring (opening words [] (opened ring))
-  pub load_read : (slots id : ℕ) (me : RingMe) (w : WriterPart) → me.0.writer ≡ Some w → w.closed ≡ None → Allows (Lawful me.0.ring) slots id me 0 (λ n. n) (sees_read (step slots 0 0 0 none) me)
-  pub store_sample : (slots id : ℕ) (me : RingMe) (i word : ℕ) → MayPut me.0 i word → Allows (Lawful me.0.ring) slots id me i (λ _. word) (λ _. puts (step slots i word 0 none) me word)
-  pub publish_written : (slots id : ℕ) (me : RingMe) (word : ℕ) → MayPublish me.0 word → Allows (Lawful me.0.ring) slots id me 2 (λ _. word) (λ _. publishes (step slots 2 word 0 none) me word)
-  pub munge_cell : (slots id : ℕ) (me : RingMe) (i word : ℕ) → MayMunge me.0 i word → Allows (Lawful me.0.ring) slots id me i (λ _. word) (munges (step slots i word 0 none) me)
-  pub publish_munged : (slots id : ℕ) (me : RingMe) (word : ℕ) → MayShow me.0 word → Allows (Lawful me.0.ring) slots id me 1 (λ _. word) (λ _. shows (step slots 1 word 0 none) me word)
-  pub load_munged : (slots id : ℕ) (me : RingMe) (r : ReaderPart) → me.0.reader ≡ Some r → Allows (Lawful me.0.ring) slots id me 1 (λ n. n) (sees_munged (step slots 1 0 0 none) me)
+  pub opens : (ring : RingConstants) → AreConstants ring → (words : List ℕ) → words ≡ laid (first_words ring)
+      → Lawful ring (opening words [] (opened ring))
+  pub load_read : (slots id : ℕ) (me : RingMe) (w : WriterPart) → me.0.writer ≡ Some w → w.closed ≡ None
+      → Allows (Lawful me.0.ring) slots id me 0 (λ n. n) (sees_read (step slots 0 0 0 none) me)
+  pub store_sample : (slots id : ℕ) (me : RingMe) (i word : ℕ) → MayPut me.0 i word
+      → Allows (Lawful me.0.ring) slots id me i (λ _. word) (λ _. puts (step slots i word 0 none) me word)
+  pub publish_written : (slots id : ℕ) (me : RingMe) (word : ℕ) → MayPublish me.0 word
+      → Allows (Lawful me.0.ring) slots id me 2 (λ _. word) (λ _. publishes (step slots 2 word 0 none) me word)
+  pub munge_cell : (slots id : ℕ) (me : RingMe) (i word : ℕ) → MayMunge me.0 i word
+      → Allows (Lawful me.0.ring) slots id me i (λ _. word) (munges (step slots i word 0 none) me)
+  pub publish_munged : (slots id : ℕ) (me : RingMe) (word : ℕ) → MayShow me.0 word
+      → Allows (Lawful me.0.ring) slots id me 1 (λ _. word) (λ _. shows (step slots 1 word 0 none) me word)
+  pub load_munged : (slots id : ℕ) (me : RingMe) (r : ReaderPart) → me.0.reader ≡ Some r
+      → Allows (Lawful me.0.ring) slots id me 1 (λ n. n) (sees_munged (step slots 1 0 0 none) me)
   pub load_cell : (slots id : ℕ) (me : RingMe) (i : ℕ) → Allows (Lawful me.0.ring) slots id me i (λ n. n) (reads_cell (step slots i 0 0 none) me)
   pub load_raw_cell : (slots id : ℕ) (me : RingMe) (i : ℕ) → Allows (Lawful me.0.ring) slots id me i (λ n. n) (takes_cell (step slots i 0 0 none) me)
-  pub publish_read : (slots id : ℕ) (me : RingMe) (word : ℕ) → MayRelease me.0 word → Allows (Lawful me.0.ring) slots id me 0 (λ _. word) (λ _. releases (step slots 0 word 0 none) me word)
-  pub store_end : (slots id : ℕ) (me : RingMe) (word : ℕ) → MayEnd me.0 word → Allows (Lawful me.0.ring) slots id me 3 (λ _. word) (λ _. ends_with (step slots 3 word 0 none) me word)
-  pub load_end : (slots id : ℕ) (me : RingMe) (r : ReaderPart) → me.0.reader ≡ Some r → Allows (Lawful me.0.ring) slots id me 3 (λ n. n) (finds (step slots 3 0 0 none) me)
-  pub munger_load_end : (slots id : ℕ) (me : RingMe) (m : MungerPart) → me.0.munger ≡ Some m → Allows (Lawful me.0.ring) slots id me 3 (λ n. n) (munger_finds (step slots 3 0 0 none) me)
-  pub ask_stop : (slots id : ℕ) (me : RingMe) (r : ReaderPart) → me.0.reader ≡ Some r → Allows (Lawful me.0.ring) slots id me 4 (λ _. 1) (λ _. asks (step slots 4 1 0 none) me 1)
-  pub load_stop : (slots id : ℕ) (me : RingMe) (w : WriterPart) → me.0.writer ≡ Some w → w.closed ≡ None → Allows (Lawful me.0.ring) slots id me 4 (λ n. n) (sees_stop (step slots 4 0 0 none) me)
-  pub load_written : (slots id : ℕ) (me : RingMe) (m : MungerPart) → me.0.munger ≡ Some m → Allows (Lawful me.0.ring) slots id me 2 (λ n. n) (sees_written (step slots 2 0 0 none) me)
+  pub publish_read : (slots id : ℕ) (me : RingMe) (word : ℕ) → MayRelease me.0 word
+      → Allows (Lawful me.0.ring) slots id me 0 (λ _. word) (λ _. releases (step slots 0 word 0 none) me word)
+  pub store_end : (slots id : ℕ) (me : RingMe) (word : ℕ) → MayEnd me.0 word
+      → Allows (Lawful me.0.ring) slots id me 3 (λ _. word) (λ _. ends_with (step slots 3 word 0 none) me word)
+  pub load_end : (slots id : ℕ) (me : RingMe) (r : ReaderPart) → me.0.reader ≡ Some r
+      → Allows (Lawful me.0.ring) slots id me 3 (λ n. n) (finds (step slots 3 0 0 none) me)
+  pub munger_load_end : (slots id : ℕ) (me : RingMe) (m : MungerPart) → me.0.munger ≡ Some m
+      → Allows (Lawful me.0.ring) slots id me 3 (λ n. n) (munger_finds (step slots 3 0 0 none) me)
+  pub ask_stop : (slots id : ℕ) (me : RingMe) (r : ReaderPart) → me.0.reader ≡ Some r
+      → Allows (Lawful me.0.ring) slots id me 4 (λ _. 1) (λ _. asks (step slots 4 1 0 none) me 1)
+  pub load_stop : (slots id : ℕ) (me : RingMe) (w : WriterPart) → me.0.writer ≡ Some w → w.closed ≡ None
+      → Allows (Lawful me.0.ring) slots id me 4 (λ n. n) (sees_stop (step slots 4 0 0 none) me)
+  pub load_written : (slots id : ℕ) (me : RingMe) (m : MungerPart) → me.0.munger ≡ Some m
+      → Allows (Lawful me.0.ring) slots id me 2 (λ n. n) (sees_written (step slots 2 0 0 none) me)
   pub split_reader : (id : ℕ) (v : View) (r : ReaderPart) → v.reader ≡ Some r → Splits (Lawful v.ring) id v (without_reader v) (only_reader v)
   pub split_munger : (id : ℕ) (v : View) (m : MungerPart) → v.munger ≡ Some m → Splits (Lawful v.ring) id v (without_munger v) (only_munger v)
 
 -- a seat's step on a word keeps the rule, and its cut is that of before with a change
 abbrev pub Cuts : (v : View) (s : RingState) → Lawful v.ring s → ℕ → ℕ → ℕ → View → (Cut → Cut) → Type 0
-Cuts v s h i n id u change = (held : List (ℕ × Unit {0})) → (after : Lawful v.ring (stepped s i n id held u keeps)) × (shared_cut v.ring (stepped s i n id held u keeps) after ≡ change (shared_cut v.ring s h))
+Cuts v s h i n id u change =
+    (held : List (ℕ × Unit {0}))
+    → (after : Lawful v.ring (stepped s i n id held u keeps))
+    × (shared_cut v.ring (stepped s i n id held u keeps) after ≡ change (shared_cut v.ring s h))
 
 -- what the steps of a shared ring do with its places and cells
 pub record SharedCuts : Type 0 where
-  pub store_sample : (s : RingState) (id : ℕ) (v : View) (h : Lawful v.ring s) (i word : ℕ) (w : WriterPart) → get_elem? s.views id ≡ some v → v.writer ≡ Some w → MayPut v i word
+  pub store_sample : (s : RingState) (id : ℕ) (v : View) (h : Lawful v.ring s) (i word : ℕ) (w : WriterPart)
+      → get_elem? s.views id ≡ some v → v.writer ≡ Some w → MayPut v i word
       → Cuts v s h i word id (record v { writer = Some (record w { next = w.next + 1 }) }) (with_put word)
-  pub publish_written : (s : RingState) (id : ℕ) (v : View) (h : Lawful v.ring s) (word : ℕ) (w : WriterPart) → get_elem? s.views id ≡ some v → v.writer ≡ Some w → MayPublish v word
+  pub publish_written : (s : RingState) (id : ℕ) (v : View) (h : Lawful v.ring s) (word : ℕ) (w : WriterPart)
+      → get_elem? s.views id ≡ some v → v.writer ≡ Some w → MayPublish v word
       → Cuts v s h 2 word id (record v { writer = Some (record w { written = w.next }) }) all_written
-  pub munge_cell : (s : RingState) (id : ℕ) (v : View) (h : Lawful v.ring s) (i word : ℕ) (m : MungerPart) → get_elem? s.views id ≡ some v → v.munger ≡ Some m → MayMunge v i word
+  pub munge_cell : (s : RingState) (id : ℕ) (v : View) (h : Lawful v.ring s) (i word : ℕ) (m : MungerPart)
+      → get_elem? s.views id ≡ some v → v.munger ≡ Some m → MayMunge v i word
       → Cuts v s h i word id (record v { munger = Some (record m { exchanged = m.exchanged + 1 }) }) (next_munged v.ring.rule)
-  pub publish_munged : (s : RingState) (id : ℕ) (v : View) (h : Lawful v.ring s) (word : ℕ) (m : MungerPart) → get_elem? s.views id ≡ some v → v.munger ≡ Some m → MayShow v word
+  pub publish_munged : (s : RingState) (id : ℕ) (v : View) (h : Lawful v.ring s) (word : ℕ) (m : MungerPart)
+      → get_elem? s.views id ≡ some v → v.munger ≡ Some m → MayShow v word
       → Cuts v s h 1 word id (record v { munger = Some (record m { munged = m.exchanged }) }) (λ c. c)
-  pub load_cell : (s : RingState) (id : ℕ) (v : View) (h : Lawful v.ring s) (i : ℕ) (r : ReaderPart) → get_elem? s.views id ≡ some v → v.reader ≡ Some r
+  pub load_cell : (s : RingState) (id : ℕ) (v : View) (h : Lawful v.ring s) (i : ℕ) (r : ReaderPart)
+      → get_elem? s.views id ≡ some v → v.reader ≡ Some r
       → slice_index s.words (cell_of v.ring (r.released + i)) ≡ word_at (shared_cut v.ring s h) i
-  pub publish_read : (s : RingState) (id : ℕ) (v : View) (h : Lawful v.ring s) (word place : ℕ) (r : ReaderPart) → get_elem? s.views id ≡ some v → v.reader ≡ Some r → r.released ≤ place → place ≤ r.known → word ≡ shown v.ring place
+  pub publish_read : (s : RingState) (id : ℕ) (v : View) (h : Lawful v.ring s) (word place : ℕ) (r : ReaderPart)
+      → get_elem? s.views id ≡ some v → v.reader ≡ Some r
+      → r.released ≤ place → place ≤ r.known → word ≡ shown v.ring place
       → Cuts v s h 0 word id (record v { reader = Some (record r { released = place }) }) (released_to place)
 
--- the calls of a ring of one thread, by their contracts, do the same: one sample is allocated and put, all that is allocated is written, what is held stands in the cells of its places, as a shared ring's rule says it of its own, a granted sample is read, and samples are released. That all that is written is munged one word after another is a clause of its call
+-- the calls of a ring of one thread, by their contracts, do the same:
+-- one sample is allocated and put, all that is allocated is written, what is held stands in the cells of its places,
+-- as a shared ring's rule says it of its own, a granted sample is read, and samples are released.
+-- That all that is written is munged one word after another is a clause of its call
 pub record LocalCuts : Type 0 where
   pub put : (old granted new : Ring) (i word : ℕ) → IsRing old → i ≡ old.a - old.w → granted ≡ record old { a = old.a + 1; held = granted.held }
-      → new ≡ record granted { cells = slice_set granted.cells ((granted.w + i) % granted.size) word; held = new.held } → local_cut new ≡ with_put word (local_cut old)
+      → new ≡ record granted { cells = slice_set granted.cells ((granted.w + i) % granted.size) word; held = new.held }
+      → local_cut new ≡ with_put word (local_cut old)
   pub write_free : (old new : Ring) → IsRing old → new ≡ record old { w = old.w + (old.a - old.w) } → local_cut new ≡ all_written (local_cut old)
-  pub held : (ring : Ring) → IsRing ring → Each ring.cells ring.size ring.r (ring.r + length ring.held) (λ k word. word ≡ slice_index ring.held (k - ring.r))
+  pub held : (ring : Ring) → IsRing ring
+      → Each ring.cells ring.size ring.r (ring.r + length ring.held) (λ k word. word ≡ slice_index ring.held (k - ring.r))
   pub word : (ring : Ring) (i : ℕ) → IsRing ring → i < length ring.held → slice_index ring.held i ≡ word_at (local_cut ring) i
-  pub read_free : (old new : Ring) (count : ℕ) → new ≡ record old { r = old.r + count; held = drop count old.held } → local_cut new ≡ released_to (old.r + count) (local_cut old)
+  pub read_free : (old new : Ring) (count : ℕ)
+      → new ≡ record old { r = old.r + count; held = drop count old.held }
+      → local_cut new ≡ released_to (old.r + count) (local_cut old)

@@ -15,4 +15,7 @@ ArePaced (Drive t0 values cmd ∷ lines) = ArePaced lines
 
 -- a run without free lines has one text, whatever the schedule
 abbrev pub PacedLaw : Type 0
-PacedLaw = (board : BoardText) (signals : SignalsText) (lines : List RunLine) (text : List ℕ) → ArePaced lines → IsRunText board signals lines text → text ≡ run_text board signals lines
+PacedLaw =
+    (board : BoardText) (signals : SignalsText) (lines : List RunLine) (text : List ℕ)
+    → ArePaced lines → IsRunText board signals lines text
+    → text ≡ run_text board signals lines

@@ -6,4 +6,6 @@ use Rattle.cm_sample.specs.Munging.{munged, unmunged}
 -- munging gives back each code of each channel that was unmunged
 abbrev pub GivesCodesBack : Type 0
 GivesCodesBack =
-    (sub : SubText) (chan code : ℕ) → IsSoundSub sub → chan < sub.channels → code ≤ maxdata_of sub chan → munged (munge_of sub chan) (maxdata_of sub chan) (unmunged (munge_of sub chan) (maxdata_of sub chan) code) ≡ code
+    (sub : SubText) (chan code : ℕ)
+    → IsSoundSub sub → chan < sub.channels → code ≤ maxdata_of sub chan
+    → munged (munge_of sub chan) (maxdata_of sub chan) (unmunged (munge_of sub chan) (maxdata_of sub chan) code) ≡ code

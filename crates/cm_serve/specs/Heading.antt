@@ -34,5 +34,10 @@ IsHead lines = head_of lines ≡ lines
 
 -- these lines were heard, and are the text
 abbrev pub HasHead : Result Head TalkStop → Option (List Turn) → Option (List Turn) → List ℕ → Type 0
-HasHead (Ok head) old new text = (lines : List (List ℕ)) × Says old new (map Line lines) × (text ≡ text_of lines) × (head.count ≡ length lines) × Follows head.goes_on lines
+HasHead (Ok head) old new text =
+    (lines : List (List ℕ))
+    × Says old new (map Line lines)
+    × (text ≡ text_of lines)
+    × (head.count ≡ length lines)
+    × Follows head.goes_on lines
 HasHead (Err stop) old new text = (lines : List (List ℕ)) × Says old new (map Line lines) × IsHead lines

@@ -28,8 +28,10 @@ AreSingle lines = All (λ line. length (lines_of line) ≤ 1) lines
 
 -- lines that are read as a session together are answered one by one as a replay answers them
 abbrev pub AnswersAsReplay : Type 0
-AnswersAsReplay = (s : Setting) (first : ℕ) (lines : List (List ℕ)) (all : List SessionLine) → AreSingle lines → session_of false s.signals.horizon (flat_map lines_of lines) ≡ Ok all →
-    answers (dialogue (first_play s) first lines) ≡ replay_text s all
+AnswersAsReplay =
+    (s : Setting) (first : ℕ) (lines : List (List ℕ)) (all : List SessionLine)
+    → AreSingle lines → session_of false s.signals.horizon (flat_map lines_of lines) ≡ Ok all
+    → answers (dialogue (first_play s) first lines) ≡ replay_text s all
 
 -- what a client's line says, unless it is refused, empty or a comment
 abbrev pub said_in : Play → List LineText → Option Said

@@ -35,7 +35,11 @@ counted make horizon time words = number_words 65536 horizon time words >>= λ w
 -- `T KEY F SUB I N`, with up to 65,536 samples from one of the first 65,536 on
 abbrev pub ranged_words : ℕ → List ℕ → Form (Head × ℕ × ℕ × ℕ)
 ranged_words horizon time words =
-    four_words words >>= λ w. place_of horizon time w.0 w.1 >>= λ at. number_in 0 65536 w.2 >>= λ from. number_in 0 65536 w.3 >>= λ n. Ok (at.0, at.1, from, n)
+    four_words words >>= λ w.
+    place_of horizon time w.0 w.1 >>= λ at.
+    number_in 0 65536 w.2 >>= λ from.
+    number_in 0 65536 w.3 >>= λ n.
+    Ok (at.0, at.1, from, n)
 
 abbrev pub ranged : (ℕ → ℕ → Question) → QuestionForm
 ranged make horizon time words = ranged_words horizon time words >>= λ w. Ok (asked_by w.0 w.1 (make w.2 w.3))

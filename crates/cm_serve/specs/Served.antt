@@ -34,7 +34,12 @@ Serves other old new = IsCutShort old new []
 
 -- all was said but that the client is refused
 abbrev pub IsNearlyHeld : Refused → Option (List Turn) → Option (List Turn) → Type 0
-IsNearlyHeld refused old new = (lines : List (List ℕ)) × (cut : List Turn) × (setting_said lines ≡ Err refused) × (conversation lines ≡ cut ++ refusal refused ∷ []) × Says old new cut
+IsNearlyHeld refused old new =
+    (lines : List (List ℕ))
+    × (cut : List Turn)
+    × (setting_said lines ≡ Err refused)
+    × (conversation lines ≡ cut ++ refusal refused ∷ [])
+    × Says old new cut
 
 -- the same before an answer says why the client is refused
 abbrev pub Holds : Result (Unit {0}) ServeStop → Option (List Turn) → Option (List Turn) → Type 0

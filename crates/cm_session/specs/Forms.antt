@@ -44,11 +44,19 @@ sub_words horizon time words = two_words words >>= λ w. place_of horizon time w
 
 -- those of `T KEY F SUB N`, with a number up to a limit
 abbrev pub number_words : ℕ → ℕ → List ℕ → Form (Head × ℕ × ℕ)
-number_words most horizon time words = three_words words >>= λ w. place_of horizon time w.0 w.1 >>= λ at. number_in 0 most w.2 >>= λ n. Ok (at.0, at.1, n)
+number_words most horizon time words =
+    three_words words >>= λ w.
+    place_of horizon time w.0 w.1 >>= λ at.
+    number_in 0 most w.2 >>= λ n.
+    Ok (at.0, at.1, n)
 
 -- those of `T KEY F SUB V..`, with up to 1,024 values
 abbrev pub values_words : ℕ → List ℕ → Form (Head × ℕ × List ℕ)
-values_words horizon time words = two_and_more words >>= λ w. place_of horizon time w.0 w.1 >>= λ at. values 1024 data_word [] w.2 >>= λ vs. Ok (at.0, at.1, vs)
+values_words horizon time words =
+    two_and_more words >>= λ w.
+    place_of horizon time w.0 w.1 >>= λ at.
+    values 1024 data_word [] w.2 >>= λ vs.
+    Ok (at.0, at.1, vs)
 
 -- the file, where the eight words of a command stand after it
 abbrev pub file_word : List (List ℕ) → Result (List ℕ) Fault
@@ -56,7 +64,11 @@ file_word words = if length words == 9 then Ok (slice_index_or words 0 []) else 
 
 -- the file and the command of `T cmd F COMMAND`
 abbrev pub command_words : ℕ → List ℕ → Form (Head × CmdText)
-command_words horizon time words = file_word words >>= λ file. head_of horizon time file >>= λ head. command_of (drop 1 words) >>= λ cmd. Ok (head, cmd)
+command_words horizon time words =
+    file_word words >>= λ file.
+    head_of horizon time file >>= λ head.
+    command_of (drop 1 words) >>= λ cmd.
+    Ok (head, cmd)
 
 -- the forms, each with what it asks
 abbrev pub on_file : Op → LineForm

@@ -6,4 +6,7 @@ use Rattle.cm_session.specs.declared.op.SessionLine.{SessionLine}
 
 -- what a session of instructions alone reads, a session of all kinds reads the same
 abbrev pub InsnReadsTheSame : Type 0
-InsnReadsTheSame = (horizon : ℕ) (lines : List LineText) (all : List SessionLine) → session_of true horizon lines ≡ Ok all → session_of false horizon lines ≡ Ok all
+InsnReadsTheSame =
+    (horizon : ℕ) (lines : List LineText) (all : List SessionLine)
+    → session_of true horizon lines ≡ Ok all
+    → session_of false horizon lines ≡ Ok all

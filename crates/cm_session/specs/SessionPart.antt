@@ -14,7 +14,8 @@ use Rattle.cm_session.specs.declared.op.SessionLine.{SessionLine}
 -- the lines of files, locks and instructions by their keys
 abbrev pub insn_lines : List (List ℕ × LineForm)
 insn_lines =
-    (codes "open", on_file ops.OpenFile) ∷ (codes "close", on_file ops.CloseFile) ∷ (codes "lock", on_sub ops.Lock) ∷ (codes "unlock", on_sub ops.Unlock) ∷
+    (codes "open", on_file ops.OpenFile) ∷ (codes "close", on_file ops.CloseFile) ∷
+    (codes "lock", on_sub ops.Lock) ∷ (codes "unlock", on_sub ops.Unlock) ∷
     (codes "insn", on_instruction) ∷ []
 
 -- the lines with a number after their subdevice, by their keys

@@ -11,7 +11,8 @@ use Rattle.cm_signal.specs.SignalsPart.{signals_of}
 abbrev pub LacksMore : BoardText → List LineText → Type 0
 LacksMore board lines = (end : ℕ) → signals_of board end lines ≡ Err (record { line = end; cause = Missing })
 
--- what is refused is the first line that fails, or the end: no reading of the lines before it fails, and together with them it is refused by its cause
+-- what is refused is the first line that fails, or the end:
+-- no reading of the lines before it fails, and together with them it is refused by its cause
 pub record IsFirstFault (board : BoardText) (end : ℕ) (lines : List LineText) (refused : Refused) : Type 0 where
   pub good : List LineText
   pub rest : List LineText
@@ -22,4 +23,7 @@ pub record IsFirstFault (board : BoardText) (end : ℕ) (lines : List LineText) 
 
 -- each refusal of a signals part is one of the first line that fails
 abbrev pub FirstIsRefused : Type 0
-FirstIsRefused = (board : BoardText) (end : ℕ) (lines : List LineText) (refused : Refused) → signals_of board end lines ≡ Err refused → IsFirstFault board end lines refused
+FirstIsRefused =
+    (board : BoardText) (end : ℕ) (lines : List LineText) (refused : Refused)
+    → signals_of board end lines ≡ Err refused
+    → IsFirstFault board end lines refused

@@ -1,11 +1,13 @@
 -- The signals part of a text.
-use Rattle.std.specs.Prelude.{ℕ, zero, suc, ◌+◌, Bool, true, false, ◌&&◌, nat_le, nat_lt, int_le, List, [], ◌∷◌, ◌++◌, length, drop, replicate, slice_get, slice_set, Option, Some, None, codes, Result, Ok, Err, if◌then◌else◌}
+use Rattle.std.specs.Prelude.{ℕ, zero, suc, ◌+◌, Bool, true, false, ◌&&◌, nat_le, nat_lt, int_le, List, [], ◌∷◌, ◌++◌, length}
+use Rattle.std.specs.Prelude.{drop, replicate, slice_get, slice_set, Option, Some, None, codes, Result, Ok, Err, if◌then◌else◌}
 use Rattle.std.specs.List.{before_first, list_all, list_any, position_or_len}
 use Rattle.cm_base.specs.Lines.{LineText}
 use Rattle.cm_base.specs.Numbers.{number_of}
 use Rattle.cm_base.specs.Parts.{begins, fixed}
 use Rattle.cm_base.specs.Reading.{◌>>=◌, read_on}
-use Rattle.cm_base.specs.Words.{Form, alone, each_word, four_words, keyword, limited, number_below, number_in, one, one_and_more, one_word, or_fault, signed_number, three_and_more, three_words, values}
+use Rattle.cm_base.specs.Words.{Form, alone, each_word, four_words, keyword, limited, number_below, number_in, one}
+use Rattle.cm_base.specs.Words.{one_and_more, one_word, or_fault, signed_number, three_and_more, three_words, values}
 use Rattle.cm_base.specs.declared.faults.Fault.{Fault}
 use Rattle.cm_base.specs.declared.faults.Fault.TheVariants.{Bad, BadLine, BadNumber, Double, Limit}
 use Rattle.cm_base.specs.declared.faults.Refused.{Refused}
@@ -51,7 +53,11 @@ period_word = number_in 1 1000000000000
 
 -- the forms of `wave SUB CHAN KIND ..`, by the words after the kind
 abbrev pub const_words : List SubText → List ℕ → List ℕ → Form Said
-const_words subs sub chan words = one_word words >>= λ w. channel_words subs sub chan >>= λ at. signed_number w >>= λ v. Ok (wave_said at (waves.Const v))
+const_words subs sub chan words =
+    one_word words >>= λ w.
+    channel_words subs sub chan >>= λ at.
+    signed_number w >>= λ v.
+    Ok (wave_said at (waves.Const v))
 
 -- a square wave: its low level, its high level and its period
 abbrev pub square_words : List SubText → List ℕ → List ℕ → Form Said
@@ -76,7 +82,11 @@ table_words subs sub chan words =
 
 -- the waves by their names
 abbrev pub wave_forms : List SubText → List (List ℕ × (List ℕ → List ℕ → Form Said))
-wave_forms subs = (codes "const", const_words subs) ∷ (codes "square", square_words subs) ∷ (codes "saw", saw_words subs) ∷ (codes "table", table_words subs) ∷ []
+wave_forms subs =
+    (codes "const", const_words subs) ∷
+    (codes "square", square_words subs) ∷
+    (codes "saw", saw_words subs) ∷
+    (codes "table", table_words subs) ∷ []
 
 -- `wave SUB CHAN KIND ..`
 abbrev pub wave_words : List SubText → Form Said
@@ -88,7 +98,11 @@ line_word = number_in 0 15
 
 -- `edges LINE T..` and `falls LINE T..`
 abbrev pub edges_words : Slope → ℕ → Form Said
-edges_words slope horizon words = one_and_more words >>= λ w. line_word w.0 >>= λ line. each_word (number_in 0 horizon) [] w.1 >>= λ times. Ok (said.Edges slope line times)
+edges_words slope horizon words =
+    one_and_more words >>= λ w.
+    line_word w.0 >>= λ line.
+    each_word (number_in 0 horizon) [] w.1 >>= λ times.
+    Ok (said.Edges slope line times)
 
 -- so many times, each a period after the one before
 abbrev pub progression : ℕ → ℕ → ℕ → List ℕ

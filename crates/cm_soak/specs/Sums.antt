@@ -55,7 +55,8 @@ LineSums board signals (Drive t0 values cmd) part r = ⊥
 -- a part and a reader for each line, in the order of the lines
 abbrev pub HaveSummed : BoardText → SignalsText → List RunLine → List Part → List Reading → Type 0
 HaveSummed board signals [] [] [] = Unit {0}
-HaveSummed board signals (line ∷ lines) (part ∷ parts) (r ∷ readers) = LineSums board signals line part r × HaveSummed board signals lines parts readers
+HaveSummed board signals (line ∷ lines) (part ∷ parts) (r ∷ readers) =
+    LineSums board signals line part r × HaveSummed board signals lines parts readers
 HaveSummed board signals lines parts readers = ⊥
 
 -- zeros
@@ -71,7 +72,8 @@ line_part board signals (Some (Drive t0 values cmd)) = no_part
 -- the parts of the first four lines
 abbrev pub parts_of : BoardText → SignalsText → List RunLine → List Part
 parts_of board signals lines =
-    line_part board signals (slice_get lines 0) ∷ line_part board signals (slice_get lines 1) ∷ line_part board signals (slice_get lines 2) ∷ line_part board signals (slice_get lines 3) ∷ []
+    line_part board signals (slice_get lines 0) ∷ line_part board signals (slice_get lines 1) ∷
+    line_part board signals (slice_get lines 2) ∷ line_part board signals (slice_get lines 3) ∷ []
 
 -- a part of some, and zeros where it is missing
 abbrev pub or_none : Option Part → Part
@@ -84,5 +86,6 @@ part_at parts i = or_none (slice_get parts i)
 -- for each line a reader that found the end after all of its samples, and released them
 abbrev pub AreWhole : BoardText → SignalsText → List RunLine → List Reading → Type 0
 AreWhole board signals [] [] = Unit {0}
-AreWhole board signals (Go mode access t0 most cmd ∷ lines) (r ∷ readers) = IsWhole (plan_at board signals t0 cmd) r × AreWhole board signals lines readers
+AreWhole board signals (Go mode access t0 most cmd ∷ lines) (r ∷ readers) =
+    IsWhole (plan_at board signals t0 cmd) r × AreWhole board signals lines readers
 AreWhole board signals lines readers = ⊥

@@ -1,5 +1,6 @@
 -- Streams that are stepped in turn.
-use Rattle.std.specs.Prelude.{◌≡◌, ℕ, ◌+◌, ◌-◌, ◌<◌, ◌^◌, ◌≤◌, ◌⊎◌, Bool, true, false, if◌then◌else◌, nat_lt, nat_le, List, [], ◌∷◌, ◌++◌, length, map, slice_get, slice_set, Option, Some, None, Result, Ok, Err}
+use Rattle.std.specs.Prelude.{◌≡◌, ℕ, ◌+◌, ◌-◌, ◌<◌, ◌^◌, ◌≤◌, ◌⊎◌, Bool, true, false, if◌then◌else◌, nat_lt, nat_le}
+use Rattle.std.specs.Prelude.{List, [], ◌∷◌, ◌++◌, length, map, slice_get, slice_set, Option, Some, None, Result, Ok, Err}
 use Rattle.std.specs.List.{All}
 use Rattle.futures.specs.declared.task.Poll.{Poll}
 use Rattle.futures.specs.declared.task.Poll.TheVariants.{Ready, Pending}
@@ -74,8 +75,10 @@ IsSomeLeft streams = (j : ℕ) × (b : Streaming) × (slice_get streams j ≡ So
 
 -- how a round ends after so many sources have passed, which left the streams as `passed`
 abbrev pub RoundEnds : MergeStep → ℕ → ℕ → List Streaming → List Streaming → Type 0
-RoundEnds (merged.Given source scan) first turns passed new = (turn_of first (length passed) source ≡ turns) × HasTurned (Some (steps.Given scan)) source passed new
-RoundEnds (merged.NoMemory source) first turns passed new = (turn_of first (length passed) source ≡ turns) × HasTurned (Some steps.NoMemory) source passed new
+RoundEnds (merged.Given source scan) first turns passed new =
+    (turn_of first (length passed) source ≡ turns) × HasTurned (Some (steps.Given scan)) source passed new
+RoundEnds (merged.NoMemory source) first turns passed new =
+    (turn_of first (length passed) source ≡ turns) × HasTurned (Some steps.NoMemory) source passed new
 RoundEnds merged.Ended first turns passed new = (turns ≡ length passed) × (new ≡ passed) × All IsOver new
 RoundEnds merged.Waiting first turns passed new = (turns ≡ length passed) × (new ≡ passed) × IsSomeLeft new
 
@@ -137,7 +140,11 @@ last_after other last = last
 
 -- the end that a source has found
 abbrev pub IsEndOf : List Streaming → ℕ → Option End → Type 0
-IsEndOf streams source found = (s : Streaming) × (slice_get streams source ≡ Some s) × (found ≡ s.reader.part.found) × ((e : End) → found ≡ Some e → IsFoundEnd s.reader.ring s.reader.part e.kind e.count)
+IsEndOf streams source found =
+    (s : Streaming)
+    × (slice_get streams source ≡ Some s)
+    × (found ≡ s.reader.part.found)
+    × ((e : End) → found ≡ Some e → IsFoundEnd s.reader.ring s.reader.part e.kind e.count)
 
 -- the step that a poll of a merge made
 abbrev pub merge_step_of : Poll (Option (ℕ × Result ScanText NoMemory)) → MergeStep

@@ -27,7 +27,12 @@ stream_start s = record { scan = s.n; ring = s.reader.ring; part = s.reader.part
 
 -- how a line's stream starts: with scans as long as the channel list, over a paced ring for the line's expansion
 abbrev pub line_start : BoardText → SignalsText → RunLine → Start
-line_start board signals line = record { scan = length (cmd_of line).list; ring = ring_of (plan_of board signals line) Paced; part = first_reader; mapped = 0 }
+line_start board signals line = record {
+  scan = length (cmd_of line).list;
+  ring = ring_of (plan_of board signals line) Paced;
+  part = first_reader;
+  mapped = 0;
+}
 
 -- streams as they start for lines, and lines of text in their formats
 pub record AreFor (board : BoardText) (signals : SignalsText) (lines : List RunLine) (first : List Streaming) (texts : List LinesText) : Type 0 where
@@ -35,7 +40,8 @@ pub record AreFor (board : BoardText) (signals : SignalsText) (lines : List RunL
   pub formats : map text_format texts ≡ map (line_format board signals) lines
 
 -- streams that started for the lines have been read to their ends
-pub record HaveWatched (board : BoardText) (signals : SignalsText) (lines : List RunLine) (now : List Streaming) (texts : List LinesText) : Type 0 where
+pub record HaveWatched
+    (board : BoardText) (signals : SignalsText) (lines : List RunLine) (now : List Streaming) (texts : List LinesText) : Type 0 where
   pub first : List Streaming
   pub before : List LinesText
   pub start : AreFor board signals lines first before

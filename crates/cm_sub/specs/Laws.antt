@@ -13,11 +13,17 @@ HoldsPlace s place seat = (view : SeatView) × (get_elem? s.views seat ≡ some 
 
 -- no two seats hold the same place
 abbrev pub OneHolder : Type 0
-OneHolder = (channels : List ℕ) (s : TurnTable) → AreInTurn channels s → (place one other : ℕ) → HoldsPlace s place one → HoldsPlace s place other → one ≡ other
+OneHolder =
+    (channels : List ℕ) (s : TurnTable)
+    → AreInTurn channels s → (place one other : ℕ) → HoldsPlace s place one → HoldsPlace s place other
+    → one ≡ other
 
 -- a place's turn is out exactly where a seat holds the place
 abbrev pub OutWhereHeld : Type 0
-OutWhereHeld = (channels : List ℕ) (s : TurnTable) → AreInTurn channels s → (place : ℕ) → place < length channels → (slice_index s.words place ≢ 0) ↔ ((seat : ℕ) × HoldsPlace s place seat)
+OutWhereHeld =
+    (channels : List ℕ) (s : TurnTable)
+    → AreInTurn channels s → (place : ℕ) → place < length channels
+    → (slice_index s.words place ≢ 0) ↔ ((seat : ℕ) × HoldsPlace s place seat)
 
 -- where a place's turn is at home, its slot has a state with the place's channels
 abbrev pub HomeHasState : Type 0

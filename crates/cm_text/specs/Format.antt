@@ -35,7 +35,10 @@ sample_line f place word = decimal (place % length f.list) ++ codes " " ++ value
 
 -- the line of a list index, its entry and a word
 abbrev pub line_text : SubText → Bool → ℕ → ℕ → ℕ → List ℕ
-line_text sub raw entry index word = decimal index ++ codes " " ++ (if raw then codes "raw " ++ decimal word else level_of sub entry word) ++ codes "\n"
+line_text sub raw entry index word =
+    decimal index ++ codes " "
+    ++ (if raw then codes "raw " ++ decimal word else level_of sub entry word)
+    ++ codes "\n"
 
 -- the lines of samples, the first of which is the command's sample of this place
 abbrev pub sample_lines : Format → ℕ → List ℕ → List ℕ

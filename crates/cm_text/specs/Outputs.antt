@@ -11,7 +11,12 @@ pub record Output : Type 0 where
 
 -- the line of a word that is put out
 abbrev pub output_text : Output → List ℕ
-output_text o = codes "out " ++ decimal o.sub ++ codes " " ++ decimal o.time ++ codes " " ++ decimal o.index ++ codes " " ++ decimal o.word ++ codes "\n"
+output_text o =
+    codes "out " ++ decimal o.sub
+    ++ codes " " ++ decimal o.time
+    ++ codes " " ++ decimal o.index
+    ++ codes " " ++ decimal o.word
+    ++ codes "\n"
 
 -- the lines of words that are put out
 abbrev pub output_texts : List Output → List ℕ
