@@ -7,6 +7,11 @@ pub mod Places
 pub mod Joined
 pub mod Entries
 pub mod Reported
+pub mod SoakAccepted
+pub mod SoakAdding
+pub mod SoakJobs
+pub mod SoakTexts
+pub mod SoakTotals
 pub mod Streams
 pub mod Wholes
 pub mod Writing

@@ -9,4 +9,9 @@ pub mod LineFormat
 pub mod Lines
 pub mod Ran
 pub mod SampleText
+pub mod Soak
+pub mod SoakJob
+pub mod SoakSumming
+pub mod SoakSums
+pub mod SoakText
 pub mod Whole

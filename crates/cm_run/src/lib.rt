@@ -1,4 +1,5 @@
-// Runs with threads: the lines of a job, each streamed through a ring of its own, beside each other.
+// Runs with threads: the lines of a job, each streamed through a ring of its own, beside each other; and
+// soaks, which are large jobs made from a number.
 #![tactic(auto)]
 
 pub mod blocks;
@@ -17,6 +18,7 @@ pub mod opening;
 pub mod outputs;
 pub mod running;
 pub mod sample_text;
+pub mod soak;
 #[cfg(test)]
 mod tests;
 pub mod whole;

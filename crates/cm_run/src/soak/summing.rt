@@ -1,0 +1,44 @@
+// One line's stream, whose samples are summed.
+ghost use Rattle.std.specs.Prelude.{◌≡◌, IfOk, None};
+ghost use Rattle.cm_expand.specs.PlanView.{plan_text};
+ghost use Rattle.cm_run.specs.Going.{IsGo};
+ghost use Rattle.cm_run.specs.SoakSums as spec;
+
+use crate::going::{Go, stream_go};
+use crate::soak::part::Part;
+use crate::soak::sum::Sum;
+use cm_base::gate::Gate;
+use cm_base::transfer::NoMemory;
+use cm_expand::plan::Plan;
+use cm_ring::reader::Reader;
+use cm_run_lines::line::Mode;
+use std::alloc::Global;
+use std::sync::Wait;
+use std::thread::Threads;
+
+/// A line's part, with the reader of its ring.
+#[derive(Drop)]
+pub struct Summed<'a> {
+    pub part: Part,
+    pub reader: Reader<Plan<'a>>,
+}
+
+/// Streams a paced line through a ring of its own, and sums what its client reads.
+pub fn soak_go<'a, R: Threads + Wait + Sync, G: Gate + Sync>(
+    rt: &R,
+    alloc: Global,
+    go: Go<'a>,
+    gate: &G,
+    who: u32,
+) -> Result<Summed<'a>, NoMemory>
+    requires go { IsGo (plan_text go.plan) go.cmd.now }
+    requires paced { go.mode ≡ Mode.Paced }
+    requires all { go.take ≡ None }
+    ensures { IfOk result (λ d. spec.HasSummed (plan_text go.entry.plan) d.part d.reader) }
+{
+    let streamed = stream_go(rt, alloc, go, Sum::new(), gate, who)?;
+    Ok(Summed {
+        part: streamed.samples.part(),
+        reader: streamed.reader,
+    })
+}
