@@ -1,5 +1,4 @@
 pub mod Copied
-pub mod Cuts
 pub mod Ends
 pub mod Order
 pub mod Outs

@@ -8,6 +8,7 @@ pub mod claiming;
 pub mod done;
 pub mod driving;
 pub mod ending;
+pub mod from_line;
 mod gathered;
 pub mod going;
 mod kept;

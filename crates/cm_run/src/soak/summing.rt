@@ -4,14 +4,17 @@ ghost use Rattle.cm_expand.specs.PlanView.{plan_text};
 ghost use Rattle.cm_run.specs.Going.{IsGo};
 ghost use Rattle.cm_run.specs.SoakSums as spec;
 
+use crate::from_line::FromLine;
 use crate::going::{Go, stream_go};
 use crate::soak::part::Part;
 use crate::soak::sum::Sum;
 use cm_base::gate::Gate;
 use cm_base::transfer::NoMemory;
+use cm_board::board::BoardDesc;
 use cm_expand::plan::Plan;
 use cm_ring::reader::Reader;
-use cm_run_lines::line::Mode;
+use cm_run_lines::line::{Mode, RunLine, plan_of};
+use cm_signal::signals::Signals;
 use std::alloc::Global;
 use std::sync::Wait;
 use std::thread::Threads;
@@ -41,4 +44,45 @@ pub fn soak_go<'a, R: Threads + Wait + Sync, G: Gate + Sync>(
         part: streamed.samples.part(),
         reader: streamed.reader,
     })
+}
+
+/// A paced line whose client takes all samples.
+impl<'a> FromLine<'a> for Summed<'a> {
+    ghost use Rattle.cm_run.specs.SoakSums.{HasSummed, IsSoakLine};
+    ghost use Rattle.cm_run_lines.specs.Calls as calls;
+
+    ghost takes = { IsSoakLine };
+
+    ghost gives = { λ board signals line summed. HasSummed (calls.plan_of board signals line) summed.part summed.reader };
+
+    fn from_line<R: Threads + Wait + Sync, G: Gate + Sync>(
+        rt: &R,
+        alloc: Global,
+        board: &'a BoardDesc,
+        signals: &'a Signals,
+        line: &'a RunLine,
+        gate: &G,
+        who: u32,
+    ) -> Result<Summed<'a>, NoMemory> {
+        let plan = plan_of(board, signals, line);
+        match line {
+            RunLine::Go {
+                mode,
+                access,
+                take,
+                cmd,
+                ..
+            } => {
+                let go = Go {
+                    plan,
+                    cmd,
+                    mode: *mode,
+                    access: *access,
+                    take: *take,
+                };
+                soak_go(rt, alloc, go, gate, who)
+            }
+            RunLine::Drive { .. } => unreachable!(),
+        }
+    }
 }
