@@ -3,7 +3,7 @@ use Rattle.std.specs.Prelude.{◌≡◌, ℕ, List, Option, String}
 use Rattle.std.specs.Io.KnownBytes.{Appends, Keeps, IsAtEnd}
 use Rattle.std.specs.declared.alloc.Global.{Global}
 use Rattle.cm_base.specs.Transfer.{AppendsPrefix}
-use Rattle.cm_soak.specs.Soak.{soak_text}
+use Rattle.cm_run.specs.Soak.{soak_text}
 use Rattle.cm_cli.specs.Answer.{outcome_of}
 use Rattle.cm_cli.specs.ThreadedSaid.{RunConcludes, job_of_bytes}
 use Rattle.cm_cli.specs.Top.{Concludes}

@@ -7,7 +7,7 @@ use crate::status::Status;
 use cm_base::gate::Gate;
 use cm_base::outside::Sink;
 use cm_base::transfer::{NoMemory, WriteFault, write_all};
-use cm_soak::whole::soak_whole;
+use cm_run::soak::whole::soak_whole;
 use std::alloc::Global;
 use std::sync::Wait;
 use std::thread::Threads;

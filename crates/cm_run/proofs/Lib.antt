@@ -1,4 +1,8 @@
-pub mod Cuts
 pub mod Ends
 pub mod Order
+pub mod SoakAccepted
+pub mod SoakAdding
+pub mod SoakJobs
+pub mod SoakTexts
+pub mod SoakTotals
 pub mod Streams

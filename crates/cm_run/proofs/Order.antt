@@ -1,5 +1,7 @@
--- Lines that have run, one line longer at a time; their text as the definition says it; and that a run without free lines has one text.
-use Rattle.std.proofs.Common.{◌≡◌, ℕ, List, [], ◌∷◌, ◌++◌, Option, refl, sym, ap, subst, ◌∙◌, append_assoc, append-nil}
+-- What lines give, one line longer at a time; lines that have run; their text as the definition says it; and that a run without free lines has one text.
+use Rattle.std.proofs.Common.{◌≡◌, ℕ, zero, suc, ◌<◌, List, [], ◌∷◌, ◌++◌, length, take, Option, refl, ap, subst, ◌∙◌, arith, IfSome}
+use Rattle.std.specs.Prelude.{slice_get}
+use Rattle.std.specs.List.{AllZip, flat_map}
 use Rattle.cm_board.specs.Board.{BoardText}
 use Rattle.cm_signal.specs.Signals.{SignalsText}
 use Rattle.cm_expand.specs.Plan.{PlanText}
@@ -12,31 +14,33 @@ use Rattle.cm_job.specs.declared.line.RunLine.TheVariants.{Go, Drive}
 use Rattle.cm_client.specs.RunText.{IsBlock, IsGoBlock, IsRunText, line_block, run_text}
 use Rattle.cm_run.specs.Law.{ArePaced, PacedLaw}
 use Rattle.cm_text.specs.Blocks.{paced_block}
-use Rattle.cm_run.specs.Ran.{LineRan, HaveRun}
+use Rattle.cm_run.specs.Ran.{HaveRun, LineRan, as_list}
+use Rattle.cm_run.specs.declared.done.LineDone.{LineDone}
 use Rattle.cm_run.proofs.Ends.{go_fits}
 
+-- what the first lines give, and the next one
+pub gives_more : {A B : Type 0} (R : A → B → Type 0) (xs : List A) (ys : List B) (i : ℕ) (y : B) → i < length xs → AllZip R (take i xs) ys → IfSome (slice_get xs i) (λ x. R x y) → AllZip R (take (suc i) xs) (ys ++ y ∷ [])
+gives_more R [] ys i y within before one = absurd (omega arith)
+gives_more R (x ∷ xs) [] zero y within before one = (one, tt)
+gives_more R (x ∷ xs) (z ∷ ys) zero y within before one = absurd before
+gives_more R (x ∷ xs) [] (suc i) y within before one = absurd before
+gives_more R (x ∷ xs) (z ∷ ys) (suc i) y within before one = (before.0, gives_more R xs ys i y (omega arith) before.1 one)
+
 module _ (board : BoardText) (signals : SignalsText) where
-  pub ran_more : (before : List RunLine) (line : RunLine) (text block : List ℕ) (readers mine : List Reading) → HaveRun board signals before text readers → LineRan board signals line block mine
-      → HaveRun board signals (before ++ line ∷ []) (text ++ block) (readers ++ mine)
-  ran_more [] line text block readers mine ran one = record {
-    block = block;
-    rest = [];
-    mine = mine;
-    theirs = [];
-    text_is = ap (λ (l : List ℕ). l ++ block) ran.0 ∙ sym (append-nil block);
-    readers_are = ap (λ (l : List Reading). l ++ mine) ran.1 ∙ sym (append-nil mine);
-    fits = one;
-    go_on = (refl, refl);
-  }
-  ran_more (first ∷ before) line text block readers mine ran one = record {
-    block = ran.block;
-    rest = ran.rest ++ block;
-    mine = ran.mine;
-    theirs = ran.theirs ++ mine;
-    text_is = ap (λ (l : List ℕ). l ++ block) ran.text_is ∙ append_assoc ran.block ran.rest block;
-    readers_are = ap (λ (l : List Reading). l ++ mine) ran.readers_are ∙ append_assoc ran.mine ran.theirs mine;
-    fits = ran.fits;
-    go_on = ran_more before line ran.rest block ran.theirs mine ran.go_on one;
+  pub have_run : (lines : List RunLine) (done : List LineDone) → AllZip (λ line d. LineRan board signals line d.block.items (as_list d.reader)) lines done
+      → HaveRun board signals lines (flat_map (λ d. d.block.items) done) (flat_map (λ d. as_list d.reader) done)
+  have_run [] [] ran = (refl, refl)
+  have_run [] (d ∷ done) ran = absurd ran
+  have_run (line ∷ lines) [] ran = absurd ran
+  have_run (line ∷ lines) (d ∷ done) ran = record {
+    block = d.block.items;
+    rest = flat_map (λ d. d.block.items) done;
+    mine = as_list d.reader;
+    theirs = flat_map (λ d. as_list d.reader) done;
+    text_is = refl;
+    readers_are = refl;
+    fits = ran.0;
+    go_on = have_run lines done ran.1;
   }
 
   line_fits : (line : RunLine) (text : List ℕ) (readers : List Reading) → LineRan board signals line text readers → IsBlock board signals line text

@@ -1,4 +1,9 @@
 pub mod Driving
+pub mod Law
 pub mod Lines
 pub mod Ran
-pub mod Law
+pub mod Soak
+pub mod SoakJob
+pub mod SoakSumming
+pub mod SoakSums
+pub mod SoakText

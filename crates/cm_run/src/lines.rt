@@ -1,148 +1,88 @@
 // The lines of a job beside each other.
-ghost use Rattle.std.specs.Prelude.{◌≡◌, ◌<◌, ◌≤◌, [], length, IfOk, MatchOption};
-ghost use Rattle.std.specs.Thread.{IsSync};
+ghost use Rattle.std.specs.Prelude.{◌≡◌, ◌<◌, ◌≤◌, [], length, slice_get, take, IfOk, IfSome};
+ghost use Rattle.std.specs.List.{All, AllZip};
+ghost use Rattle.std.specs.Thread.{IsSend, IsSync};
 ghost use Rattle.cm_client.specs.Idle.{IsIdle};
-ghost use Rattle.cm_run.specs.Lines.{AreRunnable, HasPlaces, IsCut};
-ghost use Rattle.cm_run.specs.Ran.{HaveRun, LineRan, as_list};
-ghost use Rattle.cm_job.specs.Calls as calls;
-ghost use Rattle.cm_job.specs.RunLines.{CanRun};
+ghost use Rattle.cm_run.specs.Lines.{HasPlaces};
 
-use crate::done::{LineDone, Ran, add_line};
-use crate::driving::{Drive, drive_line};
-use crate::gone::go_line;
+use crate::from_line::FromLine;
 use cm_base::gate::Gate;
 use cm_base::transfer::NoMemory;
-use cm_board::board::BoardDesc;
-use cm_client::claiming::claim_waiting;
-use cm_client::going::Go;
-use cm_job::line::{RunLine, plan_of};
-use cm_signal::signals::Signals;
+use cm_client::claiming::{another_seat, claim_waiting};
+use cm_job::job::RunJob;
 use cm_sub::owners::{OwnerSeat, Owners};
-use cm_text::blocks::Blocks;
 use std::alloc::Global;
 use std::sync::Wait;
 use std::thread::{Threads, join};
 
-// Streams a line, and makes its block.
-fn one_line<'a, R: Threads + Wait + Sync, G: Gate + Sync>(
-    rt: &R,
-    alloc: Global,
-    board: &'a BoardDesc,
-    signals: &'a Signals,
-    line: &'a RunLine,
-    gate: &G,
-    who: u32,
-) -> Result<LineDone<'a>, NoMemory>
-    requires { CanRun board.now signals.now line.now }
-    ensures { IfOk result (λ d. LineRan board.now signals.now line.now d.block.items (as_list d.reader)) }
-{
-    let plan = plan_of(board, signals, line);
-    match line {
-        RunLine::Go {
-            mode,
-            access,
-            take,
-            cmd,
-            ..
-        } => {
-            let go = Go {
-                plan,
-                cmd,
-                mode: *mode,
-                access: *access,
-                take: *take,
-            };
-            go_line(rt, alloc, go, gate, who)
-        }
-        RunLine::Drive { values, cmd, .. } => {
-            let drive = Drive {
-                plan,
-                cmd,
-                values: values.as_slice(),
-            };
-            drive_line(rt, alloc, line.sub(), drive, gate, who)
-        }
-    }
-}
-
-// A line's own thread: it has its subdevice from before its ring is opened until its workers have
-// ended.
-fn line_work<'a, R: Threads + Wait + Sync, G: Gate + Sync>(
+// The thread of the line at this place: it has its subdevice from before its ring is opened until its
+// workers have ended.
+fn line_work<'a, R: Threads + Wait + Sync, G: Gate + Sync, D: FromLine<'a>>(
     rt: &R,
     alloc: Global,
     owners: &Owners,
     mut seat: OwnerSeat,
-    board: &'a BoardDesc,
-    signals: &'a Signals,
-    line: &'a RunLine,
+    job: &'a RunJob,
+    place: usize,
     gate: &G,
-    who: u32,
-) -> Result<LineDone<'a>, NoMemory>
+) -> Result<D, NoMemory>
     requires idle { IsIdle owners.now seat }
-    requires places { HasPlaces board.now owners.now }
-    requires line { CanRun board.now signals.now line.now }
-    ensures { IfOk result (λ d. LineRan board.now signals.now line.now d.block.items (as_list d.reader)) }
+    requires places { HasPlaces job.now.board owners.now }
+    requires takes { All D.takes job.now.lines }
+    requires place { place < length job.now.lines }
+    ensures { IfSome (slice_get job.now.lines place) (λ line. IfOk result (D.gives job.now.board job.now.signals line)) }
 {
+    let line = &job.lines[place];
     let sub = line.sub();
     let state = claim_waiting(rt, owners, &mut seat, sub);
-    let done = one_line(rt, alloc, board, signals, line, gate, who);
+    let made = D::from_line(
+        rt,
+        alloc,
+        &job.board,
+        &job.signals,
+        line,
+        gate,
+        place as u32,
+    );
     owners.give_back(&mut seat, sub, state);
-    done
+    made
 }
 
-// The last line, and those before it.
-fn cut<'a>(
-    board: &BoardDesc,
-    signals: &Signals,
-    lines: &'a [RunLine],
-) -> Option<(&'a [RunLine], &'a RunLine)>
-    requires { AreRunnable board.now signals.now lines.now }
-    ensures { MatchOption result (lines.now ≡ []) (λ t. IsCut board.now signals.now lines.now t.0.now t.1.now) }
-{
-    let _ = board;
-    let _ = signals;
-    let (last, rest) = lines.split_last()?;
-    Some((rest, last))
-}
-
-/// Runs lines beside each other, and answers after all have ended.
-#[tactic(auto, using(crate::proofs::Order::ran_more))]
-pub(crate) fn lines_up_to<'a, R: Threads + Wait + Sync, G: Gate + Sync>(
+/// Streams the first `count` lines of a job beside each other, and answers after all have ended: what
+/// each of them gives, in their order.
+#[tactic(auto, using(crate::proofs::Order::gives_more))]
+pub(crate) fn lines_up_to<'a, R: Threads + Wait + Sync, G: Gate + Sync, D: FromLine<'a>>(
     rt: &R,
     alloc: Global,
     owners: &Owners,
     mut seat: OwnerSeat,
-    board: &'a BoardDesc,
-    signals: &'a Signals,
-    lines: &'a [RunLine],
+    job: &'a RunJob,
+    count: usize,
     gate: &G,
-) -> Result<Ran<'a>, NoMemory>
+) -> Result<Vec<D>, NoMemory>
     requires idle { IsIdle owners.now seat }
-    requires places { HasPlaces board.now owners.now }
-    requires run { AreRunnable board.now signals.now lines.now }
-    requires few { length lines.now ≤ 16 }
-    ensures { IfOk result (λ r. HaveRun board.now signals.now lines.now r.text r.readers.items) }
+    requires places { HasPlaces job.now.board owners.now }
+    requires takes { All D.takes job.now.lines }
+    requires count { count ≤ length job.now.lines }
+    ensures { IfOk result (λ made. AllZip (D.gives job.now.board job.now.signals) (take count job.now.lines) made.items) }
 {
-    let Some((rest, last)) = cut(board, signals, lines) else {
-        return Ok(Ran {
-            text: Blocks::new(alloc),
-            readers: Vec::new(alloc),
-        });
-    };
+    if count == 0 {
+        return Ok(Vec::new(alloc));
+    }
     let theirs = another_seat(owners, &mut seat);
-    let who = rest.len() as u32;
+    let last = count - 1;
     let (one, before) = join(
         rt,
-        move || -> Result<LineDone<'_>, NoMemory>
-            requires { IsIdle owners.now theirs × HasPlaces board.now owners.now × CanRun board.now signals.now last.now }
-            ensures { IfOk result (λ d. LineRan board.entry.now signals.entry.now last.entry.now d.block.items (as_list d.reader)) }
-        { line_work(rt, alloc, owners, theirs, board, signals, last, gate, who) },
-        move || -> Result<Ran<'_>, NoMemory>
-            requires { IsSync R.row × IsSync G.row × IsIdle owners.now seat × HasPlaces board.now owners.now × AreRunnable board.now signals.now rest.now × (length rest.now ≤ 16) }
-            ensures { IfOk result (λ r. HaveRun board.entry.now signals.entry.now rest.entry.now r.text r.readers.items) }
-        { lines_up_to(rt, alloc, owners, seat, board, signals, rest, gate) },
+        move || -> Result<D, NoMemory>
+            requires { IsIdle owners.now theirs × HasPlaces job.now.board owners.now × All D.takes job.now.lines × (last < length job.now.lines) }
+            ensures { IfSome (slice_get job.entry.now.lines last) (λ line. IfOk result (D.gives job.entry.now.board job.entry.now.signals line)) }
+        { line_work(rt, alloc, owners, theirs, job, last, gate) },
+        move || -> Result<Vec<D>, NoMemory>
+            requires { IsSync R.row × IsSync G.row × IsSend D.row × IsIdle owners.now seat × HasPlaces job.now.board owners.now × All D.takes job.now.lines × (last ≤ length job.now.lines) }
+            ensures { IfOk result (λ made. AllZip (D.gives job.entry.now.board job.entry.now.signals) (take last job.entry.now.lines) made.items) }
+        { lines_up_to(rt, alloc, owners, seat, job, last, gate) },
     );
-    let before = before?;
-    let one = one?;
-    add_line(before, one)
+    let mut made = before?;
+    made.push(one?)?;
+    Ok(made)
 }

@@ -56,7 +56,8 @@ pub record HasOverrun (p : PlanText) (most : Option ℕ) (text : List ℕ) : Typ
 abbrev pub outputs_of : ℕ → List Conv → List ℕ → List Output
 outputs_of sub [] words = []
 outputs_of sub (conv ∷ convs) [] = []
-outputs_of sub (conv ∷ convs) (word ∷ words) = record { sub = sub; time = conv.time; index = conv.list_index; word = word } ∷ outputs_of sub convs words
+outputs_of sub (conv ∷ convs) (word ∷ words) =
+    record { sub = sub; time = conv.time; index = conv.list_index; word = word } ∷ outputs_of sub convs words
 
 -- `underrun` where fewer values were given than there are conversions
 abbrev pub values_tail : PlanText → ℕ → Tail

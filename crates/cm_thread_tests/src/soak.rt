@@ -2,9 +2,9 @@
 use cm_base::gate::OpenGate;
 use cm_base::transfer::NoMemory;
 use cm_board::printing::print_board;
-use cm_soak::job::soak_job;
-use cm_soak::soaking::soak;
-use cm_soak::text::put_soak;
+use cm_run::soak::job::soak_job;
+use cm_run::soak::soaking::soak;
+use cm_run::soak::text::put_soak;
 use std::alloc::Global;
 use std::sync::Wait;
 use std::test::Fail;

@@ -1,0 +1,8 @@
+// A soak: a large job made from a number, whose samples are streamed beside each other and summed.
+pub mod job;
+pub mod part;
+pub mod soaking;
+pub mod sum;
+pub mod summing;
+pub mod text;
+pub mod whole;

@@ -1,5 +1,0 @@
-pub mod Accepted
-pub mod Adding
-pub mod Jobs
-pub mod Texts
-pub mod Totals
