@@ -16,11 +16,10 @@ pub trait Gate {
 }
 
 /// A gate that holds nobody.
+
 #[derive(Clone, Copy, Debug, PartialEq, Eq)]
 pub struct OpenGate;
 
 impl Gate for OpenGate {
-    fn pass(&self, who: u32, point: u32) {
-        let _ = (who, point);
-    }
+    fn pass(&self, _who: u32, _point: u32) {}
 }

@@ -4,6 +4,7 @@ ghost use Rattle.cm_expand.specs.Items.{items_of};
 ghost use Rattle.cm_expand.specs.PlanView.{plan_words, words_of};
 ghost use Rattle.cm_expand.specs.Taking.{raw_words};
 
+use cm_base::prover::shows;
 use cm_base::transfer::NoMemory;
 use cm_expand::board::Board;
 use cm_expand::plan::Plan;
@@ -90,7 +91,7 @@ fn fill(board: &mut Board<'_>, horizon: u64, piece: &mut [u32; PIECE]) -> usize
     ensures board { board.new ≡ record board.old { place = board.old.place + result } }
 {
     // The board tells what holds of each expansion: that all of it comes by the horizon.
-    let _place = board.place();
+    shows(&board.place());
     board.take_by(horizon, piece)
 }
 

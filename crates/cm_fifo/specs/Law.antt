@@ -54,14 +54,16 @@ HandedAfterComing = OfEach (λ p h. (t : ℕ) → come t h.arrivals ≤ come t (
 abbrev pub AllHanded : Type 0
 AllHanded = OfEach (λ p h. h.lost_at ≡ None → length h.arrivals ≡ length (items_of p))
 
--- where one is lost at a time, that is by the horizon, all that is handed over was handed over by then, and one more conversion there is at least
-abbrev pub LostAfterHanded : Type 0
-LostAfterHanded =
-    OfEach (λ p h. (t : ℕ)
-    → h.lost_at ≡ Some t
-    → (t ≤ p.signals.horizon)
+-- a time is by the horizon, all that is handed over was handed over by then, and one more conversion there is at least
+abbrev pub IsAfterHanded : PlanText → Handed → ℕ → Type 0
+IsAfterHanded p h t =
+    (t ≤ p.signals.horizon)
     × (come t h.arrivals ≡ length h.arrivals)
-    × (length h.arrivals < length (items_of p)))
+    × (length h.arrivals < length (items_of p))
+
+-- where one is lost at a time, it is such a time
+abbrev pub LostAfterHanded : Type 0
+LostAfterHanded = OfEach (λ p h. (t : ℕ) → h.lost_at ≡ Some t → IsAfterHanded p h t)
 
 -- the same by places of the whole expansion: each drain hands over all that has come by its time, unless one comes for which the FIFO has no room
 abbrev pub HandedByCounts : Type 0

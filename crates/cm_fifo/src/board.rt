@@ -2,6 +2,7 @@
 use crate::filling::Cells;
 use crate::requests::{Look, look_ahead};
 use circular_buffer::HeapCircularBuffer;
+use cm_base::prover::shows;
 use cm_base::transfer::NoMemory;
 use cm_board::board::Fifo;
 use cm_expand::board::Board;
@@ -100,7 +101,8 @@ impl<'a> FifoBoard<'a> {
                 if to < time {
                     return FifoStep::Idle;
                 }
-                let _ = self.board.place();
+                // The board tells what holds of each expansion, and where it is in this one.
+                shows(&self.board.place());
                 self.is_ready = true;
                 self.drains += 1;
                 let count = self.cells.len() as u32;
@@ -160,7 +162,8 @@ impl<'a> FifoBoard<'a> {
         ensures ready { result ≡ self.entry.now.ready }
         ensures sound { IsSoundFifo self.entry.now }
     {
-        let _ = self.board.place();
+        // The board tells what holds of each expansion, and where it is in this one.
+        shows(&self.board.place());
         if self.is_ready {
             self.cells.len() as u32
         } else {

@@ -5,6 +5,7 @@ ghost use Rattle.cm_expand.specs.Taking.{come, left_of};
 ghost use Rattle.cm_fifo.specs.Held.{ahead, IsHeld, TookNone, TookOne};
 
 use circular_buffer::HeapCircularBuffer;
+use cm_base::prover::shows;
 use cm_expand::board::Board;
 use cm_expand::conv::Conv;
 use std::alloc::Global;
@@ -19,8 +20,10 @@ fn take_one(board: &mut Board<'_>, cells: &mut Cells) -> Option<Conv>
     ensures none { IfNone result (TookNone board.old board.new cells.old cells.new) }
 {
     let conv = board.next()?;
-    let _ = cells.try_push_back(conv);
-    Some(conv)
+    match cells.try_push_back(conv) {
+        Ok(()) => Some(conv),
+        Err(_) => unreachable!(),
+    }
 }
 
 /// Conversions go into the FIFO until it is half full, or all were given.
@@ -72,7 +75,8 @@ fn has_come(board: &Board<'_>, time: u64) -> bool
     ensures yes { result ≡ true → (c : Conv) → slice_get (items_of board.entry.now.plan) board.entry.now.place ≡ Some c → c.time ≤ time }
     ensures no { result ≡ false → come time (left_of board.entry.now) ≡ 0 }
 {
-    let _ = board.place();
+    // The board tells what holds of each expansion: its times are in order and within the horizon.
+    shows(&board.place());
     match board.next_time() {
         None => false,
         Some(next) => next <= time,

@@ -7,6 +7,7 @@ ghost use Rattle.cm_fifo.specs.Held.{ahead, drain_of, IsAsked, IsEarly, IsFilled
 ghost use Rattle.cm_fifo.specs.State.{IsLook};
 
 use crate::filling::{Cells, fill_half, fill_until};
+use cm_base::prover::shows;
 use cm_board::board::Fifo;
 use cm_expand::board::Board;
 
@@ -77,7 +78,8 @@ fn time_of_drain(
     ensures none { IfNone result (ahead board.new cells.new.items ≡ []) }
     ensures some { IfSome result (λ time. (0 < length cells.new.items) × (time ≡ drain_of fifo.now board.new cells.new.items)) }
 {
-    let _ = board.place();
+    // The board tells what holds of each expansion: its times are in order and within the horizon.
+    shows(&board.place());
     fill_half(board, cells, (fifo.depth / 2) as usize);
     if cells.is_empty() {
         return None;
@@ -113,7 +115,8 @@ pub fn look_ahead(
         return Look::Nothing;
     };
     fill_until(board, cells, time);
-    let _ = board.place();
+    // The board tells what holds of each expansion: its times are in order and within the horizon.
+    shows(&board.place());
     match board.next_time() {
         None => Look::Drains(time),
         Some(next) => if next <= time {

@@ -3,6 +3,7 @@ ghost use Rattle.std.specs.Prelude.{◌≡◌, ◌<◌};
 ghost use Rattle.cm_insn.specs.Bits as spec;
 
 use crate::site::Site;
+use cm_base::prover::shows;
 use cm_sub::state::SubState;
 
 impl Site<'_> {
@@ -70,7 +71,7 @@ impl Site<'_> {
     {
         // This read shows that each channel has a range.
         let sub = self.sub;
-        let _channels = sub.channels;
+        shows(&sub.channels);
         if self.value(state, chan, 0) == 1 {
             1 << chan
         } else {

@@ -6,6 +6,7 @@ ghost use Rattle.cm_insn.specs.Insn.{answer_of, insn_at, state_after, words_afte
 ghost use Rattle.cm_insn.specs.Kept.{IsAsLong};
 
 use crate::site::Site;
+use cm_base::prover::shows;
 use cm_board::board::{Kind, Sub};
 use cm_cmd::entry::{chan, range};
 use cm_signal::signals::Signals;
@@ -57,8 +58,8 @@ pub fn insn(
     ensures kept { IsAsLong state.old state.new }
 {
     // These reads show that the horizon is at most 10^12, and that each channel has a direction.
-    let _horizon = signals.horizon;
-    let _channels = state.values.len();
+    shows(&signals.horizon);
+    shows(&state.values.len());
     let site = Site {
         sub,
         index,

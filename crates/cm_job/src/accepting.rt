@@ -15,6 +15,7 @@ use crate::line::{Mode, RunLine};
 use cm_base::faults::{Fault, ReadStop};
 use cm_base::lists::{Nums, Times};
 use cm_base::parts::refused;
+use cm_base::prover::shows;
 use cm_base::words::at_line;
 use cm_board::board::{BoardDesc, Sub};
 use cm_cmd::command::Cmd;
@@ -188,7 +189,7 @@ fn values_of(
         return Err(refused(line, Fault::Limit));
     }
     // This read shows what holds of each subdevice, such as that its channels have codes.
-    let _channels = sub.channels;
+    shows(&sub.channels);
     let cmd = cmd.cmd();
     let values = codes_of(alloc, line, sub, &cmd.list, numbers)?;
     Ok(Nums::new(values))

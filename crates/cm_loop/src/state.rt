@@ -7,6 +7,7 @@ ghost use Rattle.cm_loop.specs.declared.rule.LoopItem.{LoopItem};
 
 use crate::entry::Entry;
 use crate::rule::{LoopItem, LoopRule};
+use cm_base::prover::shows;
 use cm_base::transfer::NoMemory;
 use cm_sample::rule::next_index;
 use std::alloc::{AllocError, Global};
@@ -57,7 +58,7 @@ impl LoopState {
         ensures next { (x : List ℕ) → StandsFor self.old x → IsNext word result self.old self.new x }
     {
         // It is here for the contract alone: each entry has its item.
-        let _ = rule;
+        shows(rule);
         let output = next_output(&mut self.entries, self.at, word);
         self.at = next_index(self.at, self.entries.len());
         self.count += 1;

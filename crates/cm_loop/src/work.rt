@@ -10,6 +10,7 @@ ghost use Rattle.cm_loop.specs.Work.{HasFiltered, IsLoopEnd, IsSameInput, IsSame
 
 use crate::rule::LoopRule;
 use crate::state::LoopState;
+use cm_base::prover::shows;
 use cm_ring::reader::Reader;
 use cm_ring::writer::{Closed, Writer};
 use cm_ring_core::view::EndKind;
@@ -198,7 +199,7 @@ fn mapped_word<P: Planned>(input: &mut Reader<P>, i: u32) -> u32
     ensures same { input.new ≡ input.old }
 {
     // This call shows where the places are.
-    let _ = input.mapped();
+    shows(&input.mapped());
     input.word(i)
 }
 

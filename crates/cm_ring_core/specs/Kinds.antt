@@ -99,24 +99,30 @@ SeesMunged v n u = (r : ReaderPart) → v.reader ≡ Some r
 abbrev pub sees_munged : Step (Unit {0}) → Seat → ℕ → Seat → Type 0
 sees_munged st me n me' = SeesMunged me.0 n me'.0
 
--- the reader loads a cell: where it is that of a known place, it has the munged word
-abbrev pub ReadsCell : View → ℕ → ℕ → View → Type 0
-ReadsCell v i n u =
-    (u ≡ v)
-    × ((r : ReaderPart) → v.reader ≡ Some r
+-- where a cell is that of a place that the reader knows, it has the munged word
+abbrev pub FindsMunged : View → ℕ → ℕ → Type 0
+FindsMunged v i n =
+    (r : ReaderPart) → v.reader ≡ Some r
     → (k : ℕ) → r.released ≤ k → k < r.known → i ≡ cell_of v.ring k
-    → (n ≡ munged_at v.ring k) × (n < 4294967296))
+    → (n ≡ munged_at v.ring k) × (n < 4294967296)
+
+-- the reader loads a cell
+abbrev pub ReadsCell : View → ℕ → ℕ → View → Type 0
+ReadsCell v i n u = (u ≡ v) × FindsMunged v i n
 
 abbrev pub reads_cell : Step (Unit {0}) → Seat → ℕ → Seat → Type 0
 reads_cell st me n me' = ReadsCell me.0 st.word n me'.0
 
--- the munger loads a cell: where it is that of the next published place, it has the plan's word
-abbrev pub TakesCell : View → ℕ → ℕ → View → Type 0
-TakesCell v i n u =
-    (u ≡ v)
-    × ((m : MungerPart) → v.munger ≡ Some m
+-- where a cell is that of the munger's next published place, it has the plan's word
+abbrev pub FindsRaw : View → ℕ → ℕ → Type 0
+FindsRaw v i n =
+    (m : MungerPart) → v.munger ≡ Some m
     → m.exchanged < m.avail → i ≡ cell_of v.ring m.exchanged
-    → (n ≡ plan_at v.ring m.exchanged) × (n < 4294967296))
+    → (n ≡ plan_at v.ring m.exchanged) × (n < 4294967296)
+
+-- the munger loads a cell
+abbrev pub TakesCell : View → ℕ → ℕ → View → Type 0
+TakesCell v i n u = (u ≡ v) × FindsRaw v i n
 
 abbrev pub takes_cell : Step (Unit {0}) → Seat → ℕ → Seat → Type 0
 takes_cell st me n me' = TakesCell me.0 st.word n me'.0

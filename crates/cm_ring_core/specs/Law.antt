@@ -2,7 +2,7 @@
 use Rattle.std.specs.Prelude.{◌≡◌, ℕ, ◌+◌, ◌-◌, ◌%◌, ◌<◌, ◌≤◌, List, [], length, slice_index, slice_set, drop, Some, None, replicate}
 use mathlib.Core.Option.{none, some}
 use lib.ListN.{get_elem?}
-use Rattle.atomic_table.specs.Table.{State, Me, keeps, step, stepped, Allows, Splits, opening}
+use Rattle.atomic_table.specs.Table.{State, Me, Step, keeps, step, stepped, Allows, Splits, opening}
 use Rattle.cm_ring_core.specs.Local.{Ring, IsRing}
 use Rattle.cm_ring_core.specs.Lawful.{Words, Lawful, AreConstants, Each, laid, shown, opened}
 use Rattle.cm_ring_core.specs.Kinds.{sees_read, puts, publishes, ends_with, sees_stop, munges, shows, takes_cell, munger_finds, sees_written}
@@ -25,39 +25,42 @@ RingMe = Me (Unit {0}) View
 abbrev pub first_words : RingConstants → Words
 first_words ring = record { read = shown ring 0; munged = shown ring 0; written = shown ring 0; end = 0; stop = 0; cells = replicate ring.size 0 }
 
+-- a seat loads a word: the rule holds after it, and the seat knows what this kind of step says of the number found
+abbrev pub Loads : ℕ → ℕ → RingMe → ℕ → (Step (Unit {0}) → RingMe → ℕ → RingMe → Type 0) → Type 0
+Loads slots id me i kind = Allows (Lawful me.0.ring) slots id me i (λ n. n) (kind (step slots i 0 0 none) me)
+
+-- a seat stores a number in a word, and the same holds
+abbrev pub Stores : ℕ → ℕ → RingMe → ℕ → ℕ → (Step (Unit {0}) → RingMe → ℕ → RingMe → Type 0) → Type 0
+Stores slots id me i word kind =
+    Allows (Lawful me.0.ring) slots id me i (λ _. word) (λ _. kind (step slots i word 0 none) me word)
+
+-- a seat exchanges a word for a number: the kind of step speaks of the number found
+abbrev pub Exchanges : ℕ → ℕ → RingMe → ℕ → ℕ → (Step (Unit {0}) → RingMe → ℕ → RingMe → Type 0) → Type 0
+Exchanges slots id me i word kind =
+    Allows (Lawful me.0.ring) slots id me i (λ _. word) (kind (step slots i word 0 none) me)
+
 -- the rule holds when a ring is opened; and whatever the ring is when a seat makes a step that it may make,
 -- the rule holds after it, and the seat knows what its kind says
 pub record StepLaw : Type 0 where
   pub opens : (ring : RingConstants) → AreConstants ring → (words : List ℕ) → words ≡ laid (first_words ring)
       → Lawful ring (opening words [] (opened ring))
   pub load_read : (slots id : ℕ) (me : RingMe) (w : WriterPart) → me.0.writer ≡ Some w → w.closed ≡ None
-      → Allows (Lawful me.0.ring) slots id me 0 (λ n. n) (sees_read (step slots 0 0 0 none) me)
-  pub store_sample : (slots id : ℕ) (me : RingMe) (i word : ℕ) → MayPut me.0 i word
-      → Allows (Lawful me.0.ring) slots id me i (λ _. word) (λ _. puts (step slots i word 0 none) me word)
-  pub publish_written : (slots id : ℕ) (me : RingMe) (word : ℕ) → MayPublish me.0 word
-      → Allows (Lawful me.0.ring) slots id me 2 (λ _. word) (λ _. publishes (step slots 2 word 0 none) me word)
-  pub munge_cell : (slots id : ℕ) (me : RingMe) (i word : ℕ) → MayMunge me.0 i word
-      → Allows (Lawful me.0.ring) slots id me i (λ _. word) (munges (step slots i word 0 none) me)
-  pub publish_munged : (slots id : ℕ) (me : RingMe) (word : ℕ) → MayShow me.0 word
-      → Allows (Lawful me.0.ring) slots id me 1 (λ _. word) (λ _. shows (step slots 1 word 0 none) me word)
-  pub load_munged : (slots id : ℕ) (me : RingMe) (r : ReaderPart) → me.0.reader ≡ Some r
-      → Allows (Lawful me.0.ring) slots id me 1 (λ n. n) (sees_munged (step slots 1 0 0 none) me)
-  pub load_cell : (slots id : ℕ) (me : RingMe) (i : ℕ) → Allows (Lawful me.0.ring) slots id me i (λ n. n) (reads_cell (step slots i 0 0 none) me)
-  pub load_raw_cell : (slots id : ℕ) (me : RingMe) (i : ℕ) → Allows (Lawful me.0.ring) slots id me i (λ n. n) (takes_cell (step slots i 0 0 none) me)
-  pub publish_read : (slots id : ℕ) (me : RingMe) (word : ℕ) → MayRelease me.0 word
-      → Allows (Lawful me.0.ring) slots id me 0 (λ _. word) (λ _. releases (step slots 0 word 0 none) me word)
-  pub store_end : (slots id : ℕ) (me : RingMe) (word : ℕ) → MayEnd me.0 word
-      → Allows (Lawful me.0.ring) slots id me 3 (λ _. word) (λ _. ends_with (step slots 3 word 0 none) me word)
-  pub load_end : (slots id : ℕ) (me : RingMe) (r : ReaderPart) → me.0.reader ≡ Some r
-      → Allows (Lawful me.0.ring) slots id me 3 (λ n. n) (finds (step slots 3 0 0 none) me)
-  pub munger_load_end : (slots id : ℕ) (me : RingMe) (m : MungerPart) → me.0.munger ≡ Some m
-      → Allows (Lawful me.0.ring) slots id me 3 (λ n. n) (munger_finds (step slots 3 0 0 none) me)
-  pub ask_stop : (slots id : ℕ) (me : RingMe) (r : ReaderPart) → me.0.reader ≡ Some r
-      → Allows (Lawful me.0.ring) slots id me 4 (λ _. 1) (λ _. asks (step slots 4 1 0 none) me 1)
+      → Loads slots id me 0 sees_read
+  pub store_sample : (slots id : ℕ) (me : RingMe) (i word : ℕ) → MayPut me.0 i word → Stores slots id me i word puts
+  pub publish_written : (slots id : ℕ) (me : RingMe) (word : ℕ) → MayPublish me.0 word → Stores slots id me 2 word publishes
+  pub munge_cell : (slots id : ℕ) (me : RingMe) (i word : ℕ) → MayMunge me.0 i word → Exchanges slots id me i word munges
+  pub publish_munged : (slots id : ℕ) (me : RingMe) (word : ℕ) → MayShow me.0 word → Stores slots id me 1 word shows
+  pub load_munged : (slots id : ℕ) (me : RingMe) (r : ReaderPart) → me.0.reader ≡ Some r → Loads slots id me 1 sees_munged
+  pub load_cell : (slots id : ℕ) (me : RingMe) (i : ℕ) → Loads slots id me i reads_cell
+  pub load_raw_cell : (slots id : ℕ) (me : RingMe) (i : ℕ) → Loads slots id me i takes_cell
+  pub publish_read : (slots id : ℕ) (me : RingMe) (word : ℕ) → MayRelease me.0 word → Stores slots id me 0 word releases
+  pub store_end : (slots id : ℕ) (me : RingMe) (word : ℕ) → MayEnd me.0 word → Stores slots id me 3 word ends_with
+  pub load_end : (slots id : ℕ) (me : RingMe) (r : ReaderPart) → me.0.reader ≡ Some r → Loads slots id me 3 finds
+  pub munger_load_end : (slots id : ℕ) (me : RingMe) (m : MungerPart) → me.0.munger ≡ Some m → Loads slots id me 3 munger_finds
+  pub ask_stop : (slots id : ℕ) (me : RingMe) (r : ReaderPart) → me.0.reader ≡ Some r → Stores slots id me 4 1 asks
   pub load_stop : (slots id : ℕ) (me : RingMe) (w : WriterPart) → me.0.writer ≡ Some w → w.closed ≡ None
-      → Allows (Lawful me.0.ring) slots id me 4 (λ n. n) (sees_stop (step slots 4 0 0 none) me)
-  pub load_written : (slots id : ℕ) (me : RingMe) (m : MungerPart) → me.0.munger ≡ Some m
-      → Allows (Lawful me.0.ring) slots id me 2 (λ n. n) (sees_written (step slots 2 0 0 none) me)
+      → Loads slots id me 4 sees_stop
+  pub load_written : (slots id : ℕ) (me : RingMe) (m : MungerPart) → me.0.munger ≡ Some m → Loads slots id me 2 sees_written
   pub split_reader : (id : ℕ) (v : View) (r : ReaderPart) → v.reader ≡ Some r → Splits (Lawful v.ring) id v (without_reader v) (only_reader v)
   pub split_munger : (id : ℕ) (v : View) (m : MungerPart) → v.munger ≡ Some m → Splits (Lawful v.ring) id v (without_munger v) (only_munger v)
 

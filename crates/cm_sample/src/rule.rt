@@ -4,6 +4,7 @@ ghost use Rattle.cm_sample.specs.Munging.{MayShift};
 ghost use Rattle.cm_sample.specs.Rule.{item_word, map_from, munged_word, rule_text, IsRule};
 
 use crate::munge::{munge, unmunge};
+use cm_base::prover::shows;
 use cm_board::board::Munge;
 use std::marker::Model;
 
@@ -71,7 +72,7 @@ fn munge_alike(items: &[MungeItem], out: bool, place: u64, words: &mut [u32])
     ensures { words.new ≡ map_from (munged_word (rule_text items.now out false)) place words.old }
 {
     // It is here for the contract alone: each place has this item.
-    let _ = place;
+    shows(&place);
     let item = item_at(items, 0);
     for i in 0..words.len() {
         words[i] = munge_by(item, out, words[i]);

@@ -10,6 +10,7 @@ use crate::signals::{IntAt, Signals, Slope};
 use crate::wave::{Wave, WaveAt};
 use cm_base::faults::Fault;
 use cm_base::lists::Times;
+use cm_base::prover::shows;
 use std::alloc::{AllocError, Global};
 
 impl Signals {
@@ -72,7 +73,7 @@ impl Signals {
         ensures { seen (λ u. tt) result ≡ part.checked_edges self.now slope line times.now }
     {
         // This read shows what holds of the signals so far: each line has its list of edges.
-        let _horizon = self.horizon;
+        shows(&self.horizon);
         if !self.has_room(times) {
             Err(Fault::Limit)
         } else if rises_after(self.line(slope, line), times) {

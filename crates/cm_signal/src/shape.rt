@@ -6,6 +6,7 @@ ghost use Rattle.cm_signal.specs.declared.wave.Wave.TheVariants as waves;
 
 use crate::wave::part_of;
 use cm_base::divisor::Divisor;
+use cm_base::prover::shows;
 
 /// A level over time.
 pub(crate) trait Shape: Copy {
@@ -128,6 +129,6 @@ fn short_part(height: u64, phase: u64, period: &Divisor) -> u64
     ensures within { result ≤ height }
 {
     // This read shows that the period is not zero.
-    let _by = period.by();
+    shows(&period.by());
     period.of(height * phase)
 }

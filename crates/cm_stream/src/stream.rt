@@ -9,6 +9,7 @@ ghost use Rattle.cm_stream.specs.Step.{IsGiven, HasStepped};
 
 use crate::scan::Scan;
 use crate::step::StreamStep;
+use cm_base::prover::shows;
 use cm_base::transfer::NoMemory;
 use cm_ring::reader::Reader;
 use cm_ring_core::view::End;
@@ -79,7 +80,7 @@ impl<P: Planned> ScanStream<P> {
         ensures { result ≡ record { n = n; reader = reader } }
     {
         // It says in contracts where the reader's places are.
-        let _ = reader.mapped();
+        shows(&reader.mapped());
         ScanStream {
             alloc,
             reader,
@@ -134,7 +135,7 @@ impl<P: Planned> ScanStream<P> {
         let words = mapped_words(self.alloc, &mut self.reader, want).ok()?;
         self.reader.release(want);
         // It says in contracts where the reader's places are.
-        let _ = self.reader.mapped();
+        shows(&self.reader.mapped());
         Some(Scan { first, words })
     }
 
@@ -179,7 +180,7 @@ impl<P: Planned> ScanStream<P> {
         ensures words { IfOk result (λ _. words.new.items ≡ words.old.items ++ piece self.old.reader.ring self.old.reader.part.released (scans * self.old.n)) }
     {
         // It says in contracts where the reader's places are.
-        let _ = self.reader.mapped();
+        shows(&self.reader.mapped());
         append_mapped(&mut self.reader, words, scans * self.n)
     }
 
@@ -190,7 +191,7 @@ impl<P: Planned> ScanStream<P> {
     {
         self.reader.release(scans * self.n);
         // It says in contracts where the reader's places are.
-        let _ = self.reader.mapped();
+        shows(&self.reader.mapped());
     }
 
     /// Appends the words of the next whole scans, of at most `most` samples in all, as many as a look in

@@ -10,9 +10,9 @@ abbrev pub invariant-loop-count : goal.invariant-loop-count
 invariant-loop-count l = record {
   size : length l.out ≡ length l.initial.out;
   within : l.count ≤ length l.out;
-  words : take l.count l.out ≡ raw_words (take l.count (drop l.place (items_of (plan_text l.plan))));
-  come : l.count + come_first l.time (drop l.count (drop l.place (items_of (plan_text l.plan)))) ≡ come_first l.time (drop l.place (items_of (plan_text l.plan)));
-  board : IsBoard (plan_text l.plan) (l.place + l.count) (progress_of (Some l.course) l.spot);
+  words : take l.count l.out ≡ raw_words (take l.count (drop l.fn.place (items_of (plan_text l.plan))));
+  come : l.count + come_first l.time (drop l.count (drop l.fn.place (items_of (plan_text l.plan)))) ≡ come_first l.time (drop l.fn.place (items_of (plan_text l.plan)));
+  board : IsBoard (plan_text l.plan) (l.fn.place + l.count) (progress_of (Some l.course) l.spot);
 }
 
 abbrev pub decreases-loop-count : goal.decreases-loop-count
