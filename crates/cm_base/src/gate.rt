@@ -16,7 +16,6 @@ pub trait Gate {
 }
 
 /// A gate that holds nobody.
-
 #[derive(Clone, Copy, Debug, PartialEq, Eq)]
 pub struct OpenGate;
 
