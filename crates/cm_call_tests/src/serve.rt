@@ -6,7 +6,6 @@ use cm_serve::serving::{Served, serve};
 use cm_serve::standard::StdClient;
 use std::alloc::Global;
 use std::io::{Error, ErrorKind, Read, Result as IoResult, Write};
-use std::mem;
 use std::test::Fail;
 
 // A whole dialogue as a transcript: a line that is heard stands after a mark, and an answer as it is.

@@ -1,5 +1,5 @@
 // What clients read of the words that go through a ring, and workers that sleep until others wake them.
-ghost use Rattle.std.specs.Prelude.{◌≡◌, ◌+◌, ◌<◌, ◌≤◌, ◌≢◌, length, true, Some, IfOk};
+ghost use Rattle.std.specs.Prelude.{◌≡◌, ◌+◌, ◌<◌, ◌≤◌, length, true, Some, IfOk};
 ghost use Rattle.cm_ring_core.specs.Lawful.{first_writer, first_reader};
 
 use crate::rule::rule_of;

@@ -1,10 +1,9 @@
 // What a ring gives when one thread makes the calls of its three ends in turn.
-ghost use Rattle.std.specs.Prelude.{◌≡◌, ◌≤◌, length, IfOk, IsTrue};
+ghost use Rattle.std.specs.Prelude.{◌≡◌, ◌≤◌, length, IsTrue};
 
 use crate::rule::rule_of;
 use cm_base::transfer::NoMemory;
 use cm_board::board::Munge;
-use cm_ring::munger::Munger;
 use cm_ring::open::open;
 use cm_ring::reader::Reader;
 use cm_ring::writer::{Full, Writer};
