@@ -7,14 +7,16 @@ use Rattle.std.proofs.lemmas.Grind.{flat_map-append}
 use Rattle.std.proofs.lemmas.List.{drop_all, drop-drop, take-append-drop}
 use Rattle.cm_base.specs.Transfer.{IsUnderWay, Moves}
 use Rattle.cm_base.proofs.UnderWay.{under_way-more, under_way-moved}
+use Rattle.cm_board.specs.Board.{BoardText}
+use Rattle.cm_signal.specs.Signals.{SignalsText}
 use Rattle.cm_expand.specs.Board.{BoardState}
 use Rattle.cm_expand.specs.Items.{items_of}
 use Rattle.cm_expand.specs.Plan.{PlanText, is_complete}
 use Rattle.cm_expand.specs.Taking.{left_of}
 use Rattle.cm_expand.specs.declared.conv.Conv.{Conv}
-use Rattle.cm_replay.specs.State.{Setting}
-use Rattle.cm_cli.specs.ExpandSession.{conversion_line, end_line, expands_text, expansion_text, plan_of}
-use Rattle.cm_cli.specs.declared.expanding.ExpandLine.{ExpandLine}
+use Rattle.cm_job.specs.ExpandLines.{plan_of}
+use Rattle.cm_job.specs.declared.expand_lines.ExpandLine.{ExpandLine}
+use Rattle.cm_cli.specs.ExpandSession.{conversion_line, end_line, expands_text, expansion_text}
 use Rattle.cm_cli.proofs.Texts.{next-item}
 
 -- the text of what a board has left
@@ -77,9 +79,10 @@ end-gathered a b board complete text more whole after full reported way =
     (done.0, done.1, sym done.2 ∙ ap (λ (t : List ℕ). done.0 ++ t) (append-nil more))
 
 -- the expansion of a line more is gathered
-pub expansion-gathered : (s : Setting) (a b : Option (List ℕ)) (lines : List ExpandLine) (i : ℕ) (line : ExpandLine) (p : PlanText) (text whole : List ℕ) →
-    i < length lines → line ≡ get_or lines i line → p ≡ plan_of s line →
-    IsUnderWay a b text (expands_text s (drop i lines)) whole → IsUnderWay a b (text ++ expansion_text p) (expands_text s (drop (i + 1) lines)) whole
-expansion-gathered s a b lines i line p text whole within is same way =
-    under_way-more a b text (text ++ expansion_text p) (expansion_text (plan_of s line)) (expands_text s (drop (i + 1) lines)) whole (ap (λ (q : PlanText). text ++ expansion_text q) same)
-    (subst (λ (ls : List ExpandLine). IsUnderWay a b text (expands_text s ls) whole) (next-item lines i line within is) way)
+pub expansion-gathered : (board : BoardText) (signals : SignalsText) (a b : Option (List ℕ)) (lines : List ExpandLine) (i : ℕ) (line : ExpandLine) (p : PlanText) (text whole : List ℕ) →
+    i < length lines → line ≡ get_or lines i line → p ≡ plan_of board signals line →
+    IsUnderWay a b text (expands_text board signals (drop i lines)) whole → IsUnderWay a b (text ++ expansion_text p) (expands_text board signals (drop (i + 1) lines)) whole
+expansion-gathered board signals a b lines i line p text whole within is same way =
+    under_way-more a b text (text ++ expansion_text p) (expansion_text (plan_of board signals line)) (expands_text board signals (drop (i + 1) lines)) whole
+    (ap (λ (q : PlanText). text ++ expansion_text q) same)
+    (subst (λ (ls : List ExpandLine). IsUnderWay a b text (expands_text board signals ls) whole) (next-item lines i line within is) way)

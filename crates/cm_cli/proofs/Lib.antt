@@ -1,7 +1,5 @@
-pub mod ExpandLines
 pub mod Expansions
 pub mod Nothing
-pub mod Rooms
 pub mod Served
 pub mod Tails
 pub mod Tests

@@ -5,11 +5,9 @@ pub mod Comedi
 pub mod ExpandSession
 pub mod Said
 pub mod Serving
-pub mod Sessions
 pub mod Statuses
 pub mod Stopped
 pub mod Tasks
 pub mod TestSession
 pub mod ThreadedSaid
 pub mod Top
-pub mod Totals

@@ -6,12 +6,14 @@ use Rattle.cm_base.specs.declared.faults.Refused.{Refused}
 use Rattle.cm_board.specs.Board.{BoardText}
 use Rattle.cm_board.specs.BoardPart.{board_of}
 use Rattle.cm_signal.specs.SignalsPart.{signals_at}
+use Rattle.cm_signal.specs.Setting.{Setting}
 use Rattle.cm_session.specs.SessionPart.{session_of}
+use Rattle.cm_job.specs.ExpandLines.{expands_of}
+use Rattle.cm_job.specs.TestLines.{tests_of}
 use Rattle.cm_replay.specs.Job.{JobText, setting_of}
-use Rattle.cm_replay.specs.State.{Setting}
 use Rattle.cm_replay.specs.Texts.{replay_text}
-use Rattle.cm_cli.specs.ExpandSession.{expands_of, expands_text}
-use Rattle.cm_cli.specs.TestSession.{tests_of, tests_text}
+use Rattle.cm_cli.specs.ExpandSession.{expands_text}
+use Rattle.cm_cli.specs.TestSession.{tests_text}
 use Rattle.cm_cli.specs.declared.task.Task.{Task}
 use Rattle.cm_cli.specs.declared.task.Task.TheVariants.{Test, Expand, Insn, Replay}
 
@@ -21,7 +23,7 @@ tests_said board lines = tests_of lines >>= λ cmds. Ok (tests_text board cmds)
 
 -- the answer to an `expand` job
 abbrev pub expands_said : Setting → List LineText → Result (List ℕ) Refused
-expands_said s lines = expands_of s lines >>= λ all. Ok (expands_text s all)
+expands_said s lines = expands_of s.board s.signals lines >>= λ all. Ok (expands_text s.board s.signals all)
 
 -- the job of a session, of instructions alone or of all kinds of lines
 abbrev pub job_of : Bool → Setting → List LineText → Result JobText Refused

@@ -14,4 +14,3 @@ pub mod stop;
 pub mod task;
 pub mod testing;
 mod threaded;
-pub mod totals;

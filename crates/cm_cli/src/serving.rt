@@ -6,18 +6,19 @@ ghost use Rattle.cm_signal.specs.Fitting.{FitBoard};
 ghost use Rattle.cm_cli.specs.Said.{expands_said, job_of, lines_said, said, session_answer, session_said, tests_said};
 ghost use Rattle.cm_cli.specs.Serving.{Serves};
 
-use crate::expanding::{expand_all, read_expands};
+use crate::expanding::expand_all;
 use crate::stop::Stop;
 use crate::task::Task;
-use crate::testing::{read_tests, test_all};
+use crate::testing::test_all;
 use cm_base::faults::ReadStop;
 use cm_base::lines::{Cursor, Lines, split_lines};
 use cm_base::outside::Sink;
 use cm_board::board::BoardDesc;
 use cm_board::reading::read_board;
+use cm_job::expand_lines::read_expands;
+use cm_job::test_lines::read_tests;
 use cm_replay::job::Job;
 use cm_replay::replay::replay;
-use cm_replay::setting::Setting;
 use cm_session::reading::read_session;
 use cm_signal::reading::read_signals;
 use cm_signal::signals::Signals;
@@ -104,8 +105,7 @@ fn serve_expands<K: Sink>(
     ensures later { K.faults sink.old ≤ K.faults sink.new }
 {
     let all = read_expands(alloc, board, signals, lines)?;
-    let setting = Setting { board, signals };
-    expand_all(alloc, &setting, &all, sink)?;
+    expand_all(alloc, board, signals, &all, sink)?;
     Ok(())
 }
 

@@ -3,8 +3,8 @@ use Rattle.std.specs.Prelude.{◌≡◌, ◌⊎◌, ℕ, List, [], ◌∷◌, �
 use Rattle.cm_board.specs.Board.{BoardText}
 use Rattle.cm_signal.specs.Signals.{SignalsText}
 use Rattle.cm_expand.specs.Plan.{PlanText}
+use Rattle.cm_expand.specs.Calls.{plan_at}
 use Rattle.cm_text.specs.Blocks.{HasOverrun, drive_block, paced_block}
-use Rattle.cm_job.specs.Calls.{plan_at}
 use Rattle.cm_job.specs.declared.line.Mode.{Mode}
 use Rattle.cm_job.specs.declared.line.Mode.TheVariants.{Paced, Free}
 use Rattle.cm_job.specs.declared.line.RunLine.{RunLine}

@@ -12,15 +12,17 @@ use Rattle.cm_base.proofs.Values.{at_line_ok}
 use Rattle.cm_board.specs.Board.{BoardText, SubText}
 use Rattle.cm_cmd.specs.Command.{CmdText}
 use Rattle.cm_cmd.specs.CommandText.{command_of}
+use Rattle.cm_test.specs.Accepting.{numbered_sub, passed, sub_at}
 use Rattle.cm_expand.specs.Rule.{is_output}
 use Rattle.cm_signal.specs.Signals.{SignalsText}
 use Rattle.cm_test.specs.Questions.{tested}
-use Rattle.cm_job.specs.Calls.{CanCall, cmd_of, length_of, length_of_all, sub_at}
+use Rattle.cm_expand.specs.Totals.{has_room, length_of, length_of_all}
+use Rattle.cm_expand.proofs.Rooms.{length-more}
+use Rattle.cm_job.specs.Calls.{CanCall, cmd_of, plan_of}
 use Rattle.cm_job.specs.Forms.{access_of, asked_of, drive_head, drive_line, four_before_command, go_head, go_line, keyed, line_key, mode_of, numbers_of, take_of, two_before_command}
 use Rattle.cm_job.specs.RunLines.{AreRunLines, CanRun, HasLimits}
-use Rattle.cm_job.specs.RunPart.{accepted, are_codes, directed_sub, drive_of, is_directed, line_after, line_of, next_line, passed, taken_line, values_of}
+use Rattle.cm_job.specs.RunPart.{accepted, are_codes, directed, directed_sub, drive_of, is_directed, line_after, line_of, next_line, taken_line, values_of}
 use Rattle.cm_job.specs.Sessions.{takes}
-use Rattle.cm_job.specs.Totals.{has_room}
 use Rattle.cm_job.specs.declared.asked.Asked.{Asked}
 use Rattle.cm_job.specs.declared.asked.Asked.TheVariants as asks
 use Rattle.cm_job.specs.declared.asked.Key.{Key}
@@ -30,7 +32,6 @@ use Rattle.cm_job.specs.declared.line.Access.{Access}
 use Rattle.cm_job.specs.declared.line.Mode.{Mode}
 use Rattle.cm_job.specs.declared.line.RunLine.{RunLine}
 use Rattle.cm_job.specs.declared.line.RunLine.TheVariants.{Go, Drive}
-use Rattle.cm_job.proofs.Rooms.{length-more}
 use Rattle.cm_job.proofs.Steps.{IsTake, good-from, limited-from, number-from, numbers-some, same-ok, take-from, then-from}
 
 -- what is asked is within the limits of its words
@@ -83,9 +84,10 @@ record IsFound (board : BoardText) (out : Bool) (i : ℕ) (sub : SubText) : Type
 
 found-from : (board : BoardText) (out : Bool) (i : ℕ) (sub : SubText) → directed_sub board out i ≡ Ok sub → IsFound board out i sub
 found-from board out i sub e =
-    let g = good-from (nat_lt i (length board.subs) && is_directed out (sub_at board i)) (sub_at board i) sub e in
-    let parts = and_parts (nat_lt i (length board.subs)) (is_directed out (sub_at board i)) g.0 in
-    record { within = ltb-true i (length board.subs) parts.0; directed = subst (λ (s : SubText). is_directed out s ≡ true) g.1 parts.1; there = g.1 }
+    let n = then-from (numbered_sub board i) (λ s. directed out s) sub e in
+    let g = good-from (nat_lt i (length board.subs)) (sub_at board i) n.0 n.1 in
+    let d = good-from (is_directed out n.0) n.0 sub n.2 in
+    record { within = ltb-true i (length board.subs) g.0; directed = subst (λ (s : SubText). is_directed out s ≡ true) d.1 d.0; there = g.1 ∙ d.1 }
 
 pub passed-from : (sub : SubText) (cmd next : CmdText) → passed sub cmd ≡ Ok next → ((tested sub cmd).0 ≡ 0) × (cmd ≡ next)
 passed-from sub cmd next e =
@@ -180,15 +182,15 @@ pub lines-more : (session : Session) (board : BoardText) (signals : SignalsText)
 lines-more session board signals before number line next so e =
     let said = at_line_ok number (line_after session board signals before line) next e in
     let n = then-from (next_line session board signals.horizon (length before) line) _ next said in
-    let l = limited-from (has_room (length_of_all board signals before) (length_of board signals n.0)) n.0 next n.2 in
-    let parts = and_parts (nat_le (length_of board signals n.0) 1000000) (nat_le (length_of_all board signals before + length_of board signals n.0) 4000000) l.0 in
+    let l = limited-from (has_room (length_of_all (plan_of board signals) before) (length_of (plan_of board signals n.0))) n.0 next n.2 in
+    let parts = and_parts (nat_le (length_of (plan_of board signals n.0)) 1000000) (nat_le (length_of_all (plan_of board signals) before + length_of (plan_of board signals n.0)) 4000000) l.0 in
     let called = next-called session board signals (length before) line n.0 n.1 in
-    let runs : CanRun board signals n.0 = record { call = called.0.0; limits = called.0.1; few = leb-true (length_of board signals n.0) 1000000 parts.0 } in
-    let all = leb-true (length_of_all board signals before + length_of board signals n.0) 4000000 parts.1 in
+    let runs : CanRun board signals n.0 = record { call = called.0.0; limits = called.0.1; few = leb-true (length_of (plan_of board signals n.0)) 1000000 parts.0 } in
+    let all = leb-true (length_of_all (plan_of board signals) before + length_of (plan_of board signals n.0)) 4000000 parts.1 in
     subst (λ (x : RunLine). AreRunLines board signals (before ++ x ∷ [])) l.1 (record {
       each = All-push (CanRun board signals) before n.0 so.each runs;
       few = omega (arith, length-append before (n.0 ∷ []), called.1);
-      total = omega (arith, length-more board signals before n.0, all);
+      total = omega (arith, length-more (plan_of board signals) before n.0, all);
     })
 
 -- lines that can be run can be called

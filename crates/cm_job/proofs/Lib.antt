@@ -1,7 +1,6 @@
 pub mod Codes
 pub mod Kept
 pub mod Next
-pub mod Rooms
 pub mod Rows
 pub mod Steps
 pub mod Watched
@@ -10,3 +9,4 @@ pub mod Later
 pub mod LoopRules
 pub mod Sooner
 pub mod LoopWords
+pub mod ExpandLines

@@ -12,8 +12,9 @@ use Rattle.cm_base.specs.declared.faults.ReadStop.{ReadStop}
 use Rattle.cm_base.specs.declared.faults.ReadStop.TheVariants as stops
 use Rattle.cm_board.specs.Board.{BoardText, SubText}
 use Rattle.cm_cmd.specs.Command.{CmdText}
+use Rattle.cm_test.specs.Accepting.{passed}
 use Rattle.cm_job.specs.Forms.{asked_of}
-use Rattle.cm_job.specs.RunPart.{directed_sub, drive_of, next_line, passed, taken_line, values_of}
+use Rattle.cm_job.specs.RunPart.{directed_sub, drive_of, next_line, taken_line, values_of}
 use Rattle.cm_job.specs.declared.asked.Asked.{Asked}
 use Rattle.cm_job.specs.declared.asked.Session.{Session}
 use Rattle.cm_job.specs.declared.line.RunLine.TheVariants.{Drive}

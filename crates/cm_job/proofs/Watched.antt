@@ -17,12 +17,12 @@ use Rattle.cm_test.proofs.Adjusted.{first_no}
 use Rattle.cm_test.specs.Questions.{is_compatible, is_narrow, is_rounded, is_within, tested}
 use Rattle.cm_test.specs.Steps.{narrowed, repaired, rounded}
 use Rattle.cm_test.specs.ValidList.{has_valid_length, has_valid_ranges, is_valid_entry, is_valid_list}
-use Rattle.cm_job.specs.Calls.{length_of, length_of_all, sub_at}
+use Rattle.cm_test.specs.Accepting.{sub_at}
+use Rattle.cm_expand.specs.Totals.{has_room, length_of, length_of_all}
 use Rattle.cm_job.specs.Forms.{asked_of}
 use Rattle.cm_job.specs.RunLines.{AreRunLines}
 use Rattle.cm_job.specs.RunPart.{accepted, line_after, line_of, next_line, taken_line, watch_of}
 use Rattle.cm_job.specs.Sessions.{holds_scan, is_paced, is_watched}
-use Rattle.cm_job.specs.Totals.{has_room}
 use Rattle.cm_job.specs.WatchLines.{AreWatchLines, IsWatched}
 use Rattle.cm_job.specs.declared.asked.Asked.{Asked}
 use Rattle.cm_job.specs.declared.asked.Asked.TheVariants as asks
@@ -34,6 +34,7 @@ use Rattle.cm_job.specs.declared.line.RunLine.{RunLine}
 use Rattle.cm_job.specs.declared.line.RunLine.TheVariants.{Go}
 use Rattle.cm_job.proofs.Kept.{accepted-from, taken-from}
 use Rattle.cm_job.proofs.Steps.{limited-from, same-ok, then-from}
+use Rattle.cm_job.specs.Calls.{plan_of}
 
 -- the last of five questions has yes where the answer is 0
 last_yes : {A : Type 0} (a b c d e : Bool) (x y z w : A) → (first_no a b c d e x y z w).0 ≡ 0 → e ≡ true
@@ -85,8 +86,8 @@ asked-watched board (asks.Drive t0 numbers cmd) line takes e = absurd (cc)
 -- a line that is read of a watch is watched
 line-watched : (board : BoardText) (signals : SignalsText) (before : List RunLine) (line : LineText) (next : RunLine) → line_after sessions.Watch board signals before line ≡ Ok next → IsWatched board next
 line-watched board signals before line next e =
-    let n = then-from (next_line sessions.Watch board signals.horizon (length before) line) (λ x. limited (has_room (length_of_all board signals before) (length_of board signals x)) x) next e in
-    let l = limited-from (has_room (length_of_all board signals before) (length_of board signals n.0)) n.0 next n.2 in
+    let n = then-from (next_line sessions.Watch board signals.horizon (length before) line) (λ x. limited (has_room (length_of_all (plan_of board signals) before) (length_of (plan_of board signals x))) x) next e in
+    let l = limited-from (has_room (length_of_all (plan_of board signals) before) (length_of (plan_of board signals n.0))) n.0 next n.2 in
     let a = then-from (asked_of signals.horizon line) (λ asked. limited (nat_lt (length before) 16) asked >>= λ asked. taken_line sessions.Watch board asked) n.0 n.1 in
     let f = then-from (limited (nat_lt (length before) 16) a.0) (λ asked. taken_line sessions.Watch board asked) n.0 a.2 in
     let t = taken-from sessions.Watch board f.0 n.0 f.2 in

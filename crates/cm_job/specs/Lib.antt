@@ -5,7 +5,6 @@ pub mod JobView
 pub mod RunLines
 pub mod RunPart
 pub mod Sessions
-pub mod Totals
 pub mod WatchLines
 pub mod LoopForms
 pub mod LoopJob
@@ -13,3 +12,6 @@ pub mod LoopJobView
 pub mod Later
 pub mod LoopPart
 pub mod Pace
+pub mod Only
+pub mod TestLines
+pub mod ExpandLines

@@ -2,12 +2,13 @@
 use Rattle.std.specs.Prelude.{◌≡◌, ℕ, ◌<◌, ◌≤◌, Bool, true, false, length}
 use Rattle.cm_board.specs.Board.{BoardText}
 use Rattle.cm_cmd.specs.Command.{CmdText}
+use Rattle.cm_test.specs.Accepting.{sub_at}
 use Rattle.cm_expand.specs.Items.{items_of}
 use Rattle.cm_expand.specs.Plan.{PlanText}
 use Rattle.cm_expand.specs.Rule.{is_output, is_raw}
 use Rattle.cm_signal.specs.Signals.{SignalsText}
 use Rattle.cm_test.specs.Questions.{tested}
-use Rattle.cm_job.specs.Calls.{plan_at, sub_at}
+use Rattle.cm_expand.specs.Calls.{plan_at}
 use Rattle.cm_job.specs.Later.{are_later}
 
 -- a loop job: the times of the calls are in nanoseconds, and the window is how many samples of a list entry stand in a mean

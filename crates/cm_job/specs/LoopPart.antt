@@ -10,7 +10,7 @@ use Rattle.cm_expand.specs.Items.{items_of}
 use Rattle.cm_expand.specs.Plan.{PlanText}
 use Rattle.cm_expand.specs.Rule.{is_raw}
 use Rattle.cm_signal.specs.Signals.{SignalsText}
-use Rattle.cm_job.specs.Calls.{plan_at}
+use Rattle.cm_expand.specs.Calls.{plan_at}
 use Rattle.cm_job.specs.RunPart.{accepted}
 use Rattle.cm_job.specs.LoopForms.{asked_of}
 use Rattle.cm_job.specs.Later.{are_later}

@@ -1,5 +1,5 @@
 -- The session part of a run job.
-use Rattle.std.specs.Prelude.{ℕ, suc, ◌%◌, Bool, true, false, not, ◌&&◌, ◌==◌, nat_le, nat_lt}
+use Rattle.std.specs.Prelude.{ℕ, suc, ◌%◌, Bool, true, false, not, ◌&&◌, nat_le, nat_lt}
 use Rattle.std.specs.Prelude.{List, [], ◌∷◌, length, slice_index, Result, Ok, Err, if◌then◌else◌}
 use Rattle.cm_base.specs.Lines.{LineText}
 use Rattle.cm_base.specs.Reading.{◌>>=◌, read_each}
@@ -10,32 +10,32 @@ use Rattle.cm_base.specs.declared.faults.Refused.{Refused}
 use Rattle.cm_board.specs.Board.{BoardText, SubText, maxdata_of}
 use Rattle.cm_cmd.specs.Command.{CmdText}
 use Rattle.cm_cmd.specs.Entry.{chan}
+use Rattle.cm_test.specs.Accepting.{numbered_sub, passed}
 use Rattle.cm_expand.specs.Rule.{is_output}
 use Rattle.cm_signal.specs.Signals.{SignalsText}
-use Rattle.cm_test.specs.Questions.{tested}
-use Rattle.cm_job.specs.Calls.{length_of, length_of_all, sub_at}
+use Rattle.cm_expand.specs.Totals.{has_room, length_of, length_of_all}
 use Rattle.cm_job.specs.Forms.{asked_of}
 use Rattle.cm_job.specs.Sessions.{takes}
-use Rattle.cm_job.specs.Totals.{has_room}
 use Rattle.cm_job.specs.declared.asked.Asked.{Asked}
 use Rattle.cm_job.specs.declared.asked.Asked.TheVariants as asks
 use Rattle.cm_job.specs.declared.asked.Session.{Session}
 use Rattle.cm_job.specs.declared.asked.Session.TheVariants as sessions
 use Rattle.cm_job.specs.declared.line.RunLine.{RunLine}
 use Rattle.cm_job.specs.declared.line.RunLine.TheVariants.{Go, Drive}
+use Rattle.cm_job.specs.Calls.{plan_of}
 
 -- a subdevice is an output, or it isn't
 abbrev pub is_directed : Bool → SubText → Bool
 is_directed true sub = is_output sub.kind
 is_directed false sub = not (is_output sub.kind)
 
+-- a subdevice, where it has the direction
+abbrev pub directed : Bool → SubText → Result SubText Fault
+directed out sub = if is_directed out sub then Ok sub else Err Bad
+
 -- the subdevice with this number, where there is one with the direction
 abbrev pub directed_sub : BoardText → Bool → ℕ → Result SubText Fault
-directed_sub board out i = if nat_lt i (length board.subs) && is_directed out (sub_at board i) then Ok (sub_at board i) else Err Bad
-
--- a command that passes the test of its subdevice
-abbrev pub passed : SubText → CmdText → Result CmdText Fault
-passed sub cmd = if (tested sub cmd).0 == 0 then Ok cmd else Err Bad
+directed_sub board out i = numbered_sub board i >>= λ sub. directed out sub
 
 -- a command that passes the test of a subdevice with this direction
 abbrev pub accepted : BoardText → Bool → CmdText → Result CmdText Fault
@@ -87,7 +87,7 @@ next_line session board horizon count line =
 abbrev pub line_after : Session → BoardText → SignalsText → List RunLine → LineText → Result RunLine Fault
 line_after session board signals before line =
     next_line session board signals.horizon (length before) line >>= λ next.
-    limited (has_room (length_of_all board signals before) (length_of board signals next)) next
+    limited (has_room (length_of_all (plan_of board signals) before) (length_of (plan_of board signals next))) next
 
 -- the lines of a session
 abbrev pub lines_of : Session → BoardText → SignalsText → List LineText → Result (List RunLine) Refused

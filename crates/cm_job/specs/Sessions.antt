@@ -2,7 +2,7 @@
 use Rattle.std.specs.Prelude.{Bool, true, false, ◌&&◌, nat_le, nat_lt, length, is_none}
 use Rattle.cm_board.specs.Board.{BoardText}
 use Rattle.cm_cmd.specs.Command.{CmdText}
-use Rattle.cm_job.specs.Calls.{sub_at}
+use Rattle.cm_test.specs.Accepting.{sub_at}
 use Rattle.cm_job.specs.declared.asked.Asked.{Asked}
 use Rattle.cm_job.specs.declared.asked.Asked.TheVariants as asks
 use Rattle.cm_job.specs.declared.asked.Session.{Session}

@@ -3,7 +3,8 @@ use Rattle.std.specs.Prelude.{◌≡◌, ◌≤◌, List, length, None}
 use Rattle.std.specs.List.{All}
 use Rattle.cm_board.specs.Board.{BoardText, SubText}
 use Rattle.cm_signal.specs.Signals.{SignalsText}
-use Rattle.cm_job.specs.Calls.{cmd_of, sub_at}
+use Rattle.cm_test.specs.Accepting.{sub_at}
+use Rattle.cm_job.specs.Calls.{cmd_of}
 use Rattle.cm_job.specs.RunLines.{AreRunLines}
 use Rattle.cm_job.specs.declared.line.Mode.TheVariants.{Paced}
 use Rattle.cm_job.specs.declared.line.RunLine.{RunLine}

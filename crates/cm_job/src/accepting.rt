@@ -21,7 +21,8 @@ use cm_board::board::{BoardDesc, Sub};
 use cm_cmd::command::Cmd;
 use cm_cmd::entry::chan;
 use cm_expand::rule::is_output;
-use cm_test::test::{Accepted, accept};
+use cm_test::accepting::{numbered_sub, passed};
+use cm_test::test::Accepted;
 use std::alloc::Global;
 
 // The most values of a `drive` line.
@@ -150,27 +151,11 @@ pub fn accepted(board: &BoardDesc, out: bool, cmd: Cmd) -> Result<Accepted, Faul
 fn directed_sub(board: &BoardDesc, out: bool, number: u32) -> Result<&Sub, Fault>
     ensures { seen (λ sub. sub.now) result ≡ spec.directed_sub board.now out number }
 {
-    let index = number as usize;
-    if index >= board.subs.len() {
-        return Err(Fault::Bad);
-    }
-    let sub = &board.subs[index];
+    let sub = numbered_sub(board, number)?;
     if is_output(sub.kind) == out {
         Ok(sub)
     } else {
         Err(Fault::Bad)
-    }
-}
-
-// A command that passes the test of its subdevice.
-fn passed(sub: &Sub, cmd: Cmd) -> Result<Accepted, Fault>
-    requires { length cmd.list ≤ 256 }
-    ensures value { result ≡ spec.passed sub.now cmd }
-    ensures passes { IfOk result (λ cmd. (tested sub.now cmd).0 ≡ 0) }
-{
-    match accept(sub, cmd) {
-        Ok(cmd) => Ok(cmd),
-        Err(_) => Err(Fault::Bad),
     }
 }
 

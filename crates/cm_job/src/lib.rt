@@ -4,6 +4,7 @@
 pub mod accepting;
 pub mod ahead;
 pub mod asked;
+pub mod expand_lines;
 pub mod job;
 pub mod line;
 pub mod loop_accepting;
@@ -11,5 +12,6 @@ pub mod loop_asked;
 pub mod loop_job;
 pub mod loop_line;
 pub mod loop_reading;
+pub mod only;
 pub mod reading;
-pub mod totals;
+pub mod test_lines;

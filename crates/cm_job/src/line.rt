@@ -1,13 +1,9 @@
 // What the lines of a run job ask.
-ghost use Rattle.std.specs.Prelude.{◌≡◌, ◌<◌, ◌≤◌, length};
-ghost use Rattle.cm_expand.specs.PlanView.{plan_text};
-ghost use Rattle.cm_test.specs.Questions.{tested};
+ghost use Rattle.std.specs.Prelude.{◌≡◌};
 ghost use Rattle.cm_job.specs.Calls as spec;
 
 use cm_base::lists::Nums;
-use cm_board::board::BoardDesc;
-use cm_expand::plan::Plan;
-use cm_signal::signals::Signals;
+use cm_expand::call::{Call, sub_of};
 use cm_test::test::Accepted;
 
 /// What the board does where the buffer is full.
@@ -77,35 +73,16 @@ impl RunLine {
     }
 }
 
-/// The plan of a line.
-pub fn plan_of<'a>(board: &'a BoardDesc, signals: &'a Signals, line: &'a RunLine) -> Plan<'a>
-    requires { spec.CanCall board.now signals.now line.now }
-    ensures { plan_text result ≡ spec.plan_of board.now signals.now line.now }
-{
-    plan_at(board, signals, line.t0(), line.cmd())
-}
+impl Call for RunLine {
+    ghost t0_of = { spec.t0_of };
 
-/// The plan of a command that its subdevice accepts and that is called at `t0` nanoseconds.
-pub fn plan_at<'a>(
-    board: &'a BoardDesc,
-    signals: &'a Signals,
-    t0: u64,
-    cmd: &'a Accepted,
-) -> Plan<'a>
-    requires within { cmd.now.sub < length board.now.subs }
-    requires passes { (tested (spec.sub_at board.now cmd.now.sub) cmd.now).0 ≡ 0 }
-    requires time { t0 ≤ signals.now.horizon }
-    ensures { plan_text result ≡ spec.plan_at board.now signals.now t0 cmd.now }
-{
-    let index = sub_of(cmd);
-    let sub = &board.subs[index as usize];
-    Plan::new(sub, signals, cmd, index, t0, None)
-}
+    ghost cmd_of = { spec.cmd_of };
 
-// The subdevice of a command.
-fn sub_of(cmd: &Accepted) -> u32
-    ensures { result ≡ cmd.now.sub }
-{
-    let cmd = cmd.cmd();
-    cmd.sub
+    fn call_time(&self) -> u64 {
+        self.t0()
+    }
+
+    fn command(&self) -> &Accepted {
+        self.cmd()
+    }
 }

@@ -8,11 +8,11 @@ ghost use Rattle.cm_job.specs.LoopPart as spec;
 
 use crate::accepting::accepted;
 use crate::ahead::{MOST, is_ahead};
-use crate::line::plan_at;
 use crate::loop_asked::Asked;
 use crate::loop_line::LoopLine;
 use cm_base::faults::Fault;
 use cm_board::board::BoardDesc;
+use cm_expand::call::plan_at;
 use cm_expand::plan::Plan;
 use cm_expand::rule::is_raw;
 use cm_signal::signals::Signals;

@@ -2,8 +2,8 @@
 ghost use Rattle.std.specs.Prelude.{◌≡◌};
 ghost use Rattle.cm_expand.specs.PlanView.{plan_text};
 
-use crate::line::plan_at;
 use cm_board::board::BoardDesc;
+use cm_expand::call::plan_at;
 use cm_expand::plan::Plan;
 use cm_signal::signals::Signals;
 use cm_test::test::Accepted;

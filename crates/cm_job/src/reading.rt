@@ -3,21 +3,21 @@ ghost use Rattle.std.specs.Prelude.{◌≡◌, ◌≤◌, ◌+◌, drop, length,
 ghost use Rattle.cm_base.specs.LineView.{line_view};
 ghost use Rattle.cm_base.specs.ReadStop.{Gives};
 ghost use Rattle.cm_base.specs.Reading.{at_line};
-ghost use Rattle.cm_job.specs.Calls.{CanCall, length_of, length_of_all};
+ghost use Rattle.cm_expand.specs.Totals.{Reports, length_of, length_of_all};
+ghost use Rattle.cm_job.specs.Calls.{CanCall, plan_of};
 ghost use Rattle.cm_job.specs.RunLines.{AreRunLines};
 ghost use Rattle.cm_job.specs.RunPart as spec;
-ghost use Rattle.cm_job.specs.Totals.{Bounds};
 ghost use Rattle.cm_job.specs.WatchLines.{AreWatchLines};
 
 use crate::accepting::take_line;
 use crate::asked::{Session, read_asked};
 use crate::line::RunLine;
-use crate::totals::most_with;
 use cm_base::faults::{Fault, ReadStop};
 use cm_base::lines::{Line, Lines};
 use cm_base::parts::refused;
 use cm_base::words::at_line;
 use cm_board::board::BoardDesc;
+use cm_expand::totals::{Total, total_with};
 use cm_signal::signals::Signals;
 use std::alloc::Global;
 
@@ -72,36 +72,41 @@ fn read_session(
     let mut lines = lines.from(at);
     let mut line = Line::empty(alloc);
     let mut all = Vec::new(alloc);
-    let mut most = 0;
+    let mut total = Total::AtMost(0);
     while lines.next(alloc, &mut line)? {
-        let (next, with_next) = match read_line(alloc, session, board, signals, &all, most, &line) {
+        let (next, with_next) = match read_line(
+            alloc, session, board, signals, &all, total, &line,
+        ) {
             Ok(read) => read,
             Err(stop) => return Err(stop),
         };
         all.push(next)?;
-        most = with_next;
+        total = with_next;
     }
     Ok(all)
 }
 
-// A line after others, and a number that all have at most as many conversions as.
+// A line after others, and the total with it.
 fn read_line(
     alloc: Global,
     session: Session,
     board: &BoardDesc,
     signals: &Signals,
     before: &[RunLine],
-    most: u64,
+    total: Total,
     line: &Line<'_>,
-) -> Result<(RunLine, u64), ReadStop>
+) -> Result<(RunLine, Total), ReadStop>
     requires before { AreRunLines board.now signals.now before.now }
-    requires most { Bounds most (length_of_all board.now signals.now before.now) }
+    requires total { Reports total (length_of_all (plan_of board.now signals.now) before.now) }
     ensures value { Gives (λ r. r.0) result (at_line line.now.number (spec.line_after session board.now signals.now before.now (line_view line.now))) }
-    ensures most { IfOk result (λ r. Bounds r.1 (length_of_all board.now signals.now before.now + length_of board.now signals.now r.0)) }
+    ensures total { IfOk result (λ r. Reports r.1 (length_of_all (plan_of board.now signals.now) before.now + length_of (plan_of board.now signals.now r.0))) }
 {
     let next = read_next(alloc, session, board, signals, before.len(), line)?;
-    let most = at_line(line.number, most_with(board, signals, before, most, &next))?;
-    Ok((next, most))
+    let total = at_line(
+        line.number,
+        total_with(board, signals, before, total, &next),
+    )?;
+    Ok((next, total))
 }
 
 // The line that a text says after so many others.

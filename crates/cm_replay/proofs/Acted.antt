@@ -9,6 +9,8 @@ use Rattle.cm_sub.specs.Checks.{first_refusal, refuse}
 use Rattle.cm_sub.specs.Files.{FilesText, reach_checks}
 use Rattle.cm_sub.specs.declared.errno.Errno.{Errno}
 use Rattle.cm_sub.specs.declared.errno.Errno.TheVariants.{Io}
+use Rattle.cm_signal.specs.Setting.{Setting}
+use Rattle.cm_test.specs.Accepting.{sub_at}
 use Rattle.cm_session.specs.declared.op.Op.{Op}
 use Rattle.cm_session.specs.declared.op.Op.TheVariants as ops
 use Rattle.cm_session.specs.declared.op.SessionLine.{SessionLine}
@@ -17,7 +19,7 @@ use Rattle.cm_replay.specs.Forms.{form, kind_checks, named_sub}
 use Rattle.cm_replay.specs.Ready.{CanMove}
 use Rattle.cm_replay.specs.Replies.{CanAct, CanStep, IsWhole, Leads, Replies, here_at, seat_reply, tried_by, unless_kept}
 use Rattle.cm_replay.specs.Session.{Outcome, act_on, here, unless_refused, with_reply}
-use Rattle.cm_replay.specs.State.{Device, Here, Setting, State, device_at, idle_device, sub_at}
+use Rattle.cm_replay.specs.State.{Device, Here, State, device_at, idle_device}
 use Rattle.cm_replay.specs.Texts.{answer_text}
 use Rattle.cm_replay.specs.declared.at.At.{At}
 

@@ -1,6 +1,7 @@
 -- How many subdevices and claims a session has stays.
 use Rattle.std.proofs.Common.{◌≡◌, ℕ, suc, Bool, List, [], ◌∷◌, ◌++◌, length, refl, ap, ◌∙◌, length-set, Option, Some, None}
 use Rattle.std.proofs.lemmas.List.{length-map}
+use Rattle.cm_signal.specs.Setting.{Setting}
 use Rattle.cm_insn.specs.Insn.{Done, time_words}
 use Rattle.cm_sub.specs.Checks.{first_refusal}
 use Rattle.cm_sub.specs.Claims.{claim_without}
@@ -14,7 +15,7 @@ use Rattle.cm_replay.specs.Answers.{Data, Fine, Refused, Reply}
 use Rattle.cm_replay.specs.Calling.{insn_reply}
 use Rattle.cm_replay.specs.Forms.{form, line_checks}
 use Rattle.cm_replay.specs.Session.{Outcome, act, act_on, brought_all, brought_device, closed_state, here, left_devices, step, unless_refused, with_reply}
-use Rattle.cm_replay.specs.State.{Device, Here, Setting, State}
+use Rattle.cm_replay.specs.State.{Device, Here, State}
 use Rattle.cm_replay.proofs.Shapes.{form-holds}
 
 -- a reply has as many claims

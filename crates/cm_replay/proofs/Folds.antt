@@ -5,6 +5,7 @@ use Rattle.std.proofs.lemmas.List.{drop_all, length-map, length-replicate}
 use Rattle.cm_base.specs.Transfer.{IsUnderWay}
 use Rattle.cm_base.proofs.UnderWay.{under_way-more}
 use Rattle.cm_cmd.specs.Command.{CmdText}
+use Rattle.cm_signal.specs.Setting.{Setting}
 use Rattle.cm_session.specs.Limits.{InOrder, IsLimited}
 use Rattle.cm_session.specs.declared.op.SessionLine.{SessionLine}
 use Rattle.cm_sub.specs.Claims.{nobody}
@@ -13,7 +14,7 @@ use Rattle.cm_replay.specs.Ready.{CanMove, StaysReady}
 use Rattle.cm_replay.specs.Replies.{AreMany, AreWhole, CanCome, CanReplay, CanStep, HasCome, Steps, tried_of}
 use Rattle.cm_replay.specs.Running.{Running}
 use Rattle.cm_replay.specs.Session.{brought_all, step}
-use Rattle.cm_replay.specs.State.{Device, Setting, State, at_start, idle_device}
+use Rattle.cm_replay.specs.State.{Device, State, at_start, idle_device}
 use Rattle.cm_replay.specs.Texts.{step_text, texts_from}
 use Rattle.cm_replay.proofs.Counts.{length-brought, step-claims, step-devices}
 use Rattle.cm_replay.proofs.Readiness.{ready-at}

@@ -3,6 +3,7 @@ use Rattle.std.proofs.Common.{ne_eqb, ◌≡◌, ◌≢◌, ℕ, zero, suc, ◌<
 use Rattle.std.specs.Option.{is_some}
 use Rattle.std.specs.Prelude.{not, ◌==◌, if◌then◌else◌}
 use Rattle.std.proofs.lemmas.Bool.{cases_eq, or_parts}
+use Rattle.cm_signal.specs.Setting.{Setting}
 use Rattle.cm_insn.specs.Insn.{Done}
 use Rattle.cm_sub.specs.Checks.{first_refusal, refuse}
 use Rattle.cm_sub.specs.Claims.{cancel_checks, claim_without, is_other, nobody, other_than, use_checks}
@@ -21,7 +22,7 @@ use Rattle.cm_replay.specs.Reading.{look_reply, map_reply, read_reply, release_r
 use Rattle.cm_replay.specs.Refusals.{ForeignLaw, IsForeign}
 use Rattle.cm_replay.specs.Running.{Running}
 use Rattle.cm_replay.specs.Session.{Outcome, act, act_on, brought_all, closed_state, here, left_by, left_devices, unless_refused, with_reply}
-use Rattle.cm_replay.specs.State.{Device, Here, Setting, State, claim_of, device_at, idle_device, is_foreign, is_out_here}
+use Rattle.cm_replay.specs.State.{Device, Here, State, claim_of, device_at, idle_device, is_foreign, is_out_here}
 use Rattle.cm_replay.specs.Writing.{fill_reply, mark_reply, write_reply}
 use Rattle.cm_replay.specs.declared.ending.End.{End}
 use Rattle.cm_board.specs.Board.{no_sub}

@@ -7,6 +7,7 @@ use Rattle.std.proofs.lemmas.List.{length-map, take_all}
 use Rattle.cm_board.specs.Board.{IsSoundSub, no_sub}
 use Rattle.cm_sample.specs.Rule.{map_from}
 use Rattle.cm_signal.specs.Signals.{IsSoundSignals}
+use Rattle.cm_signal.specs.Setting.{Setting}
 use Rattle.cm_expand.specs.Course.{times}
 use Rattle.cm_expand.specs.Items.{conv_at, items_of}
 use Rattle.cm_expand.specs.Plan.{PlanText, course_from, start_of, times_if, times_of}
@@ -18,7 +19,7 @@ use Rattle.cm_expand.specs.Taking.{come}
 use Rattle.cm_replay.specs.Forms.{named_sub}
 use Rattle.cm_replay.specs.Schedules.{reaching, schedule_of}
 use Rattle.cm_replay.specs.Session.{here}
-use Rattle.cm_replay.specs.State.{Setting, State, plan_here}
+use Rattle.cm_replay.specs.State.{State, plan_here}
 use Rattle.cm_replay.specs.Timely.{IsTimely}
 use Rattle.cm_expand.proofs.Come.{all_come, come-none, never_falls}
 use Rattle.cm_board.specs.declared.board.Fifo.{Fifo}

@@ -3,6 +3,7 @@ use Rattle.std.proofs.Common.{◌≡◌, ◌≤◌, List, [], ◌∷◌, length,
 use Rattle.std.specs.List.{All}
 use Rattle.cm_board.specs.Board.{BoardText, IsSoundSub}
 use Rattle.cm_cmd.specs.Command.{CmdText}
+use Rattle.cm_signal.specs.Setting.{Setting}
 use Rattle.cm_session.specs.Limits.{InOrder, IsLimited}
 use Rattle.cm_session.specs.declared.op.SessionLine.{SessionLine}
 use Rattle.cm_signal.specs.Fitting.{FitBoard}
@@ -16,7 +17,6 @@ use Rattle.cm_replay.specs.PlayingView.{IsPlay}
 use Rattle.cm_replay.specs.Ready.{StaysReady}
 use Rattle.cm_replay.specs.Replies.{CanStep, HasCome, tried_of}
 use Rattle.cm_replay.specs.Session.{brought_all, step}
-use Rattle.cm_replay.specs.State.{Setting}
 use Rattle.cm_replay.proofs.Counts.{length-brought}
 use Rattle.cm_replay.proofs.Folds.{all-come, many-after, many-start, whole-after}
 use Rattle.cm_replay.proofs.Readiness.{job_stays_ready}

@@ -7,6 +7,7 @@ use Rattle.std.proofs.lemmas.List.{take_all}
 use Rattle.cm_base.proofs.Bools.{not_false}
 use Rattle.cm_base.proofs.Pieces.{take_sum}
 use Rattle.cm_cmd.specs.Command.{CmdText}
+use Rattle.cm_signal.specs.Setting.{Setting}
 use Rattle.cm_insn.specs.Insn.{Done, time_words}
 use Rattle.cm_sub.specs.Checks.{first_refusal}
 use Rattle.cm_sub.specs.Claims.{cancel_checks}
@@ -27,7 +28,7 @@ use Rattle.cm_replay.specs.Reading.{look_reply, map_reply, read_reply, release_r
 use Rattle.cm_replay.specs.Running.{Running, brought, is_out, moved_on, put_out, samples}
 use Rattle.cm_replay.specs.Schedules.{triggered}
 use Rattle.cm_replay.specs.Session.{Outcome, act, act_on, brought_all, brought_device, closed_state, here, with_reply}
-use Rattle.cm_replay.specs.State.{Device, Here, Setting, State, at_start, claim_of, device_at}
+use Rattle.cm_replay.specs.State.{Device, Here, State, at_start, claim_of, device_at}
 use Rattle.cm_replay.specs.Writing.{fill_reply, mark_reply, write_reply}
 use Rattle.cm_replay.specs.declared.ending.End.{End}
 use Rattle.cm_replay.specs.declared.ending.End.TheVariants as ends

@@ -6,6 +6,7 @@ use Rattle.std.proofs.lemmas.Bool.{cases_eq, cases_Bool, eqb-true}
 use Rattle.std.proofs.lemmas.List.{get_or_default}
 use Rattle.cm_board.specs.Board.{no_sub}
 use Rattle.cm_cmd.specs.Command.{CmdText}
+use Rattle.cm_signal.specs.Setting.{Setting}
 use Rattle.cm_expand.specs.Plan.{PlanText}
 use Rattle.cm_insn.specs.Insn.{Done, time_words}
 use Rattle.cm_signal.specs.Signals.{SignalsText}
@@ -26,7 +27,7 @@ use Rattle.cm_replay.specs.Ready.{AllCanMove, CanMove, IsReady, StaysReady}
 use Rattle.cm_replay.specs.Running.{Running, Schedule, arrived, brought, collected, is_out, moved_on, put_out}
 use Rattle.cm_replay.specs.Schedules.{triggered}
 use Rattle.cm_replay.specs.Session.{Outcome, act, act_on, brought_all, brought_device, closed_state, here, step, with_reply}
-use Rattle.cm_replay.specs.State.{Device, Here, Setting, State, at_start, device_at, idle_device, plan_here}
+use Rattle.cm_replay.specs.State.{Device, Here, State, at_start, device_at, idle_device, plan_here}
 use Rattle.cm_replay.specs.Writing.{fill_reply, mark_reply, write_reply}
 use Rattle.cm_replay.specs.declared.ending.End.{End}
 use Rattle.cm_expand.proofs.Come.{come-later}

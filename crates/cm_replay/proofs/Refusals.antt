@@ -3,6 +3,7 @@ use Rattle.std.proofs.Common.{◌≡◌, ℕ, Bool, true, false, List, ◌++◌,
 use Rattle.std.specs.Prelude.{if◌then◌else◌, ◌==◌}
 use Rattle.std.proofs.lemmas.List.{set-get_or}
 use Rattle.cm_cmd.specs.Command.{CmdText}
+use Rattle.cm_signal.specs.Setting.{Setting}
 use Rattle.cm_insn.specs.Insn.{Done, time_words}
 use Rattle.cm_sub.specs.Checks.{first_refusal}
 use Rattle.cm_sub.specs.Files.{FilesText, close_checks, open_checks, opened, with_runner}
@@ -18,7 +19,7 @@ use Rattle.cm_replay.specs.Reading.{look_reply, map_reply, read_reply, release_r
 use Rattle.cm_replay.specs.Refusals.{Leaves, RefusalLaw}
 use Rattle.cm_replay.specs.Running.{Running}
 use Rattle.cm_replay.specs.Session.{Outcome, act, act_on, brought_all, closed_state, here, unless_refused, with_reply}
-use Rattle.cm_replay.specs.State.{Device, Here, Setting, State, device_at}
+use Rattle.cm_replay.specs.State.{Device, Here, State, device_at}
 use Rattle.cm_replay.specs.Writing.{fill_reply, mark_reply, write_reply}
 use Rattle.cm_replay.specs.declared.ending.End.{End}
 

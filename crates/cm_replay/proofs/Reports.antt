@@ -2,13 +2,14 @@
 use Rattle.std.proofs.Common.{◌≡◌, ℕ, List, [], ◌++◌, map, set, None, Result, Ok, Err, OnOk, refl, sym, ap, ap₂, ◌∙◌, subst, append_assoc}
 use Rattle.cm_sub.specs.Checks.{first_refusal}
 use Rattle.cm_sub.specs.Files.{FilesText, reach_checks}
+use Rattle.cm_signal.specs.Setting.{Setting}
 use Rattle.cm_session.specs.declared.op.SessionLine.{SessionLine}
 use Rattle.cm_text.specs.Outputs.{output_texts}
 use Rattle.cm_replay.specs.Asking.{asked_op, asked_text, line_of, report}
 use Rattle.cm_replay.specs.Forms.{named_sub}
 use Rattle.cm_replay.specs.Replies.{Replies, seat_reply}
 use Rattle.cm_replay.specs.Session.{Outcome, act, act_on, brought_all, brought_device, due_from, here, step, with_reply}
-use Rattle.cm_replay.specs.State.{Device, Here, Setting, State, device_at, idle_device}
+use Rattle.cm_replay.specs.State.{Device, Here, State, device_at, idle_device}
 use Rattle.cm_replay.specs.Reporting.{Reports, ReportsAll}
 use Rattle.cm_replay.specs.Texts.{answer_text}
 use Rattle.cm_replay.specs.declared.asked.Asked.{Asked}

@@ -13,6 +13,7 @@ use Rattle.cm_sample.specs.Sample.{micro_of}
 use Rattle.cm_signal.specs.Signals.{SignalsText}
 use Rattle.cm_signal.specs.declared.wave.Wave.TheVariants as waves
 use Rattle.cm_sub.specs.Checks.{number_of}
+use Rattle.cm_signal.specs.Setting.{Setting}
 use Rattle.cm_session.specs.declared.op.Op.{Op}
 use Rattle.cm_session.specs.declared.op.Op.TheVariants as ops
 use Rattle.cm_session.specs.declared.op.SessionLine.{SessionLine}
@@ -20,7 +21,7 @@ use Rattle.cm_text.specs.Format.{Format, entry_at}
 use Rattle.cm_text.specs.Outputs.{Output}
 use Rattle.cm_replay.specs.Answers.{Answer, Begun, Data, Ended, Filled, Fine, Holds, Idle, Looked, Mapped, Marked, Refused, Rejected, Released, Taken, Triggered, Written}
 use Rattle.cm_replay.specs.Session.{step}
-use Rattle.cm_replay.specs.State.{Setting, State, at_start}
+use Rattle.cm_replay.specs.State.{State, at_start}
 use Rattle.cm_replay.specs.declared.ending.End.{End}
 use Rattle.cm_replay.specs.declared.ending.End.TheVariants.{Done, Dry, Overrun, Underrun, Fifo}
 

@@ -6,6 +6,7 @@ use Rattle.std.specs.Option.{is_some}
 use Rattle.std.proofs.lemmas.Bool.{cases_eq, eq-eqb}
 use Rattle.std.proofs.lemmas.List.{length-map, length-replicate}
 use Rattle.cm_board.specs.Board.{IsSoundSub, SubText, no_sub}
+use Rattle.cm_signal.specs.Setting.{Setting}
 use Rattle.cm_insn.specs.Insn.{time_words}
 use Rattle.cm_signal.specs.Signals.{IsSoundSignals}
 use Rattle.cm_sub.specs.Checks.{first_refusal}
@@ -24,7 +25,7 @@ use Rattle.cm_replay.specs.Job.{setting_of}
 use Rattle.cm_replay.specs.Law.{Continues, GoesWell, History, Keeps, SessionLaw, no_history, remembered, remembered_at, spot_at}
 use Rattle.cm_replay.specs.Running.{Running}
 use Rattle.cm_replay.specs.Session.{Outcome, act, act_on, brought_all, brought_device, closed_state, here, left_devices, step, with_reply}
-use Rattle.cm_replay.specs.State.{Device, Here, Setting, State, at_start, device_at, idle_device}
+use Rattle.cm_replay.specs.State.{Device, Here, State, at_start, device_at, idle_device}
 use Rattle.cm_replay.proofs.Checks.{le-false, passes, passes-both}
 use Rattle.cm_replay.proofs.Counts.{either-way, length-brought, step-claims, step-devices}
 use Rattle.cm_replay.proofs.FormLaws.{form-well}

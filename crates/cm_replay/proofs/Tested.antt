@@ -4,7 +4,7 @@ use Rattle.std.proofs.lemmas.Bool.{lt-ltb}
 use Rattle.std.proofs.lemmas.List.{get_or_default}
 use Rattle.cm_board.specs.Board.{BoardText, SubText, no_sub}
 use Rattle.cm_cmd.specs.Command.{CmdText}
-use Rattle.cm_replay.specs.State.{sub_at}
+use Rattle.cm_test.specs.Accepting.{sub_at}
 use Rattle.cm_replay.specs.Testing.{test_answer, test_on}
 
 -- five parts after a text

@@ -5,6 +5,7 @@ use Rattle.std.specs.Option.{is_some, option_map}
 use Rattle.std.proofs.lemmas.Bool.{cases_eq}
 use Rattle.std.proofs.lemmas.List.{length-map}
 use Rattle.cm_board.specs.Board.{no_sub}
+use Rattle.cm_signal.specs.Setting.{Setting}
 use Rattle.cm_insn.specs.Insn.{Done}
 use Rattle.cm_sub.specs.Checks.{first_refusal}
 use Rattle.cm_sub.specs.Claims.{claim_without, nobody}
@@ -22,7 +23,7 @@ use Rattle.cm_replay.specs.Reading.{look_reply, map_reply, read_reply, release_r
 use Rattle.cm_replay.specs.Refusals.{IsTied, TiedLaw}
 use Rattle.cm_replay.specs.Running.{Running, brought}
 use Rattle.cm_replay.specs.Session.{Outcome, act, act_on, brought_all, brought_device, closed_state, here, left_devices, unless_refused, with_reply}
-use Rattle.cm_replay.specs.State.{Device, Here, Setting, State, claim_of, device_at, idle_device}
+use Rattle.cm_replay.specs.State.{Device, Here, State, claim_of, device_at, idle_device}
 use Rattle.cm_replay.specs.Writing.{fill_reply, mark_reply, write_reply}
 use Rattle.cm_replay.specs.declared.ending.End.{End}
 use Rattle.cm_replay.proofs.Foreign.{AreApart, acts_there, claim-closed, form-safe}

@@ -4,6 +4,7 @@ use Rattle.std.specs.Prelude.{if◌then◌else◌}
 use Rattle.std.specs.Option.{is_some}
 use Rattle.std.proofs.lemmas.List.{length-replicate}
 use Rattle.cm_board.specs.Board.{BoardText, SubText, no_sub}
+use Rattle.cm_signal.specs.Setting.{Setting}
 use Rattle.cm_insn.specs.Insn.{Done, state_after, time_words}
 use Rattle.cm_insn.specs.declared.insn.InsnCode.{InsnCode}
 use Rattle.cm_insn.proofs.Channels.{as_long}
@@ -18,7 +19,7 @@ use Rattle.cm_replay.specs.Calling.{insn_here, insn_reply}
 use Rattle.cm_replay.specs.Forms.{form, line_checks}
 use Rattle.cm_replay.specs.Replies.{AreWhole}
 use Rattle.cm_replay.specs.Session.{Outcome, act, act_on, brought_all, brought_device, closed_state, here, left_devices, step, with_reply}
-use Rattle.cm_replay.specs.State.{Device, Here, Setting, State, at_start, device_at, idle_device}
+use Rattle.cm_replay.specs.State.{Device, Here, State, at_start, device_at, idle_device}
 use Rattle.cm_replay.proofs.Counts.{either-way}
 use Rattle.cm_replay.proofs.Shapes.{form-holds}
 use Rattle.cm_replay.proofs.SessionLaws.{device_at-brought}

@@ -4,6 +4,7 @@ use Rattle.std.specs.Prelude.{ℕ, ◌+◌, ◌-◌, min, max, Bool, ◌||◌, n
 use Rattle.std.specs.Prelude.{List, [], ◌++◌, length, take, drop, slice_get, codes, Option, Some, None, if◌then◌else◌}
 use Rattle.std.specs.Option.{is_some, unwrap_or}
 use Rattle.std.specs.Fmt.{decimal}
+use Rattle.cm_signal.specs.Setting.{Setting}
 use Rattle.cm_expand.specs.declared.conv.Conv.{Conv}
 use Rattle.cm_fifo.specs.Handed.{last_time, time_or}
 use Rattle.cm_session.specs.declared.op.Op.{Op}
@@ -14,7 +15,7 @@ use Rattle.cm_replay.specs.Answers.{Answer, Holds, Taken}
 use Rattle.cm_replay.specs.Reading.{contents, reported_end, taking}
 use Rattle.cm_replay.specs.Running.{Running, Schedule, is_out, samples}
 use Rattle.cm_replay.specs.Session.{brought_all, step}
-use Rattle.cm_replay.specs.State.{Setting, State, device_at}
+use Rattle.cm_replay.specs.State.{State, device_at}
 use Rattle.cm_replay.specs.Texts.{answer_text, count_text, words_text}
 use Rattle.cm_replay.specs.ToCome.{ToCome, all_to_come}
 use Rattle.cm_replay.specs.declared.asked.Asked.{Asked}

@@ -1,12 +1,12 @@
 -- A job of a replay: a board, its signals, and the lines of a session.
 use Rattle.std.specs.Prelude.{List}
 use Rattle.cm_board.specs.Board.{BoardText}
+use Rattle.cm_signal.specs.Setting.{Setting}
 use Rattle.cm_session.specs.Limits.{InOrder}
 use Rattle.cm_session.specs.declared.op.SessionLine.{SessionLine}
 use Rattle.cm_signal.specs.Fitting.{FitBoard}
 use Rattle.cm_signal.specs.Signals.{SignalsText}
 use Rattle.cm_signal.specs.Signals as signals
-use Rattle.cm_replay.specs.State.{Setting}
 
 -- a job of a replay: the board, its signals and the session's lines
 pub record JobText : Type 0 where

@@ -3,6 +3,8 @@ use Rattle.std.specs.Prelude.{◌≡◌, ℕ, ◌+◌, ◌-◌, ◌<◌, ◌≤�
 use Rattle.std.specs.Prelude.{List, [], ◌∷◌, ◌++◌, length, take, drop, slice_index, Option, Some, None, nat_eq, if◌then◌else◌}
 use Rattle.std.specs.List.{All}
 use Rattle.cm_board.specs.Board.{IsSoundSub, SubText}
+use Rattle.cm_signal.specs.Setting.{Setting}
+use Rattle.cm_test.specs.Accepting.{sub_at}
 use Rattle.cm_expand.specs.Plan.{PlanText}
 use Rattle.cm_sample.specs.Rule.{map_from}
 use Rattle.cm_signal.specs.Signals.{SignalsText}
@@ -14,7 +16,7 @@ use Rattle.cm_replay.specs.Job.{JobText, IsJob, setting_of}
 use Rattle.cm_replay.specs.Running.{Running, arrived, due, is_out, munge_in, outputs, put_by, samples}
 use Rattle.cm_replay.specs.Schedules.{schedule_of, triggered}
 use Rattle.cm_replay.specs.Session.{brought_all, step}
-use Rattle.cm_replay.specs.State.{Setting, State, at_start, device_at, sub_at}
+use Rattle.cm_replay.specs.State.{State, at_start, device_at}
 use Rattle.cm_replay.specs.Timely.{IsTimely}
 use Rattle.cm_replay.specs.Writing.{munged_within}
 use Rattle.cm_replay.specs.declared.ending.End.{End}

@@ -27,7 +27,6 @@ pub mod Running
 pub mod Schedules
 pub mod SeatView
 pub mod Session
-pub mod SettingView
 pub mod State
 pub mod Storing
 pub mod Testing

@@ -1,8 +1,9 @@
 -- A session whose lines come one after another.
 use Rattle.std.specs.Prelude.{ℕ, List}
+use Rattle.cm_signal.specs.Setting.{Setting}
 use Rattle.cm_session.specs.declared.op.SessionLine.{SessionLine}
 use Rattle.cm_replay.specs.Session.{step}
-use Rattle.cm_replay.specs.State.{Setting, State, at_start}
+use Rattle.cm_replay.specs.State.{State, at_start}
 use Rattle.cm_replay.specs.Texts.{step_text}
 
 -- what a session has come to: its board and signals, the state after its lines so far, and the time of the last of them

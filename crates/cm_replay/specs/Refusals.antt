@@ -1,12 +1,13 @@
 -- What a line leaves as it was.
 use Rattle.std.specs.Prelude.{◌≡◌, ◌≢◌, ℕ, length, set, Some, None}
 use Rattle.std.specs.Option.{is_some}
+use Rattle.cm_signal.specs.Setting.{Setting}
 use Rattle.cm_session.specs.declared.op.SessionLine.{SessionLine}
 use Rattle.cm_sub.specs.Files.{claim_at, with_runner}
 use Rattle.cm_replay.specs.Answers.{Answer, Ended, Refused, Rejected}
 use Rattle.cm_replay.specs.Forms.{named_sub}
 use Rattle.cm_replay.specs.Session.{brought_all, step}
-use Rattle.cm_replay.specs.State.{Setting, State, device_at}
+use Rattle.cm_replay.specs.State.{State, device_at}
 
 -- a subdevice is idle, with its command gone, and all else is as it was
 abbrev pub made_idle : ℕ → State → State

@@ -2,6 +2,8 @@
 use Rattle.std.specs.Prelude.{◌≡◌, ℕ, ◌≤◌, Bool, true, false, ◌&&◌, ◌==◌, List, ◌++◌, length, map, Option, Some, None, if◌then◌else◌}
 use Rattle.cm_board.specs.Board.{BoardText, SubText, takes_commands}
 use Rattle.cm_cmd.specs.Command.{CmdText}
+use Rattle.cm_signal.specs.Setting.{Setting}
+use Rattle.cm_test.specs.Accepting.{sub_at}
 use Rattle.cm_session.specs.Limits.{HasLimits, IsLimited}
 use Rattle.cm_session.specs.declared.op.Op.{Op}
 use Rattle.cm_session.specs.declared.op.Op.TheVariants as ops
@@ -19,7 +21,7 @@ use Rattle.cm_replay.specs.Law.{IsSoundJob, Spot, served}
 use Rattle.cm_replay.specs.Ready.{AllCanMove, CanMove}
 use Rattle.cm_replay.specs.Running.{Running, arrived}
 use Rattle.cm_replay.specs.Session.{Outcome, Step}
-use Rattle.cm_replay.specs.State.{Device, Here, Setting, State, claim_of, device_at, idle_device, sub_at}
+use Rattle.cm_replay.specs.State.{Device, Here, State, claim_of, device_at, idle_device}
 use Rattle.cm_replay.specs.Texts.{answer_text, step_text}
 use Rattle.cm_replay.specs.declared.at.At.{At}
 

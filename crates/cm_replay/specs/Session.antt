@@ -1,6 +1,8 @@
 -- A session: what each line answers and does, one after the other.
 use Rattle.std.specs.Prelude.{ℕ, suc, List, [], ◌∷◌, ◌++◌, map, set, Option, Some, None, if◌then◌else◌}
 use Rattle.std.specs.Option.{is_some, option_map}
+use Rattle.cm_signal.specs.Setting.{Setting}
+use Rattle.cm_test.specs.Accepting.{sub_at}
 use Rattle.cm_insn.specs.Insn.{time_words}
 use Rattle.cm_sub.specs.Checks.{first_refusal}
 use Rattle.cm_sub.specs.Files.{close_checks, closed, open_checks, opened}
@@ -13,7 +15,7 @@ use Rattle.cm_text.specs.Outputs.{Output}
 use Rattle.cm_replay.specs.Answers.{Answer, Data, Fine, Refused, Reply}
 use Rattle.cm_replay.specs.Forms.{form, line_checks, named_sub}
 use Rattle.cm_replay.specs.Running.{Running, brought, due}
-use Rattle.cm_replay.specs.State.{Device, Here, Setting, State, device_at, sub_at}
+use Rattle.cm_replay.specs.State.{Device, Here, State, device_at}
 
 -- what a line that names a subdevice sees
 abbrev pub here : Setting → SessionLine → State → Here

@@ -1,28 +1,16 @@
 -- The state of a session, and what a line sees of it.
 use Rattle.std.specs.Prelude.{ℕ, Bool, List, length, map, get_or, Option, None}
-use Rattle.cm_board.specs.Board.{BoardText, SubText, no_sub}
+use Rattle.cm_board.specs.Board.{SubText, no_sub}
 use Rattle.cm_cmd.specs.Command.{CmdText}
 use Rattle.cm_expand.specs.Plan.{PlanText}
 use Rattle.cm_expand.specs.Rule.{is_output}
+use Rattle.cm_signal.specs.Setting.{Setting}
 use Rattle.cm_signal.specs.Signals.{SignalsText}
 use Rattle.cm_sub.specs.Claims.{is_other}
 use Rattle.cm_sub.specs.Files.{FilesText, claim_at, no_files}
 use Rattle.cm_sub.specs.State.{StateText, first_state}
 use Rattle.cm_sub.specs.declared.claim.Claim.{Claim}
 use Rattle.cm_replay.specs.Running.{Running}
-
--- what all lines of a session have in common
-pub record Setting : Type 0 where
-  pub board : BoardText
-  pub signals : SignalsText
-
--- the subdevice with this number
-abbrev pub sub_at : BoardText → ℕ → SubText
-sub_at board i = get_or board.subs i no_sub
-
--- the plan of a command that is called at a time
-abbrev pub plan_at : Setting → ℕ → CmdText → PlanText
-plan_at s time cmd = record { sub = sub_at s.board cmd.sub; signals = s.signals; cmd = cmd; index = cmd.sub; t0 = time; trig = None }
 
 -- a subdevice in a session: what it keeps, and its command
 pub record Device : Type 0 where

@@ -5,7 +5,7 @@ use Rattle.cm_board.specs.Board.{BoardText, SubText, takes_commands}
 use Rattle.cm_cmd.specs.Command.{CmdText}
 use Rattle.cm_cmd.specs.CommandText.{command_text}
 use Rattle.cm_test.specs.Questions.{tested}
-use Rattle.cm_replay.specs.State.{sub_at}
+use Rattle.cm_test.specs.Accepting.{sub_at}
 
 -- the step that a command fails, or 0, and the command as the test leaves it
 abbrev pub test_text : ℕ × CmdText → List ℕ

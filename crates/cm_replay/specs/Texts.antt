@@ -3,13 +3,14 @@ use Rattle.std.specs.Prelude.{ℕ, List, [], ◌∷◌, ◌++◌, length, codes}
 use Rattle.std.specs.Fmt.{decimal}
 use Rattle.cm_cmd.specs.CommandText.{command_text}
 use Rattle.cm_sub.specs.Checks.{number_of}
+use Rattle.cm_signal.specs.Setting.{Setting}
 use Rattle.cm_session.specs.declared.op.SessionLine.{SessionLine}
 use Rattle.cm_text.specs.Format.{sample_line, sample_lines}
 use Rattle.cm_text.specs.Outputs.{output_texts}
 use Rattle.cm_replay.specs.Answers.{Answer, Begun, Data, Ended, Filled, Fine, Holds, Idle, Looked, Mapped}
 use Rattle.cm_replay.specs.Answers.{Marked, Refused, Rejected, Released, Taken, Triggered, Written}
 use Rattle.cm_replay.specs.Session.{Step, step}
-use Rattle.cm_replay.specs.State.{Setting, State, at_start}
+use Rattle.cm_replay.specs.State.{State, at_start}
 use Rattle.cm_replay.specs.declared.ending.End.{End}
 use Rattle.cm_replay.specs.declared.ending.End.TheVariants.{Done, Dry, Overrun, Underrun, Fifo}
 

@@ -25,7 +25,6 @@ pub mod putting;
 pub mod reading;
 pub mod replay;
 pub mod seat;
-pub mod setting;
 pub mod storing;
 pub mod testing;
 pub mod text;

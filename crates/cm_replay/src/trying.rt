@@ -3,8 +3,8 @@
 ghost use Rattle.std.specs.Prelude.{◌≡◌, ◌<◌, ◌^◌, true, length, map, IfOk};
 ghost use Rattle.std.specs.List.{All};
 ghost use Rattle.cm_board.specs.Board.{takes_commands};
+ghost use Rattle.cm_test.specs.Accepting.{sub_at};
 ghost use Rattle.cm_replay.specs.Replies.{tried_of, tried_on};
-ghost use Rattle.cm_replay.specs.State.{sub_at};
 ghost use Rattle.cm_session.specs.Limits.{HasLimits};
 
 use cm_base::transfer::NoMemory;

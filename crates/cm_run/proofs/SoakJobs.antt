@@ -11,9 +11,11 @@ use Rattle.cm_signal.specs.Signals.{IsSoundSignals, SignalsText, is_at}
 use Rattle.cm_signal.specs.SignalsPart.{silent}
 use Rattle.cm_signal.specs.declared.wave.WaveAt.{WaveAt}
 use Rattle.cm_signal.proofs.Grown.{more_waves, silent_sound}
+use Rattle.cm_test.specs.Accepting.{sub_at}
 use Rattle.cm_expand.proofs.Whole.{counted_most}
 use Rattle.cm_expand.specs.Rule.{is_output}
-use Rattle.cm_job.specs.Calls.{length_of, length_of_all, plan_of, sub_at}
+use Rattle.cm_expand.specs.Totals.{length_of, length_of_all}
+use Rattle.cm_job.specs.Calls.{plan_of}
 use Rattle.cm_job.specs.Job.{IsRunJob}
 use Rattle.cm_job.specs.RunLines.{CanRun}
 use Rattle.cm_job.specs.declared.line.RunLine.{RunLine}
@@ -41,7 +43,7 @@ fits_board =
     }
 
 -- a line has no more conversions than its count
-line_short : (i count : ℕ) → length_of soak_board soak_signals (soak_line i count) ≤ count
+line_short : (i count : ℕ) → length_of (plan_of soak_board soak_signals (soak_line i count)) ≤ count
 line_short i count = let most = counted_most (plan_of soak_board soak_signals (soak_line i count)) in omega arith
 
 can_run : (i count : ℕ) → i < 4 → sub_at soak_board i ≡ soak_sub → 1 ≤ count → count ≤ 1000000 → CanRun soak_board soak_signals (soak_line i count)
@@ -60,7 +62,7 @@ record AreFit (most total : ℕ) (lines : List RunLine) : Type 0 where
   each : All (CanRun soak_board soak_signals) lines
   soak : All IsSoakLine lines
   few : length lines ≤ most
-  short : length_of_all soak_board soak_signals lines ≤ total
+  short : length_of_all (plan_of soak_board soak_signals) lines ≤ total
 
 line_fits : (i count : ℕ) → i < 4 → sub_at soak_board i ≡ soak_sub → count ≤ 1000000 → AreFit 1 count (line_for i count)
 line_fits i count below is few = by_count (count == 0) (λ other. grind (arith, nat_tests))
@@ -74,7 +76,7 @@ line_fits i count below is few = by_count (count == 0) (λ other. grind (arith, 
       short = let short = line_short i count in omega arith;
     }
 
-length_all : (xs ys : List RunLine) → length_of_all soak_board soak_signals (xs ++ ys) ≡ length_of_all soak_board soak_signals xs + length_of_all soak_board soak_signals ys
+length_all : (xs ys : List RunLine) → length_of_all (plan_of soak_board soak_signals) (xs ++ ys) ≡ length_of_all (plan_of soak_board soak_signals) xs + length_of_all (plan_of soak_board soak_signals) ys
 length_all [] ys = omega arith
 length_all (x ∷ xs) ys = let rest = length_all xs ys in omega arith
 

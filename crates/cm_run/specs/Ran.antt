@@ -3,13 +3,13 @@ use Rattle.std.specs.Prelude.{◌≡◌, ℕ, List, [], ◌∷◌, ◌++◌, Opt
 use Rattle.cm_board.specs.Board.{BoardText}
 use Rattle.cm_signal.specs.Signals.{SignalsText}
 use Rattle.cm_expand.specs.Plan.{PlanText}
+use Rattle.cm_expand.specs.Calls.{plan_at}
 use Rattle.cm_ring_core.specs.declared.view.End.{End}
 use Rattle.cm_ring.specs.Roles.{Reading}
 use Rattle.cm_client.specs.LineRing.{ring_of}
 use Rattle.cm_client.specs.Streamed.{HasStreamed}
 use Rattle.cm_text.specs.Blocks.{block, drive_block}
 use Rattle.cm_text.specs.Ends.{tail_after}
-use Rattle.cm_job.specs.Calls.{plan_at}
 use Rattle.cm_job.specs.declared.line.Mode.{Mode}
 use Rattle.cm_job.specs.declared.line.RunLine.{RunLine}
 use Rattle.cm_job.specs.declared.line.RunLine.TheVariants.{Go, Drive}

@@ -6,8 +6,8 @@ use Rattle.cm_base.specs.ReadStop.{Stops}
 use Rattle.cm_base.specs.declared.faults.ReadStop.{ReadStop}
 use Rattle.cm_base.specs.declared.faults.ReadStop.TheVariants as reads
 use Rattle.cm_base.specs.declared.faults.Refused.{Refused}
+use Rattle.cm_signal.specs.Setting.{Setting}
 use Rattle.cm_replay.specs.Playing.{first_play}
-use Rattle.cm_replay.specs.State.{Setting}
 use Rattle.cm_serve.specs.Conversing.{Converses}
 use Rattle.cm_serve.specs.Dialogue.{dialogue}
 use Rattle.cm_serve.specs.Heading.{Follows, HasHead, IsHead, head_of, text_of}

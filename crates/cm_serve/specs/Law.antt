@@ -3,12 +3,12 @@ use Rattle.std.specs.Prelude.{◌≡◌, ℕ, ◌≤◌, false, List, [], ◌∷
 use Rattle.std.specs.List.{All}
 use Rattle.std.specs.Result.{result_ok}
 use Rattle.cm_base.specs.Lines.{LineText, lines_of}
+use Rattle.cm_signal.specs.Setting.{Setting}
 use Rattle.cm_session.specs.Limits.{InOrder}
 use Rattle.cm_session.specs.SessionPart.{session_of}
 use Rattle.cm_session.specs.declared.op.SessionLine.{SessionLine}
 use Rattle.cm_replay.specs.Asking.{line_of}
 use Rattle.cm_replay.specs.Playing.{Play, first_play, line_text, played}
-use Rattle.cm_replay.specs.State.{Setting}
 use Rattle.cm_replay.specs.Texts.{replay_text}
 use Rattle.cm_serve.specs.Dialogue.{dialogue, next_number, reply}
 use Rattle.cm_serve.specs.Lines.{said_by}

@@ -1,8 +1,8 @@
 -- How a dialogue ended.
 use Rattle.std.specs.Prelude.{◌≡◌, ℕ, ◌⊎◌, List, [], ◌∷◌, ◌++◌, Option, Result, Ok, Err}
 use Rattle.cm_base.specs.declared.faults.Refused.{Refused}
+use Rattle.cm_signal.specs.Setting.{Setting}
 use Rattle.cm_replay.specs.Declined.{refused_text}
-use Rattle.cm_replay.specs.State.{Setting}
 use Rattle.cm_serve.specs.Serving.{conversation, setting_said}
 use Rattle.cm_serve.specs.Stops.{too_long}
 use Rattle.cm_serve.specs.Turns.{Turn, Answer, Says}

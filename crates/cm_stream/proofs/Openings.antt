@@ -1,7 +1,8 @@
 -- What a watched line brings to its stream.
 use Rattle.std.proofs.Common.{◌≤◌, length}
 use Rattle.cm_board.specs.Board.{BoardText, SubText}
-use Rattle.cm_job.specs.Calls.{cmd_of, sub_at}
+use Rattle.cm_test.specs.Accepting.{sub_at}
+use Rattle.cm_job.specs.Calls.{cmd_of}
 use Rattle.cm_job.specs.WatchLines.{IsWatched, WatchesSub}
 use Rattle.cm_job.specs.declared.line.RunLine.{RunLine}
 use Rattle.cm_job.specs.declared.line.RunLine.TheVariants.{Go, Drive}

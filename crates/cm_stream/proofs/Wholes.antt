@@ -6,6 +6,7 @@ use Rattle.std.proofs.Math.ListN.{length-map}
 use Rattle.std.proofs.lemmas.List.{take_more}
 use Rattle.std.proofs.lemmas.Option.{slice_get_within, slice_get-get_or, slice_get_read, get_or_from_slice_get}
 use Rattle.cm_board.specs.Board.{BoardText, SubText}
+use Rattle.cm_test.specs.Accepting.{sub_at}
 use Rattle.cm_client.specs.Samples.{munged_plan}
 use Rattle.cm_client.proofs.Whole.{whole_plan}
 use Rattle.cm_expand.specs.Items.{samples_of}
@@ -21,7 +22,7 @@ use Rattle.cm_text.specs.SampleText.{LinesText, lines_of}
 use Rattle.cm_client.specs.Whole.{HasWhole, TakesAll, line_format}
 use Rattle.cm_text.proofs.Counts.{length-samples}
 use Rattle.cm_text.proofs.Counts.{length-munged, munged_by_rule}
-use Rattle.cm_job.specs.Calls.{cmd_of, plan_of, sub_at}
+use Rattle.cm_job.specs.Calls.{cmd_of, plan_of}
 use Rattle.cm_job.specs.Job.{RunJobText}
 use Rattle.cm_job.specs.WatchLines.{IsWatched, WatchesSub}
 use Rattle.cm_job.specs.declared.line.Mode.TheVariants.{Paced}

@@ -1,3 +1,4 @@
+pub mod Accepting
 pub mod Accepts
 pub mod Law
 pub mod Passed

@@ -1,6 +1,7 @@
 // The command test: whether a subdevice takes a command, and what it would take instead.
 #![tactic(auto)]
 
+pub mod accepting;
 pub mod law;
 pub mod limits;
 pub mod lists;

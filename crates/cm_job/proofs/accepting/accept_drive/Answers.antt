@@ -7,6 +7,7 @@ use Rattle.cm_base.proofs.Values.{at_line_ok}
 use Rattle.cm_board.specs.Board.{SubText}
 use Rattle.cm_cmd.specs.Command.{CmdText}
 use Rattle.cm_signal.proofs.Parts.{gives_err}
+use Rattle.cm_test.specs.Accepting.{passed}
 use Rattle.cm_test.specs.Questions.{tested}
 use Rattle.cm_job.specs.RunPart as spec
 use Rattle.cm_job.proofs.Kept.{passed-from}
@@ -17,7 +18,7 @@ use Rattle.cm_job.proofs.accepting.accept_drive.Goals as goal
 pub values_of-requires : goal.values_of-requires
 values_of-requires c =
     let sub = c.in_ok-sub.sub.now in
-    let takes : spec.passed sub c.args.cmd ≡ Ok c.in_ok-cmd.cmd = sym c.passed.ensures.value ∙ at_line_ok c.args.number c.passed.result c.in_ok-cmd.cmd c.in_ok-cmd.ensures in
+    let takes : passed sub c.args.cmd ≡ Ok c.in_ok-cmd.cmd = sym c.passed.ensures.value ∙ at_line_ok c.args.number c.passed.result c.in_ok-cmd.cmd c.in_ok-cmd.ensures in
     let p = passed-from sub c.args.cmd c.in_ok-cmd.cmd takes in
     subst (λ (cmd : CmdText). (tested sub cmd).0 ≡ 0) p.1 p.0
 
@@ -28,7 +29,7 @@ returns-in_err-values c =
     let cmd = c.args.cmd in
     let next = c.in_ok-cmd.cmd in
     let stop = c.in_err-values.field-0.0 in
-    let takes : spec.passed sub cmd ≡ Ok next = sym c.passed.ensures.value ∙ at_line_ok c.args.number c.passed.result next c.in_ok-cmd.ensures in
+    let takes : passed sub cmd ≡ Ok next = sym c.passed.ensures.value ∙ at_line_ok c.args.number c.passed.result next c.in_ok-cmd.ensures in
     let found : spec.directed_sub board true cmd.sub ≡ Ok sub =
     sym (c.directed_sub.ensures ∙ ap (λ (m : CmdText). spec.directed_sub board true m.sub) c.cmd.view_is)
     ∙ ap (λ (r : Result (Bor SubText) Fault). seen (λ s. s.now) r) (at_line_ok c.args.number c.directed_sub.result c.in_ok-sub.sub c.in_ok-sub.ensures) in

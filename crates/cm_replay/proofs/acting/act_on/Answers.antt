@@ -2,7 +2,8 @@ use Rattle.std.proofs.Common.{◌≡◌, ◌<◌, length, get_or, refl, sym, ap,
 use Rattle.cm_board.specs.Board.{BoardText}
 use Rattle.cm_sub.specs.Checks.{first_refusal}
 use Rattle.cm_sub.specs.Files.{reach_checks}
-use Rattle.cm_replay.specs.State.{Setting, State}
+use Rattle.cm_signal.specs.Setting.{Setting}
+use Rattle.cm_replay.specs.State.{State}
 use Rattle.cm_replay.proofs.Acted.{acted, can-act, same-here}
 use Rattle.cm_replay.proofs.Checks.{reached-within}
 use Rattle.cm_replay.proofs.acting.act_on.Goals as goal

@@ -2,8 +2,9 @@ use Rattle.std.proofs.Common.{◌≡◌, ◌<◌, length, get_or, refl, sym, ap,
 use Rattle.cm_board.specs.Board.{BoardText}
 use Rattle.cm_sub.specs.Checks.{first_refusal}
 use Rattle.cm_sub.specs.Files.{reach_checks}
+use Rattle.cm_signal.specs.Setting.{Setting}
 use Rattle.cm_replay.specs.Asking.{line_of}
-use Rattle.cm_replay.specs.State.{Setting, State}
+use Rattle.cm_replay.specs.State.{State}
 use Rattle.cm_replay.proofs.Acted.{can-act, same-here}
 use Rattle.cm_replay.proofs.Reports.{asked-acted, asked-sub}
 use Rattle.cm_replay.proofs.Checks.{reached-within}

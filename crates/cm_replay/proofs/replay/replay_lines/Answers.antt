@@ -3,10 +3,11 @@ use Rattle.cm_base.proofs.UnderWay.{on_err, under_way-ended, under_way-failed, u
 use Rattle.cm_base.specs.Transfer.{IsUnderWay}
 use Rattle.cm_board.specs.Board.{BoardText}
 use Rattle.cm_sub.specs.Files.{no_files}
+use Rattle.cm_signal.specs.Setting.{Setting}
 use Rattle.cm_replay.specs.Job.{JobText}
 use Rattle.cm_replay.specs.Ready.{StaysReady}
 use Rattle.cm_replay.specs.Replies.{AreMany, AreWhole}
-use Rattle.cm_replay.specs.State.{Setting, State, at_start}
+use Rattle.cm_replay.specs.State.{State, at_start}
 use Rattle.cm_replay.specs.Texts.{replay_text, texts_from}
 use Rattle.cm_replay.proofs.Folds.{all-answered, all-come, can-step, line-answered, many-after, many-start, ready-after, whole-after}
 use Rattle.cm_replay.proofs.Readiness.{job_stays_ready}

@@ -1,8 +1,9 @@
 use Rattle.std.proofs.Common.{◌≡◌, length, ap, ◌∙◌, arith}
 use Rattle.cm_cmd.specs.Command.{CmdText}
+use Rattle.cm_test.specs.Accepting.{sub_at}
 use Rattle.cm_expand.specs.Plan.{PlanText}
 use Rattle.cm_ring_core.specs.declared.view.RingConstants.{RingConstants}
-use Rattle.cm_job.specs.Calls.{cmd_of, sub_at}
+use Rattle.cm_job.specs.Calls.{cmd_of}
 use Rattle.cm_stream.proofs.Openings.{scan_of}
 use Rattle.cm_stream.proofs.opening.open_line.Goals as goal
 

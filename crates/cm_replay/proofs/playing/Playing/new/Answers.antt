@@ -2,8 +2,9 @@ use Rattle.std.proofs.Common.{◌≡◌, ◌≤◌, length, sym, ap, ◌∙◌, 
 use Rattle.cm_board.specs.Board.{BoardText}
 use Rattle.cm_signal.specs.Signals.{IsSoundSignals}
 use Rattle.cm_sub.specs.Files.{no_files}
+use Rattle.cm_signal.specs.Setting.{Setting}
 use Rattle.cm_replay.specs.PlayingView.{IsPlay}
-use Rattle.cm_replay.specs.State.{Setting, State, at_start}
+use Rattle.cm_replay.specs.State.{State, at_start}
 use Rattle.cm_replay.proofs.Plays.{play-first}
 use Rattle.cm_replay.proofs.playing.Playing.new.Goals as goal
 

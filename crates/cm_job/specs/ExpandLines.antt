@@ -1,0 +1,56 @@
+-- The session part of `expand`.
+use Rattle.std.specs.Prelude.{ℕ, ◌==◌, List, [], length, drop, slice_index_or, codes, Result, Ok, Err, if◌then◌else◌}
+use Rattle.cm_base.specs.Lines.{LineText}
+use Rattle.cm_base.specs.Reading.{◌>>=◌, read_each}
+use Rattle.cm_base.specs.Words.{limited, number_in}
+use Rattle.cm_base.specs.declared.faults.Fault.{Fault}
+use Rattle.cm_base.specs.declared.faults.Fault.TheVariants.{BadLine}
+use Rattle.cm_base.specs.declared.faults.Refused.{Refused}
+use Rattle.cm_board.specs.Board.{BoardText}
+use Rattle.cm_cmd.specs.Command.{CmdText}
+use Rattle.cm_cmd.specs.CommandText.{command_of}
+use Rattle.cm_signal.specs.Signals.{SignalsText}
+use Rattle.cm_test.specs.Accepting.{accepted}
+use Rattle.cm_expand.specs.Calls.{CanCallAt, plan_at}
+use Rattle.cm_expand.specs.Plan.{PlanText}
+use Rattle.cm_expand.specs.Totals.{has_room, length_of, length_of_all}
+use Rattle.cm_job.specs.Only.{only_word}
+use Rattle.cm_job.specs.declared.expand_lines.ExpandLine.{ExpandLine}
+
+-- the second of ten words
+abbrev pub second_of_ten : List (List ℕ) → Result (List ℕ) Fault
+second_of_ten words = if length words == 10 then Ok (slice_index_or words 1 []) else Err BadLine
+
+-- the time of an `expand` line, which has ten words
+abbrev pub expand_time : ℕ → LineText → Result ℕ Fault
+expand_time horizon line = only_word (codes "expand") line >>= λ u. second_of_ten line.words >>= λ word. number_in 0 horizon word
+
+-- the time and the command of such a line
+abbrev pub expand_words : ℕ → LineText → Result (ℕ × CmdText) Fault
+expand_words horizon line = expand_time horizon line >>= λ t. command_of (drop 2 line.words) >>= λ cmd. Ok (t, cmd)
+
+-- a line whose command is accepted
+abbrev pub accepted_line : BoardText → ℕ × CmdText → Result ExpandLine Fault
+accepted_line board w = accepted board w.1 >>= λ cmd. Ok (record { t0 = w.0; cmd = cmd })
+
+-- the line that a text says
+abbrev pub line_of : BoardText → SignalsText → LineText → Result ExpandLine Fault
+line_of board signals line = expand_words signals.horizon line >>= λ w. accepted_line board w
+
+-- the plan that a line asks for
+abbrev pub plan_of : BoardText → SignalsText → ExpandLine → PlanText
+plan_of board signals line = plan_at board signals line.t0 line.cmd
+
+-- a line's command passes the test of its subdevice, and is called up to the horizon
+abbrev pub CanExpand : BoardText → SignalsText → ExpandLine → Type 0
+CanExpand board signals line = CanCallAt board signals line.t0 line.cmd
+
+-- the line that a text says, where there is room for its conversions after those of other lines
+abbrev pub line_after : BoardText → SignalsText → List ExpandLine → LineText → Result ExpandLine Fault
+line_after board signals before line =
+    line_of board signals line >>= λ next.
+    limited (has_room (length_of_all (plan_of board signals) before) (length_of (plan_of board signals next))) next
+
+-- the lines of a session
+abbrev pub expands_of : BoardText → SignalsText → List LineText → Result (List ExpandLine) Refused
+expands_of board signals lines = read_each (line_after board signals) [] lines

@@ -1,0 +1,42 @@
+// The session part of `test`.
+ghost use Rattle.std.specs.Prelude.{◌≤◌, length, IfOk};
+ghost use Rattle.std.specs.List.{All};
+ghost use Rattle.cm_base.specs.LineView.{line_view};
+ghost use Rattle.cm_base.specs.ReadStop.{Gives};
+ghost use Rattle.cm_base.specs.Reading.{at_line};
+ghost use Rattle.cm_job.specs.TestLines.{test_line, tests_of};
+
+use crate::only::only;
+use cm_base::faults::ReadStop;
+use cm_base::lines::{Cursor, Line};
+use cm_base::words::at_line;
+use cm_cmd::command::Cmd;
+use cm_cmd::reading::read_cmd;
+use std::alloc::Global;
+
+/// The commands of the lines of a `test` job's session part.
+pub fn read_tests(alloc: Global, lines: Cursor<'_>) -> Result<Vec<Cmd>, ReadStop>
+    ensures commands { Gives (λ cmds. cmds.items) result (tests_of lines.entry) }
+    ensures few { IfOk result (λ cmds. All (λ cmd. length cmd.list ≤ 256) cmds.items) }
+{
+    let mut lines = lines;
+    let mut line = Line::empty(alloc);
+    let mut cmds = Vec::new(alloc);
+    while lines.next(alloc, &mut line)? {
+        let cmd = match read_test(alloc, &line) {
+            Ok(cmd) => cmd,
+            Err(stop) => return Err(stop),
+        };
+        cmds.push(cmd)?;
+    }
+    Ok(cmds)
+}
+
+// The command of a `test` line.
+fn read_test(alloc: Global, line: &Line<'_>) -> Result<Cmd, ReadStop>
+    ensures command { Gives (λ cmd. cmd) result (at_line line.now.number (test_line (line_view line.now))) }
+    ensures few { IfOk result (λ cmd. length cmd.list ≤ 256) }
+{
+    at_line(line.number, only(b"test", line))?;
+    read_cmd(alloc, line, 1)
+}

@@ -1,7 +1,0 @@
--- How contracts see a setting.
-use Rattle.cm_replay.specs.State.{Setting}
-use Rattle.cm_replay.specs.declared.setting.Setting.TheInside.{Inside}
-
--- a board with its signals, as contracts see it
-abbrev pub setting_text : Inside → Setting
-setting_text s = record { board = s.board.now; signals = s.signals.now }
