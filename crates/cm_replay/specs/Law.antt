@@ -131,15 +131,17 @@ remembered h other = h
 abbrev pub remembered_at : (ℕ → History) → ℕ → Answer → ℕ → History
 remembered_at histories sub answer i = if nat_eq i sub then remembered (histories i) answer else histories i
 
+-- what runs on the subdevice that a line names, brought to the line's time
+abbrev pub running_at : SessionLine → State → Option Running
+running_at line state = (device_at (brought_all line.time state).devices (named_sub line.op)).running
+
 -- at every line each command, brought to its time, is lawful, what was put out are the client's words, and the answer continues what was read
 abbrev pub GoesWell : Setting → (ℕ → History) → State → List SessionLine → Type 0
 GoesWell s histories state [] = Unit {0}
 GoesWell s histories state (line ∷ rest) =
     ((i : ℕ) → Keeps (spot_at s i) line.time (histories i) (device_at (brought_all line.time state).devices i).running)
     × ((i : ℕ) → PutsOut i line.time (histories i) (device_at state.devices i).running)
-    × Continues (step s line state).answer
-    (histories (named_sub line.op))
-    (device_at (brought_all line.time state).devices (named_sub line.op)).running
+    × Continues (step s line state).answer (histories (named_sub line.op)) (running_at line state)
     × GoesWell s (remembered_at histories (named_sub line.op) (step s line state).answer) (step s line state).state rest
 
 -- what a job and its board keep
@@ -180,19 +182,17 @@ abbrev pub EndsWell : Answer → List ℕ → Option Running → Type 0
 EndsWell (Ended e) reported (Some c) = is_out c.schedule ≡ false → IsEndAt e reported (samples c.schedule)
 EndsWell other reported running = Unit {0}
 
+-- what was reported of each subdevice after a line
+abbrev pub reported_by : Setting → (ℕ → List ℕ) → SessionLine → State → ℕ → List ℕ
+reported_by s reported line state = reported_of reported (named_sub line.op) (running_at line state) (step s line state).answer
+
 -- at every line what was marked as read is a prefix of the munged expansion, and the whole where the answer is `done` or `dry`
 abbrev pub ReadsPrefixes : Setting → (ℕ → List ℕ) → State → List SessionLine → Type 0
 ReadsPrefixes s reported state [] = Unit {0}
 ReadsPrefixes s reported state (line ∷ rest) =
     ((i : ℕ) → IsPrefix (reported i) (device_at (brought_all line.time state).devices i).running)
-    × EndsWell (step s line state).answer
-    (reported (named_sub line.op))
-    (device_at (brought_all line.time state).devices (named_sub line.op)).running
-    × ReadsPrefixes s
-    (reported_of reported (named_sub line.op)
-    (device_at (brought_all line.time state).devices (named_sub line.op)).running
-    (step s line state).answer)
-    (step s line state).state rest
+    × EndsWell (step s line state).answer (reported (named_sub line.op)) (running_at line state)
+    × ReadsPrefixes s (reported_by s reported line state) (step s line state).state rest
 
 -- what is marked as read is a prefix of the munged expansion in trigger order, and the whole where `done` or `dry` is reported
 abbrev pub PrefixLaw : Type 0
