@@ -15,6 +15,7 @@ use crate::done::LineDone;
 use crate::ending::tail_after;
 use crate::sample_text::SampleText;
 use cm_base::gate::Gate;
+use cm_base::prover::shows;
 use cm_base::transfer::NoMemory;
 use cm_client::client::{Reads, Streamed};
 use cm_client::consuming::Consumer;
@@ -95,7 +96,7 @@ pub(crate) fn text_of<'a>(alloc: Global, go: Go<'a>) -> Result<SampleText<'a>, N
     ensures accepts { IfOk result (λ t. Accepts (CanReport t) (ran.ring_of (plan_text go.entry.plan) go.entry.mode)) }
 {
     // The board tells what holds of each expansion: that the words are codes of their channels.
-    let _place = Board::new(go.plan).place();
+    shows(&Board::new(go.plan).place());
     SampleText::new(alloc, go.plan, room_of(&go))
 }
 

@@ -13,6 +13,7 @@ use crate::done::{LineDone, Ran, add_line};
 use crate::driving::{Drive, drive_line};
 use crate::going::{Go, go_line};
 use cm_base::gate::Gate;
+use cm_base::prover::shows;
 use cm_base::transfer::NoMemory;
 use cm_board::board::BoardDesc;
 use cm_run_lines::line::{RunLine, plan_of};
@@ -114,8 +115,9 @@ fn cut<'a>(
     requires { AreRunnable board.now signals.now lines.now }
     ensures { MatchOption result (lines.now ≡ []) (λ t. IsCut board.now signals.now lines.now t.0.now t.1.now) }
 {
-    let _ = board;
-    let _ = signals;
+    // They are here for the contract alone: the lines fit them.
+    shows(board);
+    shows(signals);
     let (last, rest) = lines.split_last()?;
     Some((rest, last))
 }

@@ -9,6 +9,7 @@ ghost use Rattle.cm_soak.specs.Sums as spec;
 use crate::part::Part;
 use crate::summing::{Summed, soak_go};
 use cm_base::gate::Gate;
+use cm_base::prover::shows;
 use cm_base::transfer::NoMemory;
 use cm_board::board::BoardDesc;
 use cm_expand::plan::Plan;
@@ -99,8 +100,9 @@ fn cut<'a>(
     requires { All (spec.CanSoak board.now signals.now) lines.now }
     ensures { MatchOption result (lines.now ≡ []) (λ t. spec.IsCut board.now signals.now lines.now t.0.now t.1.now) }
 {
-    let _ = board;
-    let _ = signals;
+    // They are here for the contract alone: the lines fit them.
+    shows(board);
+    shows(signals);
     let (last, rest) = lines.split_last()?;
     Some((rest, last))
 }

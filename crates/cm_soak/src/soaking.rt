@@ -10,6 +10,7 @@ ghost use Rattle.cm_soak.specs.Sums as spec;
 use crate::lines::{Sums, lines_up_to};
 use crate::part::{Soaked, summary_of};
 use cm_base::gate::Gate;
+use cm_base::prover::shows;
 use cm_base::transfer::NoMemory;
 use cm_run::running::states_of;
 use cm_run_lines::job::RunJob;
@@ -25,7 +26,8 @@ fn conclude<'a>(job: &RunJob, sums: Sums<'a>) -> Soaked<'a>
     ensures parts { result.summary.parts ≡ spec.parts_of job.now.board job.now.signals job.now.lines }
     ensures readers { spec.AreWhole job.now.board job.now.signals job.now.lines result.readers.items }
 {
-    let _ = job;
+    // It is here for the contract alone: the sums are of its lines.
+    shows(job);
     let Sums { parts, readers } = sums;
     Soaked {
         summary: summary_of(&parts),
@@ -93,6 +95,7 @@ pub fn soak<'a, R: Threads + Wait + Sync, G: Gate + Sync>(
     ensures parts { IfOk result (λ s. s.summary.parts ≡ soak_parts n) }
     ensures readers { IfOk result (λ s. spec.AreWhole soak_board soak_signals (soak_lines n) s.readers.items) }
 {
-    let _ = n;
+    // It is here for the contract alone: the job is made of it.
+    shows(&n);
     sum_lines(rt, alloc, job, gate)
 }
