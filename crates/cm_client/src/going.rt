@@ -14,6 +14,7 @@ ghost use Rattle.cm_text.specs.Tails.{tail_text};
 use crate::client::{Reads, Streamed};
 use crate::streaming::stream;
 use cm_base::gate::Gate;
+use cm_base::prover::shows;
 use cm_base::transfer::NoMemory;
 use cm_expand::board::Board;
 use cm_expand::plan::Plan;
@@ -94,7 +95,7 @@ pub fn text_of<'a>(alloc: Global, go: Go<'a>) -> Result<SampleText<'a>, NoMemory
     ensures accepts { IfOk result (λ t. Accepts (CanReport t) (rings.ring_of (plan_text go.entry.plan) go.entry.mode)) }
 {
     // The board tells what holds of each expansion: that the words are codes of their channels.
-    let _place = Board::new(go.plan).place();
+    shows(&Board::new(go.plan).place());
     SampleText::new(alloc, go.plan, room_of(&go))
 }
 

@@ -4,6 +4,7 @@ ghost use Rattle.cm_cmd.specs.Entry as bits;
 ghost use Rattle.cm_loop.specs.LoopText as spec;
 
 use crate::rule::{LoopItem, LoopRule};
+use cm_base::prover::shows;
 use cm_base::transfer::NoMemory;
 use cm_board::board::Sub;
 use cm_cmd::entry::chan;
@@ -21,7 +22,7 @@ pub(crate) fn filter_of(alloc: Global, job: &LoopJob) -> Result<LoopRule, NoMemo
     let from_sub = input.sub();
     let to_sub = output.sub();
     // These reads show what holds of each subdevice.
-    let _ticks = (from_sub.tick, to_sub.tick);
+    shows(&(from_sub.tick, to_sub.tick));
     let items = items_of(alloc, from_sub, to_sub, &from.list, &to.list)?;
     Ok(LoopRule {
         items,

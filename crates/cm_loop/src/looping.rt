@@ -12,6 +12,7 @@ use crate::side::FilterSide;
 use crate::state::LoopState;
 use crate::text::text_of;
 use cm_base::gate::Gate;
+use cm_base::prover::shows;
 use cm_base::transfer::NoMemory;
 use cm_client::client::{ClientSide, Reads};
 use cm_client::opening::{PacedRing, open_paced};
@@ -64,7 +65,7 @@ fn loop_words<R: Threads + Wait + Sync, G: Gate + Sync>(
     let input = job.input_plan();
     let output = job.output_plan();
     // The board tells what holds of each expansion: that the samples are codes of their channels.
-    let _place = Board::new(input).place();
+    shows(&Board::new(input).place());
     let munge = rule_of(alloc, input.sub(), &job.input)?;
     let looped = Looped::new(input, &munge, filter);
     let state = LoopState::new(alloc, filter)?;

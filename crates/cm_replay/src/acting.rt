@@ -23,6 +23,7 @@ use crate::seat::Seat;
 use crate::text::{put_fine, put_refused};
 use crate::trying::BoxedAccepted;
 use crate::writing::{fill, mark, write};
+use cm_base::prover::shows;
 use cm_base::transfer::NoMemory;
 use cm_board::board::Kind;
 use cm_session::op::{Op, SessionLine};
@@ -244,7 +245,7 @@ fn act<'a>(
         Op::InsnGtod { .. } => {
             let signals = setting.signals;
             // This read shows that the horizon is within its limit.
-            let _horizon = signals.horizon;
+            shows(&signals.horizon);
             answer_time(line.time, line.file, files, text)
         }
         _ => act_on(alloc, setting, line, tried, files, seats, text),

@@ -15,6 +15,7 @@ use crate::command::Command;
 use crate::seat::Seat;
 use crate::text::{put_count, put_fine, put_refused, put_rejected};
 use crate::trying::BoxedAccepted;
+use cm_base::prover::shows;
 use cm_base::source::INT;
 use cm_base::transfer::NoMemory;
 use cm_cmd::command::Cmd;
@@ -74,8 +75,8 @@ fn start<'a>(
     let sub = at.sub;
     let signals = at.signals;
     // These reads show what holds of each subdevice, and that the horizon is within its limit.
-    let _tick = sub.tick;
-    let _horizon = signals.horizon;
+    shows(&sub.tick);
+    shows(&signals.horizon);
     let rule = rule_of(alloc, sub, cmd)?;
     let plan = Plan::new(sub, signals, cmd, at.index, at.time, None);
     seat.running = Some(Command::start(alloc, plan, rule)?);

@@ -4,6 +4,7 @@ ghost use Rattle.cm_expand.specs.Taking.{NeverFalls, come, raw_words};
 ghost use Rattle.cm_fifo.specs.State.{IsLater, next_of};
 ghost use Rattle.cm_replay.specs.DelayedView.{to_hand_over};
 
+use cm_base::prover::shows;
 use cm_base::transfer::NoMemory;
 use cm_board::board::Fifo;
 use cm_expand::conv::Conv;
@@ -95,7 +96,8 @@ impl<'a> Delayed<'a> {
         ensures size { length out.new ≡ length out.old }
         ensures after { self.new ≡ record self.old { conversions = drop result self.old.conversions } }
     {
-        let _ = &self.board;
+        // This read shows what such a board stands for.
+        shows(&self.board);
         let mut count = 0;
         while count < out.len() {
             let Some(conversion) = self.next_by(time) else {

@@ -2,6 +2,7 @@
 ghost use Rattle.std.specs.Prelude.{◌≡◌, min, length, take, drop, IfOk};
 ghost use Rattle.cm_expand.specs.Taking.{NeverFalls, come, raw_words};
 
+use cm_base::prover::shows;
 use cm_base::transfer::NoMemory;
 use cm_expand::board::Board;
 use cm_expand::conv::Conv;
@@ -90,7 +91,8 @@ impl<'a> Direct<'a> {
     pub fn lost_at(&self) -> Option<u64>
         ensures { result ≡ self.now.lost_at }
     {
-        let _ = &self.board;
+        // This read shows what such a board stands for.
+        shows(&self.board);
         None
     }
 

@@ -12,6 +12,7 @@ use crate::asking::ask;
 use crate::replay::seats_of;
 use crate::seat::Seat;
 use crate::trying::BoxedAccepted;
+use cm_base::prover::shows;
 use cm_base::transfer::NoMemory;
 use cm_board::board::BoardDesc;
 use cm_session::op::SessionLine;
@@ -53,8 +54,8 @@ impl<'a> Playing<'a> {
         ensures { IfOk result (λ p. p ≡ first_play (record { board = board.now; signals = signals.now })) }
     {
         // These reads show that a board has few subdevices, and that the signals are sound.
-        let _version = board.version;
-        let _horizon = signals.horizon;
+        shows(&board.version);
+        shows(&signals.horizon);
         let seats = seats_of(alloc, board)?;
         Ok(Playing {
             setting: Setting { board, signals },

@@ -15,6 +15,7 @@ use crate::job::Job;
 use crate::seat::Seat;
 use crate::trying::{BoxedAccepted, try_all};
 use cm_base::outside::Sink;
+use cm_base::prover::shows;
 use cm_base::transfer::{NoMemory, flush, flush_full};
 use cm_board::board::{BoardDesc, Sub};
 use cm_session::op::SessionLine;
@@ -36,7 +37,7 @@ pub fn replay<K: Sink>(alloc: Global, job: &Job, sink: &mut K) -> Result<(), Rep
 {
     let board = &job.board;
     // This read shows that a board has few subdevices.
-    let _version = board.version;
+    shows(&board.version);
     let setting = Setting {
         board,
         signals: &job.signals,

@@ -9,6 +9,7 @@ use crate::client::{Watched, read_scans};
 use crate::events::WatchEvents;
 use crate::side::BoardSide;
 use cm_base::gate::Gate;
+use cm_base::prover::shows;
 use cm_base::transfer::NoMemory;
 use cm_client::claiming::{another_seat, claim_waiting};
 use cm_client::munging::munge_waiting;
@@ -54,7 +55,7 @@ fn last_side<P: Planned, W: Words>(
         × (length sides.old.items ≡ length sides.new.items + 1)) }
 {
     // It is here for the contract alone: the owners have each side's place.
-    let _ = owners;
+    shows(owners);
     sides.pop()
 }
 

@@ -4,6 +4,7 @@ ghost use Rattle.std.specs.List.{list_any};
 ghost use Rattle.cm_signal.specs.Signals.{is_at};
 ghost use Rattle.cm_run.specs.SoakJob as spec;
 
+use cm_base::prover::shows;
 use cm_base::source::{COUNT, NOW, TIMER};
 use cm_base::transfer::NoMemory;
 use cm_board::board::{BoardDesc, Kind, Munge, Range, Sub};
@@ -135,8 +136,9 @@ fn accepted(sub: &Sub, cmd: Cmd, index: u32, count: u32) -> Accepted
     requires count { (1 ≤ count) × (count ≤ 1000000) }
     ensures { result ≡ spec.soak_cmd index count }
 {
-    let _ = index;
-    let _ = count;
+    // They are here for the contract alone: the command is made of them.
+    shows(&index);
+    shows(&count);
     match accept(sub, cmd) {
         Ok(accepted) => accepted,
         Err(_) => unreachable!(),
