@@ -1,6 +1,6 @@
 pub mod Copied
-pub mod Cuts
 pub mod Ends
+pub mod Made
 pub mod Order
 pub mod Outs
 pub mod Places

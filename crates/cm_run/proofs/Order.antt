@@ -1,5 +1,6 @@
--- Lines that have run, one line longer at a time; their text as the definition says it; and that a run without free lines has one text.
-use Rattle.std.proofs.Common.{◌≡◌, ℕ, List, [], ◌∷◌, ◌++◌, Option, refl, sym, ap, subst, ◌∙◌, append_assoc, append-nil}
+-- Lines that have run; their text as the definition says it; and that a run without free lines has one text.
+use Rattle.std.proofs.Common.{◌≡◌, ℕ, List, [], ◌∷◌, ◌++◌, Option, refl, ap, subst, ◌∙◌}
+use Rattle.std.specs.List.{AllZip, flat_map}
 use Rattle.cm_board.specs.Board.{BoardText}
 use Rattle.cm_signal.specs.Signals.{SignalsText}
 use Rattle.cm_expand.specs.Plan.{PlanText}
@@ -10,31 +11,25 @@ use Rattle.cm_run_lines.specs.declared.line.Mode.TheVariants.{Paced}
 use Rattle.cm_run_lines.specs.declared.line.RunLine.{RunLine}
 use Rattle.cm_run_lines.specs.declared.line.RunLine.TheVariants.{Go, Drive}
 use Rattle.cm_run.specs.Blocks.{IsBlock, IsGoBlock, IsRunText, ArePaced, PacedLaw, line_block, paced_block, run_text}
-use Rattle.cm_run.specs.Ran.{LineRan, HaveRun}
+use Rattle.cm_run.specs.Ran.{HaveRun, LineRan, as_list}
+use Rattle.cm_run.specs.declared.done.LineDone.{LineDone}
 use Rattle.cm_run.proofs.Ends.{go_fits}
 
 module _ (board : BoardText) (signals : SignalsText) where
-  pub ran_more : (before : List RunLine) (line : RunLine) (text block : List ℕ) (readers mine : List Reading) → HaveRun board signals before text readers → LineRan board signals line block mine
-      → HaveRun board signals (before ++ line ∷ []) (text ++ block) (readers ++ mine)
-  ran_more [] line text block readers mine ran one = record {
-    block = block;
-    rest = [];
-    mine = mine;
-    theirs = [];
-    text_is = ap (λ (l : List ℕ). l ++ block) ran.0 ∙ sym (append-nil block);
-    readers_are = ap (λ (l : List Reading). l ++ mine) ran.1 ∙ sym (append-nil mine);
-    fits = one;
-    go_on = (refl, refl);
-  }
-  ran_more (first ∷ before) line text block readers mine ran one = record {
-    block = ran.block;
-    rest = ran.rest ++ block;
-    mine = ran.mine;
-    theirs = ran.theirs ++ mine;
-    text_is = ap (λ (l : List ℕ). l ++ block) ran.text_is ∙ append_assoc ran.block ran.rest block;
-    readers_are = ap (λ (l : List Reading). l ++ mine) ran.readers_are ∙ append_assoc ran.mine ran.theirs mine;
-    fits = ran.fits;
-    go_on = ran_more before line ran.rest block ran.theirs mine ran.go_on one;
+  pub have_run : (lines : List RunLine) (done : List LineDone) (text : List ℕ) (readers : List Reading) → AllZip (λ line d. LineRan board signals line d.block.items (as_list d.reader)) lines done
+      → text ≡ flat_map (λ d. d.block.items) done → readers ≡ flat_map (λ d. as_list d.reader) done → HaveRun board signals lines text readers
+  have_run [] [] text readers ran t r = (t, r)
+  have_run [] (d ∷ done) text readers ran t r = absurd ran
+  have_run (line ∷ lines) [] text readers ran t r = absurd ran
+  have_run (line ∷ lines) (d ∷ done) text readers ran t r = record {
+    block = d.block.items;
+    rest = flat_map (λ d. d.block.items) done;
+    mine = as_list d.reader;
+    theirs = flat_map (λ d. as_list d.reader) done;
+    text_is = t;
+    readers_are = r;
+    fits = ran.0;
+    go_on = have_run lines done _ _ ran.1 refl refl;
   }
 
   line_fits : (line : RunLine) (text : List ℕ) (readers : List Reading) → LineRan board signals line text readers → IsBlock board signals line text

@@ -1,6 +1,6 @@
 -- What the streams of a job's lines sum up to.
-use Rattle.std.specs.Prelude.{◌≡◌, ℕ, ◌+◌, List, [], ◌∷◌, ◌++◌, length, slice_get, Option, Some, None}
-use Rattle.std.specs.List.{All, sum}
+use Rattle.std.specs.Prelude.{◌≡◌, ℕ, List, [], ◌∷◌, length, slice_get, Option, Some, None}
+use Rattle.std.specs.List.{AllZip, sum}
 use Rattle.cm_board.specs.Board.{BoardText}
 use Rattle.cm_signal.specs.Signals.{SignalsText}
 use Rattle.cm_expand.specs.Plan.{PlanText}
@@ -8,8 +8,7 @@ use Rattle.cm_ring_core.specs.declared.view.EndKind.TheVariants as ends
 use Rattle.cm_ring.specs.Roles.{Reading}
 use Rattle.cm_run.specs.Blocks.{count_of, munged_samples}
 use Rattle.cm_run.specs.Ran.{ring_of}
-use Rattle.cm_run_lines.specs.Calls.{plan_at}
-use Rattle.cm_run_lines.specs.RunLines.{CanRun}
+use Rattle.cm_run_lines.specs.Calls.{plan_of}
 use Rattle.cm_run_lines.specs.declared.line.Mode.TheVariants.{Paced}
 use Rattle.cm_run_lines.specs.declared.line.RunLine.{RunLine}
 use Rattle.cm_run_lines.specs.declared.line.RunLine.TheVariants.{Go, Drive}
@@ -19,18 +18,6 @@ use Rattle.cm_run.specs.declared.soak.part.Part.{Part}
 abbrev pub IsSoakLine : RunLine → Type 0
 IsSoakLine (Go mode access t0 most cmd) = (mode ≡ Paced) × (most ≡ None)
 IsSoakLine (Drive t0 values cmd) = ⊥
-
--- such a line, which can be run
-pub record CanSoak (board : BoardText) (signals : SignalsText) (line : RunLine) : Type 0 where
-  pub runs : CanRun board signals line
-  pub soaks : IsSoakLine line
-
--- the last of some lines, and the others
-pub record IsCut (board : BoardText) (signals : SignalsText) (all rest : List RunLine) (last : RunLine) : Type 0 where
-  pub are : all ≡ rest ++ last ∷ []
-  pub one : CanSoak board signals last
-  pub others : All (CanSoak board signals) rest
-  pub fewer : length all ≡ length rest + 1
 
 -- the number and the sum of all munged samples of a command
 abbrev pub part_of : PlanText → Part
@@ -47,17 +34,6 @@ pub record HasSummed (p : PlanText) (part : Part) (r : Reading) : Type 0 where
   pub is : part ≡ part_of p
   pub whole : IsWhole p r
 
--- the same of a line
-abbrev pub LineSums : BoardText → SignalsText → RunLine → Part → Reading → Type 0
-LineSums board signals (Go mode access t0 most cmd) part r = HasSummed (plan_at board signals t0 cmd) part r
-LineSums board signals (Drive t0 values cmd) part r = ⊥
-
--- a part and a reader for each line, in the order of the lines
-abbrev pub HaveSummed : BoardText → SignalsText → List RunLine → List Part → List Reading → Type 0
-HaveSummed board signals [] [] [] = Unit {0}
-HaveSummed board signals (line ∷ lines) (part ∷ parts) (r ∷ readers) = LineSums board signals line part r × HaveSummed board signals lines parts readers
-HaveSummed board signals lines parts readers = ⊥
-
 -- zeros
 abbrev pub no_part : Part
 no_part = record { count = 0; sum = 0 }
@@ -65,8 +41,7 @@ no_part = record { count = 0; sum = 0 }
 -- the part of a line, and zeros where there is none
 abbrev pub line_part : BoardText → SignalsText → Option RunLine → Part
 line_part board signals None = no_part
-line_part board signals (Some (Go mode access t0 most cmd)) = part_of (plan_at board signals t0 cmd)
-line_part board signals (Some (Drive t0 values cmd)) = no_part
+line_part board signals (Some line) = part_of (plan_of board signals line)
 
 -- the parts of the first four lines
 abbrev pub parts_of : BoardText → SignalsText → List RunLine → List Part
@@ -83,6 +58,4 @@ part_at parts i = or_none (slice_get parts i)
 
 -- for each line a reader that found the end after all of its samples, and released them
 abbrev pub AreWhole : BoardText → SignalsText → List RunLine → List Reading → Type 0
-AreWhole board signals [] [] = Unit {0}
-AreWhole board signals (Go mode access t0 most cmd ∷ lines) (r ∷ readers) = IsWhole (plan_at board signals t0 cmd) r × AreWhole board signals lines readers
-AreWhole board signals lines readers = ⊥
+AreWhole board signals lines readers = AllZip (λ line r. IsWhole (plan_of board signals line) r) lines readers

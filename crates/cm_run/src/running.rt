@@ -1,14 +1,21 @@
 // A whole run.
-ghost use Rattle.std.specs.Prelude.{◌≡◌, length, IfOk};
+ghost use Rattle.std.specs.Prelude.{◌≡◌, ◌<◌, ℕ, length, slice_get, IfOk, IfSome, Ok};
+ghost use Rattle.std.specs.List.{AllZip};
 ghost use Rattle.cm_run.specs.Blocks.{IsRunText};
-ghost use Rattle.cm_run.specs.Ran.{HaveRun};
+ghost use Rattle.cm_run.specs.Lines.{AreMade};
+ghost use Rattle.cm_run.specs.Ran.{HaveRun, LineRan, as_list};
+ghost use Rattle.cm_run_lines.specs.RunLines.{CanRun};
 
-use crate::done::Ran;
-use crate::lines::lines_up_to;
+use crate::done::{LineDone, Ran, all_ran};
+use crate::driving::{Drive, drive_line};
+use crate::going::{Go, go_line};
+use crate::lines::{lines_up_to, sub_of};
 use cm_base::gate::Gate;
 use cm_base::transfer::NoMemory;
-use cm_board::board::Sub;
+use cm_board::board::{BoardDesc, Sub};
 use cm_run_lines::job::RunJob;
+use cm_run_lines::line::{RunLine, plan_of};
+use cm_signal::signals::Signals;
 use cm_sub::owners::Owners;
 use cm_sub::state::SubState;
 use std::alloc::Global;
@@ -27,10 +34,106 @@ pub fn states_of(alloc: Global, subs: &[Sub]) -> Result<Vec<SubState>, NoMemory>
     Ok(states)
 }
 
+/// Streams the lines of a job beside each other, each over its own subdevice and by a call of `stream`
+/// with its place, and answers after all have ended: what the calls have made, in the order of the lines.
+pub(crate) fn stream_lines<
+    R: Threads + Wait + Sync,
+    D: Send + Drop,
+    F: Fn(usize) -> Result<D, NoMemory> + Sync,
+>(rt: &R, alloc: Global, job: &RunJob, stream: &F) -> Result<Vec<D>, NoMemory>
+    requires { (place : ℕ) → place < length job.now.lines → F.pre stream.now place }
+    ensures { IfOk result (λ made. AreMade (λ place one. F.post stream.now place (Ok one)) (length job.now.lines) made.items) }
+{
+    let states = states_of(alloc, &job.board.subs)?;
+    let (owners, seat) = Owners::open(alloc, states)?;
+    let count = job.lines.len();
+    lines_up_to(rt, alloc, &owners, seat, job, count, stream)
+}
+
+// Streams a line, and makes its block.
+fn one_line<'a, R: Threads + Wait + Sync, G: Gate + Sync>(
+    rt: &R,
+    alloc: Global,
+    board: &'a BoardDesc,
+    signals: &'a Signals,
+    line: &'a RunLine,
+    gate: &G,
+    who: u32,
+) -> Result<LineDone<'a>, NoMemory>
+    requires { CanRun board.now signals.now line.now }
+    ensures { IfOk result (λ d. LineRan board.now signals.now line.now d.block.items (as_list d.reader)) }
+{
+    let plan = plan_of(board, signals, line);
+    match line {
+        RunLine::Go {
+            mode,
+            access,
+            take,
+            cmd,
+            ..
+        } => {
+            let go = Go {
+                plan,
+                cmd,
+                mode: *mode,
+                access: *access,
+                take: *take,
+            };
+            go_line(rt, alloc, go, gate, who)
+        }
+        RunLine::Drive { values, cmd, .. } => {
+            let drive = Drive {
+                plan,
+                cmd,
+                values: values.as_slice(),
+            };
+            drive_line(rt, alloc, sub_of(line), drive, gate, who)
+        }
+    }
+}
+
+// The same of the line at a place.
+fn line_at<'a, R: Threads + Wait + Sync, G: Gate + Sync>(
+    rt: &R,
+    alloc: Global,
+    job: &'a RunJob,
+    place: usize,
+    gate: &G,
+) -> Result<LineDone<'a>, NoMemory>
+    requires { place < length job.now.lines }
+    ensures { IfSome (slice_get job.now.lines place) (λ line. IfOk result (λ d. LineRan job.now.board job.now.signals line d.block.items (as_list d.reader))) }
+{
+    let line = &job.lines[place];
+    one_line(
+        rt,
+        alloc,
+        &job.board,
+        &job.signals,
+        line,
+        gate,
+        place as u32,
+    )
+}
+
+// Streams the lines beside each other, and makes their blocks.
+fn run_lines<'a, R: Threads + Wait + Sync, G: Gate + Sync>(
+    rt: &R,
+    alloc: Global,
+    job: &'a RunJob,
+    gate: &G,
+) -> Result<Vec<LineDone<'a>>, NoMemory>
+    ensures { IfOk result (λ made. AllZip (λ line d. LineRan job.now.board job.now.signals line d.block.items (as_list d.reader)) job.now.lines made.items) }
+{
+    let stream = move |place: usize| -> Result<LineDone<'_>, NoMemory>
+        requires { place < length job.now.lines }
+        ensures { IfSome (slice_get job.entry.now.lines place) (λ line. IfOk result (λ d. LineRan job.entry.now.board job.entry.now.signals line d.block.items (as_list d.reader))) }
+    { line_at(rt, alloc, job, place, gate) };
+    stream_lines(rt, alloc, job, &stream)
+}
+
 /// Runs the lines of a job beside each other, each with a board, a munger and a client on threads of
 /// their own over a ring of its own, and answers after all have ended: the text, and for each `go`
 /// line the reader of its ring, which found the end that the text says.
-#[tactic(auto, using(crate::proofs::Order::text_of_run))]
 pub fn run_job<'a, R: Threads + Wait + Sync, G: Gate + Sync>(
     rt: &R,
     alloc: Global,
@@ -40,16 +143,6 @@ pub fn run_job<'a, R: Threads + Wait + Sync, G: Gate + Sync>(
     ensures text { IfOk result (λ r. IsRunText job.now.board job.now.signals job.now.lines r.text) }
     ensures ran { IfOk result (λ r. HaveRun job.now.board job.now.signals job.now.lines r.text r.readers.items) }
 {
-    let states = states_of(alloc, &job.board.subs)?;
-    let (owners, seat) = Owners::open(alloc, states)?;
-    lines_up_to(
-        rt,
-        alloc,
-        &owners,
-        seat,
-        &job.board,
-        &job.signals,
-        &job.lines,
-        gate,
-    )
+    let lines = run_lines(rt, alloc, job, gate)?;
+    all_ran(alloc, lines)
 }

@@ -1,6 +1,5 @@
 // A soak: a large job made from a number, whose samples are streamed beside each other and summed.
 pub mod job;
-pub mod lines;
 pub mod part;
 pub mod soaking;
 pub mod sum;

@@ -1,68 +1,44 @@
 // A whole soak.
-ghost use Rattle.std.specs.Prelude.{◌≡◌, ◌≤◌, IfOk};
+ghost use Rattle.std.specs.Prelude.{◌≡◌, ◌≤◌, map, IfOk};
 ghost use Rattle.std.specs.List.{All};
-ghost use Rattle.cm_run.specs.Idle.{IsIdle};
-ghost use Rattle.cm_run.specs.Lines.{HasPlaces};
 ghost use Rattle.cm_run.specs.SoakJob.{soak_board, soak_job, soak_lines, soak_signals};
 ghost use Rattle.cm_run.specs.Soak.{soak_parts};
 ghost use Rattle.cm_run.specs.SoakSums as spec;
 
-use crate::running::states_of;
-use crate::soak::lines::{Sums, lines_up_to};
-use crate::soak::part::{Soaked, summary_of};
+use crate::soak::part::{Part, Soaked, summary_of};
+use crate::soak::summing::{Summed, summed_lines};
 use cm_base::gate::Gate;
 use cm_base::transfer::NoMemory;
+use cm_expand::plan::Plan;
+use cm_ring::reader::Reader;
 use cm_run_lines::job::RunJob;
-use cm_sub::owners::{OwnerSeat, Owners};
 use std::alloc::Global;
 use std::sync::Wait;
 use std::thread::Threads;
 
-// The sums of lines, as the parts of subdevices.
-#[tactic(auto, using(crate::proofs::SoakTotals::sums_at, crate::proofs::SoakTotals::sums_whole))]
-fn conclude<'a>(job: &RunJob, sums: Sums<'a>) -> Soaked<'a>
-    requires { spec.HaveSummed job.now.board job.now.signals job.now.lines sums.parts.items sums.readers.items }
-    ensures parts { result.summary.parts ≡ spec.parts_of job.now.board job.now.signals job.now.lines }
-    ensures readers { spec.AreWhole job.now.board job.now.signals job.now.lines result.readers.items }
-{
-    let _ = job;
-    let Sums { parts, readers } = sums;
-    Soaked {
-        summary: summary_of(&parts),
-        readers,
-    }
-}
-
-// Streams the lines beside each other, each over its own subdevice.
-fn stream_lines<'a, R: Threads + Wait + Sync, G: Gate + Sync>(
-    rt: &R,
+// The parts of lines, and their readers.
+fn apart<'a>(
     alloc: Global,
-    owners: &Owners,
-    seat: OwnerSeat,
-    job: &'a RunJob,
-    gate: &G,
-) -> Result<Sums<'a>, NoMemory>
-    requires idle { IsIdle owners.now seat }
-    requires places { HasPlaces job.now.board owners.now }
-    requires lines { All spec.IsSoakLine job.now.lines }
-    ensures { IfOk result (λ r. spec.HaveSummed job.now.board job.now.signals job.now.lines r.parts.items r.readers.items) }
+    lines: Vec<Summed<'a>>,
+) -> Result<(Vec<Part>, Vec<Reader<Plan<'a>>>), NoMemory>
+    ensures parts { IfOk result (λ r. r.0.items ≡ map (λ line. line.part) lines.entry.items) }
+    ensures readers { IfOk result (λ r. r.1.items ≡ map (λ line. line.reader) lines.entry.items) }
 {
-    lines_up_to(
-        rt,
-        alloc,
-        owners,
-        seat,
-        &job.board,
-        &job.signals,
-        &job.lines,
-        gate,
-    )
+    let mut parts = Vec::new(alloc);
+    let mut readers = Vec::new(alloc);
+    for line in lines {
+        let Summed { part, reader } = line;
+        parts.push(part)?;
+        readers.push(reader)?;
+    }
+    Ok((parts, readers))
 }
 
 /// Streams the paced lines of a job beside each other, each with a board, a munger and a client on
 /// threads of their own over a ring of its own, and answers after all have ended: for each of the first
 /// four lines how many samples its client read, and their sum, and for each line the reader of its
 /// ring, which released all of them and found the end after them.
+#[tactic(auto, using(crate::proofs::SoakTotals::sums_at, crate::proofs::SoakTotals::sums_whole))]
 pub fn sum_lines<'a, R: Threads + Wait + Sync, G: Gate + Sync>(
     rt: &R,
     alloc: Global,
@@ -73,10 +49,10 @@ pub fn sum_lines<'a, R: Threads + Wait + Sync, G: Gate + Sync>(
     ensures parts { IfOk result (λ s. s.summary.parts ≡ spec.parts_of job.now.board job.now.signals job.now.lines) }
     ensures readers { IfOk result (λ s. spec.AreWhole job.now.board job.now.signals job.now.lines s.readers.items) }
 {
-    let states = states_of(alloc, &job.board.subs)?;
-    let (owners, seat) = Owners::open(alloc, states)?;
-    let sums = stream_lines(rt, alloc, &owners, seat, job, gate)?;
-    Ok(conclude(job, sums))
+    let lines = summed_lines(rt, alloc, job, gate)?;
+    let (parts, readers) = apart(alloc, lines)?;
+    let summary = summary_of(&parts);
+    Ok(Soaked { summary, readers })
 }
 
 /// Streams the lines of a soak of `n` conversions, as `sum_lines` does: for each of the four
