@@ -1,4 +1,5 @@
 pub mod Ends
+pub mod Made
 pub mod Order
 pub mod SoakAccepted
 pub mod SoakAdding

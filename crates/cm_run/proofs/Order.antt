@@ -1,12 +1,11 @@
--- What lines give, one line longer at a time; lines that have run; their text as the definition says it; and that a run without free lines has one text.
-use Rattle.std.proofs.Common.{◌≡◌, ℕ, zero, suc, ◌<◌, List, [], ◌∷◌, ◌++◌, length, take, Option, refl, ap, subst, ◌∙◌, arith, IfSome}
-use Rattle.std.specs.Prelude.{slice_get}
+-- Lines that have run; their text as the definition says it; and that a run without free lines has one text.
+use Rattle.std.proofs.Common.{◌≡◌, ℕ, List, [], ◌∷◌, ◌++◌, Option, refl, ap, subst, ◌∙◌}
 use Rattle.std.specs.List.{AllZip, flat_map}
 use Rattle.cm_board.specs.Board.{BoardText}
 use Rattle.cm_signal.specs.Signals.{SignalsText}
 use Rattle.cm_expand.specs.Plan.{PlanText}
-use Rattle.cm_expand.specs.Calls.{plan_at}
 use Rattle.cm_ring.specs.Roles.{Reading}
+use Rattle.cm_expand.specs.Calls.{plan_at}
 use Rattle.cm_job.specs.declared.line.Mode.{Mode}
 use Rattle.cm_job.specs.declared.line.Mode.TheVariants.{Paced}
 use Rattle.cm_job.specs.declared.line.RunLine.{RunLine}
@@ -18,29 +17,21 @@ use Rattle.cm_run.specs.Ran.{HaveRun, LineRan, as_list}
 use Rattle.cm_run.specs.declared.done.LineDone.{LineDone}
 use Rattle.cm_run.proofs.Ends.{go_fits}
 
--- what the first lines give, and the next one
-pub gives_more : {A B : Type 0} (R : A → B → Type 0) (xs : List A) (ys : List B) (i : ℕ) (y : B) → i < length xs → AllZip R (take i xs) ys → IfSome (slice_get xs i) (λ x. R x y) → AllZip R (take (suc i) xs) (ys ++ y ∷ [])
-gives_more R [] ys i y within before one = absurd (omega arith)
-gives_more R (x ∷ xs) [] zero y within before one = (one, tt)
-gives_more R (x ∷ xs) (z ∷ ys) zero y within before one = absurd before
-gives_more R (x ∷ xs) [] (suc i) y within before one = absurd before
-gives_more R (x ∷ xs) (z ∷ ys) (suc i) y within before one = (before.0, gives_more R xs ys i y (omega arith) before.1 one)
-
 module _ (board : BoardText) (signals : SignalsText) where
-  pub have_run : (lines : List RunLine) (done : List LineDone) → AllZip (λ line d. LineRan board signals line d.block.items (as_list d.reader)) lines done
-      → HaveRun board signals lines (flat_map (λ d. d.block.items) done) (flat_map (λ d. as_list d.reader) done)
-  have_run [] [] ran = (refl, refl)
-  have_run [] (d ∷ done) ran = absurd ran
-  have_run (line ∷ lines) [] ran = absurd ran
-  have_run (line ∷ lines) (d ∷ done) ran = record {
+  pub have_run : (lines : List RunLine) (done : List LineDone) (text : List ℕ) (readers : List Reading) → AllZip (λ line d. LineRan board signals line d.block.items (as_list d.reader)) lines done
+      → text ≡ flat_map (λ d. d.block.items) done → readers ≡ flat_map (λ d. as_list d.reader) done → HaveRun board signals lines text readers
+  have_run [] [] text readers ran t r = (t, r)
+  have_run [] (d ∷ done) text readers ran t r = absurd ran
+  have_run (line ∷ lines) [] text readers ran t r = absurd ran
+  have_run (line ∷ lines) (d ∷ done) text readers ran t r = record {
     block = d.block.items;
     rest = flat_map (λ d. d.block.items) done;
     mine = as_list d.reader;
     theirs = flat_map (λ d. as_list d.reader) done;
-    text_is = refl;
-    readers_are = refl;
+    text_is = t;
+    readers_are = r;
     fits = ran.0;
-    go_on = have_run lines done ran.1;
+    go_on = have_run lines done _ _ ran.1 refl refl;
   }
 
   line_fits : (line : RunLine) (text : List ℕ) (readers : List Reading) → LineRan board signals line text readers → IsBlock board signals line text

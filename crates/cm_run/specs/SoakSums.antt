@@ -46,7 +46,11 @@ line_part board signals (Some line) = part_of (plan_of board signals line)
 -- the parts of the first four lines
 abbrev pub parts_of : BoardText → SignalsText → List RunLine → List Part
 parts_of board signals lines =
-    line_part board signals (slice_get lines 0) ∷ line_part board signals (slice_get lines 1) ∷ line_part board signals (slice_get lines 2) ∷ line_part board signals (slice_get lines 3) ∷ []
+    line_part board signals (slice_get lines 0)
+    ∷ line_part board signals (slice_get lines 1)
+    ∷ line_part board signals (slice_get lines 2)
+    ∷ line_part board signals (slice_get lines 3)
+    ∷ []
 
 -- a part of some, and zeros where it is missing
 abbrev pub or_none : Option Part → Part

@@ -39,8 +39,7 @@ fn add_line<'a>(before: Ran<'a>, done: LineDone<'a>) -> Result<Ran<'a>, NoMemory
 
 /// The blocks of lines one after another, and their readers.
 pub(crate) fn all_ran<'a>(alloc: Global, lines: Vec<LineDone<'a>>) -> Result<Ran<'a>, NoMemory>
-    ensures text { IfOk result (λ r. r.text ≡ flat_map (λ d. d.block.items) lines.entry.items) }
-    ensures readers { IfOk result (λ r. r.readers.items ≡ flat_map (λ d. as_list d.reader) lines.entry.items) }
+    ensures { IfOk result (λ r. (r.text ≡ flat_map (λ d. d.block.items) lines.entry.items) × (r.readers.items ≡ flat_map (λ d. as_list d.reader) lines.entry.items)) }
 {
     let mut ran = Ran {
         text: Blocks::new(alloc),

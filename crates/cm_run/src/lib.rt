@@ -4,7 +4,6 @@
 
 pub mod done;
 pub mod driving;
-pub mod from_line;
 mod gone;
 pub mod law;
 pub mod lines;

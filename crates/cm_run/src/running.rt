@@ -1,12 +1,13 @@
 // A whole run.
-ghost use Rattle.std.specs.Prelude.{IfOk};
-ghost use Rattle.std.specs.List.{All, AllZip};
+ghost use Rattle.std.specs.Prelude.{◌≡◌, ◌<◌, ℕ, length, slice_get, IfOk, IfSome, Ok};
+ghost use Rattle.std.specs.List.{AllZip};
 ghost use Rattle.cm_client.specs.RunText.{IsRunText};
-ghost use Rattle.cm_run.specs.Ran.{HaveRun};
+ghost use Rattle.cm_run.specs.Lines.{AreMade};
+ghost use Rattle.cm_run.specs.Ran.{HaveRun, LineRan, as_list};
+ghost use Rattle.cm_job.specs.RunLines.{CanRun};
 
 use crate::done::{LineDone, Ran, all_ran};
 use crate::driving::{Drive, drive_line};
-use crate::from_line::FromLine;
 use crate::gone::go_line;
 use crate::lines::lines_up_to;
 use cm_base::gate::Gate;
@@ -23,74 +24,106 @@ use std::alloc::Global;
 use std::sync::Wait;
 use std::thread::Threads;
 
-/// Streams the lines of a job beside each other, each with threads of its own over a ring of its own,
-/// and answers after all have ended: what each line gives, in their order.
-pub(crate) fn stream_lines<'a, R: Threads + Wait + Sync, G: Gate + Sync, D: FromLine<'a>>(
-    rt: &R,
-    alloc: Global,
-    job: &'a RunJob,
-    gate: &G,
-) -> Result<Vec<D>, NoMemory>
-    requires { All D.takes job.now.lines }
-    ensures { IfOk result (λ made. AllZip (D.gives job.now.board job.now.signals) job.now.lines made.items) }
+/// Streams the lines of a job beside each other, each over its own subdevice and by a call of `stream`
+/// with its place, and answers after all have ended: what the calls have made, in the order of the lines.
+pub(crate) fn stream_lines<
+    R: Threads + Wait + Sync,
+    D: Send + Drop,
+    F: Fn(usize) -> Result<D, NoMemory> + Sync,
+>(rt: &R, alloc: Global, job: &RunJob, stream: &F) -> Result<Vec<D>, NoMemory>
+    requires { (place : ℕ) → place < length job.now.lines → F.pre stream.now place }
+    ensures { IfOk result (λ made. AreMade (λ place one. F.post stream.now place (Ok one)) (length job.now.lines) made.items) }
 {
     let states = states_of(alloc, &job.board.subs)?;
     let (owners, seat) = Owners::open(alloc, states)?;
     let count = job.lines.len();
-    lines_up_to(rt, alloc, &owners, seat, job, count, gate)
+    lines_up_to(rt, alloc, &owners, seat, job, count, stream)
 }
 
-/// A line that has run: its block, and the reader of its ring where it is a `go` line.
-impl<'a> FromLine<'a> for LineDone<'a> {
-    ghost use Rattle.cm_run.specs.Ran.{LineRan, as_list};
-
-    ghost takes = { λ _. Unit {0} };
-
-    ghost gives = { λ board signals line done. LineRan board signals line done.block.items (as_list done.reader) };
-
-    fn from_line<R: Threads + Wait + Sync, G: Gate + Sync>(
-        rt: &R,
-        alloc: Global,
-        board: &'a BoardDesc,
-        signals: &'a Signals,
-        line: &'a RunLine,
-        gate: &G,
-        who: u32,
-    ) -> Result<LineDone<'a>, NoMemory> {
-        let plan = plan_of(board, signals, line);
-        match line {
-            RunLine::Go {
-                mode,
-                access,
-                take,
+// Streams a line, and makes its block.
+fn one_line<'a, R: Threads + Wait + Sync, G: Gate + Sync>(
+    rt: &R,
+    alloc: Global,
+    board: &'a BoardDesc,
+    signals: &'a Signals,
+    line: &'a RunLine,
+    gate: &G,
+    who: u32,
+) -> Result<LineDone<'a>, NoMemory>
+    requires { CanRun board.now signals.now line.now }
+    ensures { IfOk result (λ d. LineRan board.now signals.now line.now d.block.items (as_list d.reader)) }
+{
+    let plan = plan_of(board, signals, line);
+    match line {
+        RunLine::Go {
+            mode,
+            access,
+            take,
+            cmd,
+            ..
+        } => {
+            let go = Go {
+                plan,
                 cmd,
-                ..
-            } => {
-                let go = Go {
-                    plan,
-                    cmd,
-                    mode: *mode,
-                    access: *access,
-                    take: *take,
-                };
-                go_line(rt, alloc, go, gate, who)
-            }
-            RunLine::Drive { values, cmd, .. } => {
-                let drive = Drive {
-                    plan,
-                    cmd,
-                    values: values.as_slice(),
-                };
-                drive_line(rt, alloc, line.sub(), drive, gate, who)
-            }
+                mode: *mode,
+                access: *access,
+                take: *take,
+            };
+            go_line(rt, alloc, go, gate, who)
+        }
+        RunLine::Drive { values, cmd, .. } => {
+            let drive = Drive {
+                plan,
+                cmd,
+                values: values.as_slice(),
+            };
+            drive_line(rt, alloc, line.sub(), drive, gate, who)
         }
     }
+}
+
+// The same of the line at a place.
+fn line_at<'a, R: Threads + Wait + Sync, G: Gate + Sync>(
+    rt: &R,
+    alloc: Global,
+    job: &'a RunJob,
+    place: usize,
+    gate: &G,
+) -> Result<LineDone<'a>, NoMemory>
+    requires { place < length job.now.lines }
+    ensures { IfSome (slice_get job.now.lines place) (λ line. IfOk result (λ d. LineRan job.now.board job.now.signals line d.block.items (as_list d.reader))) }
+{
+    let line = &job.lines[place];
+    one_line(
+        rt,
+        alloc,
+        &job.board,
+        &job.signals,
+        line,
+        gate,
+        place as u32,
+    )
+}
+
+// Streams the lines beside each other, and makes their blocks.
+fn run_lines<'a, R: Threads + Wait + Sync, G: Gate + Sync>(
+    rt: &R,
+    alloc: Global,
+    job: &'a RunJob,
+    gate: &G,
+) -> Result<Vec<LineDone<'a>>, NoMemory>
+    ensures { IfOk result (λ made. AllZip (λ line d. LineRan job.now.board job.now.signals line d.block.items (as_list d.reader)) job.now.lines made.items) }
+{
+    let stream = move |place: usize| -> Result<LineDone<'_>, NoMemory>
+        requires { place < length job.now.lines }
+        ensures { IfSome (slice_get job.entry.now.lines place) (λ line. IfOk result (λ d. LineRan job.entry.now.board job.entry.now.signals line d.block.items (as_list d.reader))) }
+    { line_at(rt, alloc, job, place, gate) };
+    stream_lines(rt, alloc, job, &stream)
 }
 
 /// Runs the lines of a job beside each other, each with a board, a munger and a client on threads of
 /// their own over a ring of its own, and answers after all have ended: the text, and for each `go`
 /// line the reader of its ring, which found the end that the text says.
-#[tactic(auto, using(crate::proofs::Order::have_run, crate::proofs::Order::text_of_run))]
 pub fn run_job<'a, R: Threads + Wait + Sync, G: Gate + Sync>(
     rt: &R,
     alloc: Global,
@@ -100,6 +133,6 @@ pub fn run_job<'a, R: Threads + Wait + Sync, G: Gate + Sync>(
     ensures text { IfOk result (λ r. IsRunText job.now.board job.now.signals job.now.lines r.text) }
     ensures ran { IfOk result (λ r. HaveRun job.now.board job.now.signals job.now.lines r.text r.readers.items) }
 {
-    let lines = stream_lines(rt, alloc, job, gate)?;
+    let lines = run_lines(rt, alloc, job, gate)?;
     all_ran(alloc, lines)
 }

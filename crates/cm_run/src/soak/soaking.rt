@@ -5,10 +5,10 @@ ghost use Rattle.cm_run.specs.SoakJob.{soak_board, soak_job, soak_lines, soak_si
 ghost use Rattle.cm_run.specs.Soak.{soak_parts};
 ghost use Rattle.cm_run.specs.SoakSums as spec;
 
-use crate::running::stream_lines;
 use crate::soak::part::{Part, Soaked, summary_of};
-use crate::soak::summing::Summed;
+use crate::soak::summing::{Summed, summed_lines};
 use cm_base::gate::Gate;
+use cm_base::prover::shows;
 use cm_base::transfer::NoMemory;
 use cm_expand::plan::Plan;
 use cm_job::job::RunJob;
@@ -50,7 +50,7 @@ pub fn sum_lines<'a, R: Threads + Wait + Sync, G: Gate + Sync>(
     ensures parts { IfOk result (λ s. s.summary.parts ≡ spec.parts_of job.now.board job.now.signals job.now.lines) }
     ensures readers { IfOk result (λ s. spec.AreWhole job.now.board job.now.signals job.now.lines s.readers.items) }
 {
-    let lines = stream_lines(rt, alloc, job, gate)?;
+    let lines = summed_lines(rt, alloc, job, gate)?;
     let (parts, readers) = apart(alloc, lines)?;
     let summary = summary_of(&parts);
     Ok(Soaked { summary, readers })
@@ -70,6 +70,7 @@ pub fn soak<'a, R: Threads + Wait + Sync, G: Gate + Sync>(
     ensures parts { IfOk result (λ s. s.summary.parts ≡ soak_parts n) }
     ensures readers { IfOk result (λ s. spec.AreWhole soak_board soak_signals (soak_lines n) s.readers.items) }
 {
-    let _ = n;
+    // The number is here for the contract alone: the job stands for it.
+    shows(&n);
     sum_lines(rt, alloc, job, gate)
 }

@@ -1,10 +1,13 @@
 // One line's stream, whose samples are summed.
-ghost use Rattle.std.specs.Prelude.{◌≡◌, IfOk, None};
+ghost use Rattle.std.specs.Prelude.{◌≡◌, ◌<◌, length, slice_get, IfOk, IfSome, None};
+ghost use Rattle.std.specs.List.{All, AllZip};
 ghost use Rattle.cm_expand.specs.PlanView.{plan_text};
 ghost use Rattle.cm_client.specs.Going.{IsGo};
 ghost use Rattle.cm_run.specs.SoakSums as spec;
+ghost use Rattle.cm_job.specs.Calls as calls;
+ghost use Rattle.cm_job.specs.RunLines.{CanRun};
 
-use crate::from_line::FromLine;
+use crate::running::stream_lines;
 use crate::soak::part::Part;
 use crate::soak::sum::Sum;
 use cm_base::gate::Gate;
@@ -13,6 +16,7 @@ use cm_board::board::BoardDesc;
 use cm_client::going::{Go, stream_go};
 use cm_expand::call::plan_of;
 use cm_expand::plan::Plan;
+use cm_job::job::RunJob;
 use cm_job::line::{Mode, RunLine};
 use cm_ring::reader::Reader;
 use cm_signal::signals::Signals;
@@ -47,43 +51,79 @@ pub fn soak_go<'a, R: Threads + Wait + Sync, G: Gate + Sync>(
     })
 }
 
-/// A paced line whose client takes all samples.
-impl<'a> FromLine<'a> for Summed<'a> {
-    ghost use Rattle.cm_run.specs.SoakSums.{HasSummed, IsSoakLine};
-    ghost use Rattle.cm_job.specs.Calls as calls;
-
-    ghost takes = { IsSoakLine };
-
-    ghost gives = { λ board signals line summed. HasSummed (calls.plan_of board signals line) summed.part summed.reader };
-
-    fn from_line<R: Threads + Wait + Sync, G: Gate + Sync>(
-        rt: &R,
-        alloc: Global,
-        board: &'a BoardDesc,
-        signals: &'a Signals,
-        line: &'a RunLine,
-        gate: &G,
-        who: u32,
-    ) -> Result<Summed<'a>, NoMemory> {
-        let plan = plan_of(board, signals, line);
-        match line {
-            RunLine::Go {
-                mode,
-                access,
-                take,
+// Streams a line, and sums what its client reads.
+fn one_line<'a, R: Threads + Wait + Sync, G: Gate + Sync>(
+    rt: &R,
+    alloc: Global,
+    board: &'a BoardDesc,
+    signals: &'a Signals,
+    line: &'a RunLine,
+    gate: &G,
+    who: u32,
+) -> Result<Summed<'a>, NoMemory>
+    requires runs { CanRun board.now signals.now line.now }
+    requires soaks { spec.IsSoakLine line.now }
+    ensures { IfOk result (λ d. spec.HasSummed (calls.plan_of board.now signals.now line.now) d.part d.reader) }
+{
+    let plan = plan_of(board, signals, line);
+    match line {
+        RunLine::Go {
+            mode,
+            access,
+            take,
+            cmd,
+            ..
+        } => {
+            let go = Go {
+                plan,
                 cmd,
-                ..
-            } => {
-                let go = Go {
-                    plan,
-                    cmd,
-                    mode: *mode,
-                    access: *access,
-                    take: *take,
-                };
-                soak_go(rt, alloc, go, gate, who)
-            }
-            RunLine::Drive { .. } => unreachable!(),
+                mode: *mode,
+                access: *access,
+                take: *take,
+            };
+            soak_go(rt, alloc, go, gate, who)
         }
+        RunLine::Drive { .. } => unreachable!(),
     }
+}
+
+// The same of the line at a place.
+fn line_at<'a, R: Threads + Wait + Sync, G: Gate + Sync>(
+    rt: &R,
+    alloc: Global,
+    job: &'a RunJob,
+    place: usize,
+    gate: &G,
+) -> Result<Summed<'a>, NoMemory>
+    requires place { place < length job.now.lines }
+    requires soaks { All spec.IsSoakLine job.now.lines }
+    ensures { IfSome (slice_get job.now.lines place) (λ line. IfOk result (λ d. spec.HasSummed (calls.plan_of job.now.board job.now.signals line) d.part d.reader)) }
+{
+    let line = &job.lines[place];
+    one_line(
+        rt,
+        alloc,
+        &job.board,
+        &job.signals,
+        line,
+        gate,
+        place as u32,
+    )
+}
+
+/// Streams the lines of a job beside each other, and sums what their clients read.
+pub(crate) fn summed_lines<'a, R: Threads + Wait + Sync, G: Gate + Sync>(
+    rt: &R,
+    alloc: Global,
+    job: &'a RunJob,
+    gate: &G,
+) -> Result<Vec<Summed<'a>>, NoMemory>
+    requires { All spec.IsSoakLine job.now.lines }
+    ensures { IfOk result (λ made. AllZip (λ line d. spec.HasSummed (calls.plan_of job.now.board job.now.signals line) d.part d.reader) job.now.lines made.items) }
+{
+    let stream = move |place: usize| -> Result<Summed<'_>, NoMemory>
+        requires { (place < length job.now.lines) × All spec.IsSoakLine job.now.lines }
+        ensures { IfSome (slice_get job.entry.now.lines place) (λ line. IfOk result (λ d. spec.HasSummed (calls.plan_of job.entry.now.board job.entry.now.signals line) d.part d.reader)) }
+    { line_at(rt, alloc, job, place, gate) };
+    stream_lines(rt, alloc, job, &stream)
 }
