@@ -2,8 +2,10 @@
 ghost use Rattle.std.specs.Prelude.{◌≡◌, ◌+◌, ◌<◌, ◌≤◌, ◌^◌, true, false, [], length, slice_index, take, None, IsTrue};
 ghost use Rattle.cm_client.specs.Progress.{IsSameRing};
 ghost use Rattle.cm_client.specs.Samples.{munged_plan};
+ghost use Rattle.cm_client.specs.Streamed.{EndsTruly};
 ghost use Rattle.cm_ring.specs.Roles.{IsReading};
 ghost use Rattle.cm_ring_core.specs.Lawful.{first_reader, first_writer};
+ghost use Rattle.cm_ring_core.specs.declared.view.EndKind.TheVariants.{Done};
 ghost use Rattle.cm_loop.specs.Filter.{all_filtered, filtered, AreWithin};
 ghost use Rattle.cm_loop.specs.State.{StandsFor};
 ghost use Rattle.cm_loop.specs.Work.{HasFiltered, IsLoopEnd, IsSameInput, IsSameOutput, IsSameStream};
@@ -38,6 +40,7 @@ pub fn loop_work<R: Wait + Sync, P: Planned, Q: Planned>(
     ensures of { (result.table ≡ output.table) × (result.ring ≡ output.ring) }
     ensures input { IsSameRing input.old input.new }
     ensures end { IsLoopEnd result.end input.new }
+    ensures truly { EndsTruly result }
 {
     let backoff = Backoff::new();
     let mut output = output;
@@ -64,7 +67,7 @@ pub fn loop_work<R: Wait + Sync, P: Planned, Q: Planned>(
                     waiting = move_block(input, &mut output, rule, &mut state, count);
                     step_back(&backoff, count);
                 } else if all_came(input) {
-                    return output.end(EndKind::Done);
+                    return end_whole(output);
                 } else {
                     backoff.snooze();
                 }
@@ -72,6 +75,17 @@ pub fn loop_work<R: Wait + Sync, P: Planned, Q: Planned>(
         }
     }
     unreachable!()
+}
+
+// Ends the output after its whole plan.
+fn end_whole<Q: Planned>(output: Writer<Q>) -> Closed<Q>
+    requires published { output.part.written ≡ output.part.next }
+    requires whole { output.part.written ≡ length output.ring.samples }
+    ensures of { (result.table ≡ output.table) × (result.ring ≡ output.ring) }
+    ensures end { result.end.kind ≡ Done }
+    ensures truly { EndsTruly result }
+{
+    output.end(EndKind::Done)
 }
 
 // Lets the munger get ahead after a block that wasn't full.

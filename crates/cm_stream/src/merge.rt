@@ -54,13 +54,12 @@ fn go_round<P: Planned>(streams: &mut [ScanStream<P>], first: u32, count: u32) -
 }
 
 impl<P: Planned> Merge<P> {
-    /// A merge of fresh streams, fewer than 2^32.
-    pub fn new(alloc: Global, streams: Vec<ScanStream<P>>) -> Result<Merge<P>, NoMemory>
+    /// A merge of fresh streams, fewer than 2^32. It takes no memory.
+    pub fn new(_alloc: Global, streams: Vec<ScanStream<P>>) -> Result<Merge<P>, NoMemory>
         requires fresh { All IsFresh streams.items }
         requires few { length streams.items < 2 ^ 32 }
         ensures { IfOk result (λ m. m ≡ merging streams.items None) }
     {
-        let _ = alloc;
         Ok(Merge {
             streams,
             last: None,

@@ -14,8 +14,8 @@ put-requires g c =
     waiting_there c.args.rule.now (munged_plan c.args.input.now.ring) c.stop_asked.new.self.ring.samples c.stop_asked.new.self.part.next c.loop.output.part.next c.loop.input.part.released c.in-Some-waiting.word c.loop.waiting (now ∙ (first ∙ c.requires.plan))
     i.filtered.within c.in-Some-waiting.is i.filtered.waits next
 
-pub end-requires-then-all_came-clause-kind : goal.end-requires-then-all_came-clause-kind
-end-requires-then-all_came-clause-kind g c =
+pub end_whole-requires-clause-whole : goal.end_whole-requires-clause-whole
+end_whole-requires-clause-whole g c =
     let i = c.loop.invariant in
     let written : c.stop_asked.new.self.part.written ≡ c.loop.output.part.written = ap (λ (x : Writing). x.part.written) c.stop_asked.ensures.same in
     let now : c.stop_asked.new.self.ring.samples ≡ c.loop.output.ring.samples = ap (λ (x : Writing). x.ring.samples) c.stop_asked.ensures.same in
