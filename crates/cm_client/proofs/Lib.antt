@@ -1,6 +1,6 @@
 pub mod Pieces
 mod Sources
-pub mod Whole
+pub mod AtEnd
 pub mod Wholes
 pub mod Reported
 pub mod Rings

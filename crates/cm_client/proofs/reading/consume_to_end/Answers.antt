@@ -1,7 +1,7 @@
 use Rattle.std.proofs.Common.{◌≡◌, subst, Option, Some}
 use Rattle.cm_ring_core.specs.declared.view.End.{End}
 use Rattle.cm_client.specs.Progress.{Stops}
-use Rattle.cm_client.proofs.Whole.{read_at_end, read_taken}
+use Rattle.cm_client.proofs.AtEnd.{read_at_end, read_taken}
 use Rattle.cm_client.proofs.reading.consume_to_end.Goals as goal
 
 pub returns-in-Ok-Some-clause-read : goal.returns-in-Ok-Some-clause-read
