@@ -25,8 +25,8 @@ use std::thread::Threads;
 ///
 /// Whatever the input says and whatever the order of the threads' steps, status 0 comes with exactly
 /// the text of the definitions, and with `run` with one of the texts that they allow: each sample in
-/// it once and munged once, in trigger order, and an overrun only where a ring of a free line was
-/// full.
+/// it once and munged once, in trigger order, and an overrun only in a free line, after as many samples
+/// as its buffer holds or more. A soak leaves the source as it is, however it ends.
 pub fn comedi<R: Threads + Wait + Sync, S: Source, K: Sink, G: Gate + Sync>(
     rt: &R,
     alloc: Global,
@@ -39,6 +39,7 @@ pub fn comedi<R: Threads + Wait + Sync, S: Source, K: Sink, G: Gate + Sync>(
     ensures outcome { IfSome (S.left source.old) (λ bytes.
         Ends result (call_of words.now) words.now bytes (K.text sink.old) (K.text sink.new)) }
     ensures soak { (n : ℕ) → call_of words.now ≡ Call.Soak n → SoakConcludes result n (K.text sink.old) (K.text sink.new) }
+    ensures soak_unread { (n : ℕ) → call_of words.now ≡ Call.Soak n → (S.left source.new ≡ S.left source.old) × (S.faults source.new ≡ S.faults source.old) }
     ensures stands { result ≡ Status.Done → Stands (call_of words.now) (S.left source.old) (S.left source.new) }
 
     // Arguments that call for nothing, also over a source that reports nothing.
