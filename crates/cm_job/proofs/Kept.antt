@@ -19,7 +19,8 @@ use Rattle.cm_test.specs.Questions.{tested}
 use Rattle.cm_expand.specs.Totals.{has_room, length_of, length_of_all}
 use Rattle.cm_expand.proofs.Rooms.{length-more}
 use Rattle.cm_job.specs.Calls.{CanCall, cmd_of, plan_of}
-use Rattle.cm_job.specs.Forms.{access_of, asked_of, drive_head, drive_line, four_before_command, go_head, go_line, keyed, line_key, mode_of, numbers_of, take_of, two_before_command}
+use Rattle.cm_job.specs.Forms.{access_of, asked_of, drive_head, drive_line, go_head, go_line, keyed, line_key, mode_of, numbers_of, take_of}
+use Rattle.cm_job.specs.Head.{before_commands, word_at}
 use Rattle.cm_job.specs.RunLines.{AreRunLines, CanRun, HasLimits}
 use Rattle.cm_job.specs.RunPart.{accepted, are_codes, directed, directed_sub, drive_of, is_directed, line_after, line_of, next_line, taken_line, values_of}
 use Rattle.cm_job.specs.Sessions.{takes}
@@ -41,13 +42,13 @@ IsAsked horizon (asks.Drive t0 numbers cmd) = (t0 ≤ horizon) × (1 ≤ length 
 
 head-from : (horizon : ℕ) (words : List (List ℕ)) (h : Mode × Access × ℕ × Option ℕ) → go_head horizon words ≡ Ok h → (h.2 ≤ horizon) × IsTake h.3
 head-from horizon words h e =
-    let w = then-from (four_before_command words) _ h e in
-    let m = then-from (mode_of w.0.0) _ h w.2 in
-    let a = then-from (access_of w.0.1) _ h m.2 in
-    let t = then-from (number_in 0 horizon w.0.2) _ h a.2 in
-    let k = then-from (take_of w.0.3) _ h t.2 in
-    let time = number-from 0 horizon w.0.2 t.0 t.1 in
-    let most = take-from w.0.3 k.0 k.1 in
+    let w = then-from (before_commands 4 8 words) _ h e in
+    let m = then-from (mode_of (word_at w.0 0)) _ h w.2 in
+    let a = then-from (access_of (word_at w.0 1)) _ h m.2 in
+    let t = then-from (number_in 0 horizon (word_at w.0 2)) _ h a.2 in
+    let k = then-from (take_of (word_at w.0 3)) _ h t.2 in
+    let time = number-from 0 horizon (word_at w.0 2) t.0 t.1 in
+    let most = take-from (word_at w.0 3) k.0 k.1 in
     subst (λ (x : Mode × Access × ℕ × Option ℕ). (x.2 ≤ horizon) × IsTake x.3) (same-ok (m.0, a.0, t.0, k.0) h k.2) (time.1, most)
 
 go-from : (horizon : ℕ) (line : LineText) (asked : Asked) → go_line horizon line ≡ Ok asked → IsAsked horizon asked
@@ -61,10 +62,10 @@ drive-from horizon line asked e =
     let h = then-from (drive_head horizon (drop 1 line.words)) _ asked e in
     let n = then-from (numbers_of h.0.1) _ asked h.2 in
     let c = then-from (command_of (drop 3 line.words)) _ asked n.2 in
-    let w = then-from (two_before_command (drop 1 line.words)) _ h.0 h.1 in
-    let t = then-from (number_in 0 horizon w.0.0) _ h.0 w.2 in
-    let time = number-from 0 horizon w.0.0 t.0 t.1 in
-    let same : t.0 ≡ h.0.0 = ap (λ (x : ℕ × List ℕ). x.0) (same-ok (t.0, w.0.1) h.0 t.2) in
+    let w = then-from (before_commands 2 8 (drop 1 line.words)) _ h.0 h.1 in
+    let t = then-from (number_in 0 horizon (word_at w.0 0)) _ h.0 w.2 in
+    let time = number-from 0 horizon (word_at w.0 0) t.0 t.1 in
+    let same : t.0 ≡ h.0.0 = ap (λ (x : ℕ × List ℕ). x.0) (same-ok (t.0, (word_at w.0 1)) h.0 t.2) in
     subst (IsAsked horizon) (same-ok (asks.Drive h.0.0 n.0 c.0) asked c.2) (subst (λ (k : ℕ). k ≤ horizon) same time.1, numbers-some h.0.1 n.0 n.1)
 
 asked-from : (horizon : ℕ) (line : LineText) (asked : Asked) → asked_of horizon line ≡ Ok asked → IsAsked horizon asked

@@ -15,7 +15,8 @@ use Rattle.cm_signal.specs.Signals.{SignalsText}
 use Rattle.cm_job.proofs.Kept.{accepted-from}
 use Rattle.cm_job.proofs.Steps.{number-from, same-ok, then-from}
 use Rattle.cm_job.specs.RunPart.{accepted}
-use Rattle.cm_job.specs.LoopForms.{after_loop, asked_of, loop_head, three_before_commands}
+use Rattle.cm_job.specs.Head.{before_commands, word_at}
+use Rattle.cm_job.specs.LoopForms.{after_loop, asked_of, loop_head}
 use Rattle.cm_job.specs.LoopJob.{IsCalled, IsLoopJob}
 use Rattle.cm_job.specs.Later.{are_later}
 use Rattle.cm_job.specs.LoopPart.{called_of, input_at, is_matched, is_short, job_of, loop_line, output_at, ruled}
@@ -23,10 +24,10 @@ use Rattle.cm_job.specs.declared.loop_asked.Asked.{Asked}
 use Rattle.cm_job.specs.declared.loop_line.LoopLine.{LoopLine}
 
 -- the times and the window are within their limits
-record IsAsked (horizon : ℕ) (a : Asked) : Type 0 where
-  t_in : a.t_in ≤ horizon
-  t_out : a.t_out ≤ horizon
-  window : (1 ≤ a.window) × (a.window ≤ 16)
+pub record IsAsked (horizon : ℕ) (a : Asked) : Type 0 where
+  pub t_in : a.t_in ≤ horizon
+  pub t_out : a.t_out ≤ horizon
+  pub window : (1 ≤ a.window) × (a.window ≤ 16)
 
 IsHead : ℕ → ℕ × ℕ × ℕ → Type 0
 IsHead horizon h = (h.0 ≤ horizon) × (h.1 ≤ horizon) × (1 ≤ h.2) × (h.2 ≤ 16)
@@ -35,16 +36,16 @@ head-from : (horizon : ℕ) (line : LineText) (h : ℕ × ℕ × ℕ) → loop_h
 unfolding IsHead
 head-from horizon line h e =
     let k = then-from (after_loop line) _ h e in
-    let w = then-from (three_before_commands k.0) _ h k.2 in
-    let i = then-from (number_in 0 horizon w.0.0) _ h w.2 in
-    let o = then-from (number_in 0 horizon w.0.1) _ h i.2 in
-    let n = then-from (number_in 1 16 w.0.2) _ h o.2 in
-    let t_in = number-from 0 horizon w.0.0 i.0 i.1 in
-    let t_out = number-from 0 horizon w.0.1 o.0 o.1 in
-    let window = number-from 1 16 w.0.2 n.0 n.1 in
+    let w = then-from (before_commands 3 16 k.0) _ h k.2 in
+    let i = then-from (number_in 0 horizon (word_at w.0 0)) _ h w.2 in
+    let o = then-from (number_in 0 horizon (word_at w.0 1)) _ h i.2 in
+    let n = then-from (number_in 1 16 (word_at w.0 2)) _ h o.2 in
+    let t_in = number-from 0 horizon (word_at w.0 0) i.0 i.1 in
+    let t_out = number-from 0 horizon (word_at w.0 1) o.0 o.1 in
+    let window = number-from 1 16 (word_at w.0 2) n.0 n.1 in
     subst (IsHead horizon) (same-ok (i.0, o.0, n.0) h n.2) (t_in.1, t_out.1, window.0, window.1)
 
-asked-from : (horizon : ℕ) (line : LineText) (a : Asked) → asked_of horizon line ≡ Ok a → IsAsked horizon a
+pub asked-from : (horizon : ℕ) (line : LineText) (a : Asked) → asked_of horizon line ≡ Ok a → IsAsked horizon a
 unfolding IsHead
 asked-from horizon line a e =
     let h = then-from (loop_head horizon line) _ a e in

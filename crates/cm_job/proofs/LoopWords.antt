@@ -1,10 +1,13 @@
 -- Some of the words of a line.
-use Rattle.std.proofs.Common.{◌≡◌, ℕ, inl, inr, min, Bool, true, false, List, length, map, take, drop, refl, sym, ap, ◌∙◌, arith}
-use Rattle.std.specs.Prelude.{◌||◌, IsTrue}
+use Rattle.std.proofs.Common.{◌≡◌, ℕ, ◌+◌, inl, inr, min, Bool, true, false, List, length, map, take, drop, Result, Ok, Err, refl, sym, ap, ◌∙◌, arith}
+use Rattle.std.specs.Prelude.{◌||◌, ◌==◌, IsTrue, if◌then◌else◌}
 use Rattle.std.specs.List.{list_all}
-use Rattle.std.proofs.lemmas.Bool.{and_parts, cases_lt}
-use Rattle.std.proofs.lemmas.List.{drop-map, drop_all, take-append-drop, take-map, take_all}
+use Rattle.std.proofs.lemmas.Bool.{and_parts, cases_lt, eq-eqb}
+use Rattle.std.proofs.lemmas.List.{drop-map, drop_all, length-map, take-append-drop, take-map, take_all}
 use Rattle.std.proofs.lemmas.List.Folds.{list_all-append}
+use Rattle.cm_base.specs.declared.faults.Fault.{Fault}
+use Rattle.cm_base.specs.declared.faults.Fault.TheVariants.{BadLine}
+use Rattle.cm_job.specs.Head.{before_commands}
 
 all_drop : {X : Type 0} (p : X → Bool) (n : ℕ) (xs : List X) → list_all p xs ≡ true → list_all p (drop n xs) ≡ true
 all_drop p n xs all =
@@ -40,3 +43,10 @@ take_min n xs = elim (cases_lt n (length xs)) [
 -- a part that is cut to what is there
 pub part_between : {X : Type 0} (count from : ℕ) (xs : List X) → take (min count (length (drop (min from (length xs)) xs))) (drop (min from (length xs)) xs) ≡ take count (drop from xs)
 part_between count from xs = take_min count (drop (min from (length xs)) xs) ∙ ap (take count) (drop_min from xs)
+
+-- the words before those of the commands are seen as such
+pub before_seen : {X : Type 0} (view : X → List ℕ) (count rest : ℕ) (xs : List X) → length xs ≡ count + rest → (let r : Result (List (List ℕ)) Fault = Ok (map view (take count xs)) in r) ≡ before_commands count rest (map view xs)
+before_seen view count rest xs long =
+    let test : (length (map view xs) == count + rest) ≡ true = eq-eqb (length (map view xs)) (count + rest) (length-map xs view ∙ long) in
+    let pick : Bool → Result (List (List ℕ)) Fault = λ b. if b then Ok (take count (map view xs)) else Err BadLine in
+    ap (λ (words : List (List ℕ)). let r : Result (List (List ℕ)) Fault = Ok words in r) (sym (take-map view count xs)) ∙ sym (ap pick test)

@@ -1,10 +1,9 @@
 -- The session part of `expand`.
-use Rattle.std.specs.Prelude.{ℕ, ◌==◌, List, [], length, drop, slice_index_or, codes, Result, Ok, Err, if◌then◌else◌}
+use Rattle.std.specs.Prelude.{ℕ, List, [], drop, codes, Result, Ok}
 use Rattle.cm_base.specs.Lines.{LineText}
 use Rattle.cm_base.specs.Reading.{◌>>=◌, read_each}
 use Rattle.cm_base.specs.Words.{limited, number_in}
 use Rattle.cm_base.specs.declared.faults.Fault.{Fault}
-use Rattle.cm_base.specs.declared.faults.Fault.TheVariants.{BadLine}
 use Rattle.cm_base.specs.declared.faults.Refused.{Refused}
 use Rattle.cm_board.specs.Board.{BoardText}
 use Rattle.cm_cmd.specs.Command.{CmdText}
@@ -14,16 +13,12 @@ use Rattle.cm_test.specs.Accepting.{accepted}
 use Rattle.cm_expand.specs.Calls.{CanCallAt, plan_at}
 use Rattle.cm_expand.specs.Plan.{PlanText}
 use Rattle.cm_expand.specs.Totals.{has_room, length_of, length_of_all}
-use Rattle.cm_job.specs.Only.{only_word}
+use Rattle.cm_job.specs.Head.{before_commands, only_word, word_at}
 use Rattle.cm_job.specs.declared.expand_lines.ExpandLine.{ExpandLine}
 
--- the second of ten words
-abbrev pub second_of_ten : List (List ℕ) → Result (List ℕ) Fault
-second_of_ten words = if length words == 10 then Ok (slice_index_or words 1 []) else Err BadLine
-
--- the time of an `expand` line, which has ten words
+-- the time of an `expand` line, which stands before its command
 abbrev pub expand_time : ℕ → LineText → Result ℕ Fault
-expand_time horizon line = only_word (codes "expand") line >>= λ u. second_of_ten line.words >>= λ word. number_in 0 horizon word
+expand_time horizon line = only_word (codes "expand") line >>= λ u. before_commands 2 8 line.words >>= λ w. number_in 0 horizon (word_at w 1)
 
 -- the time and the command of such a line
 abbrev pub expand_words : ℕ → LineText → Result (ℕ × CmdText) Fault

@@ -1,5 +1,5 @@
 -- The forms of a run's lines: what each word of a line has to be, and what they ask together.
-use Rattle.std.specs.Prelude.{ℕ, ◌==◌, List, [], ◌∷◌, length, drop, codes, Option, Some, None, Result, Ok, Err, if◌then◌else◌}
+use Rattle.std.specs.Prelude.{ℕ, List, [], ◌∷◌, drop, codes, Option, Some, None, Result, Ok, Err, if◌then◌else◌}
 use Rattle.std.specs.List.{slice_split}
 use Rattle.std.specs.Str.{bytes_eq}
 use Rattle.cm_base.specs.Lines.{LineText}
@@ -10,6 +10,7 @@ use Rattle.cm_base.specs.declared.faults.Fault.TheVariants.{BadLine}
 use Rattle.cm_cmd.specs.Command.{CmdText}
 use Rattle.cm_cmd.specs.CommandText.{command_of}
 use Rattle.cm_cmd.specs.ListText.{is_byte}
+use Rattle.cm_job.specs.Head.{before_commands, word_at}
 use Rattle.cm_job.specs.declared.asked.Asked.{Asked}
 use Rattle.cm_job.specs.declared.asked.Asked.TheVariants as asks
 use Rattle.cm_job.specs.declared.asked.Key.{Key}
@@ -23,16 +24,6 @@ use Rattle.cm_job.specs.declared.line.Mode.TheVariants as modes
 abbrev pub asked_cmd : Asked → CmdText
 asked_cmd (asks.Go mode access t0 most cmd) = cmd
 asked_cmd (asks.Drive t0 numbers cmd) = cmd
-
--- the four words before the eight of a command
-abbrev pub four_before_command : List (List ℕ) → Result (List ℕ × List ℕ × List ℕ × List ℕ) Fault
-four_before_command (v ∷ w ∷ x ∷ y ∷ command) = if length command == 8 then Ok (v, w, x, y) else Err BadLine
-four_before_command words = Err BadLine
-
--- the two words before the eight of a command
-abbrev pub two_before_command : List (List ℕ) → Result (List ℕ × List ℕ) Fault
-two_before_command (v ∷ w ∷ command) = if length command == 8 then Ok (v, w) else Err BadLine
-two_before_command words = Err BadLine
 
 -- what the board does where the buffer is full
 abbrev pub mode_of : List ℕ → Result Mode Fault
@@ -53,7 +44,11 @@ numbers_of text = each_word (number_in 0 999999999999999999) [] (slice_split (is
 -- what stands between the key and the command in `go MODE READER CALL TAKE COMMAND`
 abbrev pub go_head : ℕ → Form (Mode × Access × ℕ × Option ℕ)
 go_head horizon words =
-    four_before_command words >>= λ w. mode_of w.0 >>= λ mode. access_of w.1 >>= λ access. number_in 0 horizon w.2 >>= λ t0. take_of w.3 >>= λ most.
+    before_commands 4 8 words >>= λ w.
+    mode_of (word_at w 0) >>= λ mode.
+    access_of (word_at w 1) >>= λ access.
+    number_in 0 horizon (word_at w 2) >>= λ t0.
+    take_of (word_at w 3) >>= λ most.
     Ok (mode, access, t0, most)
 
 -- `go MODE READER CALL TAKE COMMAND`
@@ -62,7 +57,7 @@ go_line horizon line = go_head horizon (drop 1 line.words) >>= λ h. command_of 
 
 -- the time and the word of the values in `drive CALL VALUES COMMAND`
 abbrev pub drive_head : ℕ → Form (ℕ × List ℕ)
-drive_head horizon words = two_before_command words >>= λ w. number_in 0 horizon w.0 >>= λ t0. Ok (t0, w.1)
+drive_head horizon words = before_commands 2 8 words >>= λ w. number_in 0 horizon (word_at w 0) >>= λ t0. Ok (t0, word_at w 1)
 
 -- `drive CALL VALUES COMMAND`
 abbrev pub drive_line : ℕ → LineText → Result Asked Fault

@@ -12,6 +12,6 @@ pub mod LoopJobView
 pub mod Later
 pub mod LoopPart
 pub mod Pace
-pub mod Only
+pub mod Head
 pub mod TestLines
 pub mod ExpandLines

@@ -1,31 +1,25 @@
 -- The form of a `loop` line: what each of its words has to be.
-use Rattle.std.specs.Prelude.{ℕ, ◌==◌, List, ◌∷◌, length, take, drop, codes, Result, Ok, Err, if◌then◌else◌}
+use Rattle.std.specs.Prelude.{ℕ, List, take, drop, codes, Result, Ok}
 use Rattle.cm_base.specs.Lines.{LineText}
-use Rattle.cm_base.specs.Parts.{begins}
 use Rattle.cm_base.specs.Reading.{◌>>=◌}
 use Rattle.cm_base.specs.Words.{number_in}
 use Rattle.cm_base.specs.declared.faults.Fault.{Fault}
-use Rattle.cm_base.specs.declared.faults.Fault.TheVariants.{BadLine, Missing}
 use Rattle.cm_cmd.specs.CommandText.{command_of}
+use Rattle.cm_job.specs.Head.{before_commands, only_word, word_at}
 use Rattle.cm_job.specs.declared.loop_asked.Asked.{Asked}
 
 -- the words after the one word that may begin the line
 abbrev pub after_loop : LineText → Result (List (List ℕ)) Fault
-after_loop line = if line.bad then Err BadLine else if begins (codes "loop") line then Ok (drop 1 line.words) else Err Missing
-
--- the three words before the eight of each command
-abbrev pub three_before_commands : List (List ℕ) → Result (List ℕ × List ℕ × List ℕ) Fault
-three_before_commands (v ∷ w ∷ x ∷ commands) = if length commands == 16 then Ok (v, w, x) else Err BadLine
-three_before_commands words = Err BadLine
+after_loop line = only_word (codes "loop") line >>= λ u. Ok (drop 1 line.words)
 
 -- what stands before the commands in `loop CALL_IN CALL_OUT WINDOW INPUT OUTPUT`: both times are up to the horizon, and the window is 1 to 16
 abbrev pub loop_head : ℕ → LineText → Result (ℕ × ℕ × ℕ) Fault
 loop_head horizon line =
     after_loop line >>= λ words.
-    three_before_commands words >>= λ w.
-    number_in 0 horizon w.0 >>= λ t_in.
-    number_in 0 horizon w.1 >>= λ t_out.
-    number_in 1 16 w.2 >>= λ window.
+    before_commands 3 16 words >>= λ w.
+    number_in 0 horizon (word_at w 0) >>= λ t_in.
+    number_in 0 horizon (word_at w 1) >>= λ t_out.
+    number_in 1 16 (word_at w 2) >>= λ window.
     Ok (t_in, t_out, window)
 
 -- what the words of a line ask

@@ -6,7 +6,7 @@ use Rattle.cm_base.specs.declared.faults.Fault.{Fault}
 use Rattle.cm_base.specs.declared.faults.Refused.{Refused}
 use Rattle.cm_cmd.specs.Command.{CmdText}
 use Rattle.cm_cmd.specs.CommandText.{command_of}
-use Rattle.cm_job.specs.Only.{only_word}
+use Rattle.cm_job.specs.Head.{only_word}
 
 -- the command of a `test` line
 abbrev pub test_line : LineText → Result CmdText Fault

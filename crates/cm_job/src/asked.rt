@@ -7,6 +7,7 @@ ghost use Rattle.cm_base.specs.Reading.{at_line, seen};
 ghost use Rattle.cm_cmd.specs.ListText.{is_byte};
 ghost use Rattle.cm_job.specs.Forms as spec;
 
+use crate::head::{COMMAND, before_commands, word_at};
 use crate::line::{Access, Mode};
 use cm_base::faults::{Fault, ReadStop};
 use cm_base::lines::Line;
@@ -117,30 +118,12 @@ fn read_go(alloc: Global, horizon: u64, line: &Line<'_>) -> Result<Asked, ReadSt
 fn go_head(horizon: u64, words: &[&[u8]]) -> Result<(Mode, Access, u64, Option<u64>), Fault>
     ensures { result ≡ spec.go_head horizon (map (λ word. word.now) words.now) }
 {
-    let (mode, access, t0, take) = four_before_command(words)?;
-    let mode = mode_of(mode)?;
-    let access = access_of(access)?;
-    let t0 = time_in(t0, 0, horizon)?;
-    let take = take_of(take)?;
+    let words = before_commands(words, 4, COMMAND)?;
+    let mode = mode_of(word_at(words, 0))?;
+    let access = access_of(word_at(words, 1))?;
+    let t0 = time_in(word_at(words, 2), 0, horizon)?;
+    let take = take_of(word_at(words, 3))?;
     Ok((mode, access, t0, take))
-}
-
-// The four words before the eight of a command.
-fn four_before_command<'a>(
-    words: &[&'a [u8]],
-) -> Result<(&'a [u8], &'a [u8], &'a [u8], &'a [u8]), Fault>
-    ensures { seen (λ w. (w.0.now, w.1.now, w.2.now, w.3.now)) result ≡ spec.four_before_command (map (λ word. word.now) words.now) }
-{
-    match words {
-        [v, w, x, y, command @ ..] => {
-            if command.len() == 8 {
-                Ok((v, w, x, y))
-            } else {
-                Err(Fault::BadLine)
-            }
-        }
-        _ => Err(Fault::BadLine),
-    }
 }
 
 // What the board does where the buffer is full.
@@ -198,25 +181,9 @@ fn read_drive(alloc: Global, horizon: u64, line: &Line<'_>) -> Result<Asked, Rea
 fn drive_head<'a>(horizon: u64, words: &[&'a [u8]]) -> Result<(u64, &'a [u8]), Fault>
     ensures { seen (λ w. (w.0, w.1.now)) result ≡ spec.drive_head horizon (map (λ word. word.now) words.now) }
 {
-    let (t0, values) = two_before_command(words)?;
-    let t0 = time_in(t0, 0, horizon)?;
-    Ok((t0, values))
-}
-
-// The two words before the eight of a command.
-fn two_before_command<'a>(words: &[&'a [u8]]) -> Result<(&'a [u8], &'a [u8]), Fault>
-    ensures { seen (λ w. (w.0.now, w.1.now)) result ≡ spec.two_before_command (map (λ word. word.now) words.now) }
-{
-    match words {
-        [v, w, command @ ..] => {
-            if command.len() == 8 {
-                Ok((v, w))
-            } else {
-                Err(Fault::BadLine)
-            }
-        }
-        _ => Err(Fault::BadLine),
-    }
+    let words = before_commands(words, 2, COMMAND)?;
+    let t0 = time_in(word_at(words, 0), 0, horizon)?;
+    Ok((t0, word_at(words, 1)))
 }
 
 // The numbers that a word says, with commas between them.

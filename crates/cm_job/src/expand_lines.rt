@@ -1,13 +1,13 @@
 // The session part of `expand`.
-ghost use Rattle.std.specs.Prelude.{◌≡◌, ◌≤◌, ◌+◌, length, map, IfOk};
+ghost use Rattle.std.specs.Prelude.{◌≡◌, ◌≤◌, ◌+◌, length, IfOk};
 ghost use Rattle.std.specs.List.{All};
 ghost use Rattle.cm_base.specs.LineView.{line_view};
 ghost use Rattle.cm_base.specs.ReadStop.{Gives};
-ghost use Rattle.cm_base.specs.Reading.{at_line, seen};
+ghost use Rattle.cm_base.specs.Reading.{at_line};
 ghost use Rattle.cm_expand.specs.Totals.{Reports, length_of, length_of_all};
 ghost use Rattle.cm_job.specs.ExpandLines as spec;
 
-use crate::only::only;
+use crate::head::{COMMAND, before_commands, only, word_at};
 use cm_base::faults::{Fault, ReadStop};
 use cm_base::lines::{Cursor, Line};
 use cm_base::words::{at_line, time_in};
@@ -117,24 +117,14 @@ fn read_words(alloc: Global, horizon: u64, line: &Line<'_>) -> Result<(u64, Cmd)
     Ok((t0, cmd))
 }
 
-// The time of a line, which has ten words.
+// The time of a line, which stands before its command.
 fn expand_time(horizon: u64, line: &Line<'_>) -> Result<u64, Fault>
     ensures value { result ≡ spec.expand_time horizon (line_view line.now) }
     ensures within { IfOk result (λ t. t ≤ horizon) }
 {
     only(b"expand", line)?;
-    time_in(second_of_ten(line.words.as_slice())?, 0, horizon)
-}
-
-// The second of ten words.
-fn second_of_ten<'a>(words: &[&'a [u8]]) -> Result<&'a [u8], Fault>
-    ensures { seen (λ w. w.now) result ≡ spec.second_of_ten (map (λ word. word.now) words.now) }
-{
-    if words.len() == 10 {
-        Ok(words[1])
-    } else {
-        Err(Fault::BadLine)
-    }
+    let words = before_commands(line.words.as_slice(), 2, COMMAND)?;
+    time_in(word_at(words, 1), 0, horizon)
 }
 
 // A line whose command its subdevice accepts.

@@ -6,9 +6,10 @@ ghost use Rattle.cm_base.specs.Reading.{at_line, seen};
 ghost use Rattle.cm_cmd.specs.CommandText.{command_of};
 ghost use Rattle.cm_job.specs.LoopForms as spec;
 
+use crate::head::{COMMAND, before_commands, only, word_at};
 use cm_base::faults::{Fault, ReadStop};
 use cm_base::lines::Line;
-use cm_base::parts::{after_key, begins};
+use cm_base::parts::after_key;
 use cm_base::words::{at_line, number_in, time_in};
 use cm_cmd::command::Cmd;
 use cm_cmd::reading::read_cmd;
@@ -18,9 +19,7 @@ use std::alloc::{AllocError, Global};
 // The most samples of a list entry in a mean.
 const MOST_WINDOW: u32 = 16;
 
-// How many words a command has, and where the two commands of a line stand.
-const COMMAND: usize = 8;
-
+// Where the two commands of a line stand.
 const INPUT_AT: usize = 4;
 
 const OUTPUT_AT: usize = INPUT_AT + COMMAND;
@@ -78,10 +77,10 @@ fn loop_head(horizon: u64, line: &Line<'_>) -> Result<(u64, u64, u32), Fault>
     ensures { result ≡ spec.loop_head horizon (line_view line.now) }
 {
     let words = after_loop(line)?;
-    let (t_in, t_out, window) = three_before_commands(words)?;
-    let t_in = time_in(t_in, 0, horizon)?;
-    let t_out = time_in(t_out, 0, horizon)?;
-    let window = number_in(window, 1, MOST_WINDOW)?;
+    let words = before_commands(words, 3, 2 * COMMAND)?;
+    let t_in = time_in(word_at(words, 0), 0, horizon)?;
+    let t_out = time_in(word_at(words, 1), 0, horizon)?;
+    let window = number_in(word_at(words, 2), 1, MOST_WINDOW)?;
     Ok((t_in, t_out, window))
 }
 
@@ -89,29 +88,8 @@ fn loop_head(horizon: u64, line: &Line<'_>) -> Result<(u64, u64, u32), Fault>
 fn after_loop<'a, 'b>(line: &'b Line<'a>) -> Result<&'b [&'a [u8]], Fault>
     ensures { seen (λ words. map (λ word. word.now) words.now) result ≡ spec.after_loop (line_view line.now) }
 {
-    if line.bad {
-        Err(Fault::BadLine)
-    } else if begins(b"loop", line) {
-        Ok(after_key(line.words.as_slice()))
-    } else {
-        Err(Fault::Missing)
-    }
-}
-
-// The three words before the eight of each command.
-fn three_before_commands<'a>(words: &[&'a [u8]]) -> Result<(&'a [u8], &'a [u8], &'a [u8]), Fault>
-    ensures { seen (λ w. (w.0.now, w.1.now, w.2.now)) result ≡ spec.three_before_commands (map (λ word. word.now) words.now) }
-{
-    match words {
-        [v, w, x, commands @ ..] => {
-            if commands.len() == 16 {
-                Ok((v, w, x))
-            } else {
-                Err(Fault::BadLine)
-            }
-        }
-        _ => Err(Fault::BadLine),
-    }
+    only(b"loop", line)?;
+    Ok(after_key(line.words.as_slice()))
 }
 
 // The input's command, which stands before the output's.

@@ -6,7 +6,7 @@ ghost use Rattle.cm_base.specs.ReadStop.{Gives};
 ghost use Rattle.cm_base.specs.Reading.{at_line};
 ghost use Rattle.cm_job.specs.TestLines.{test_line, tests_of};
 
-use crate::only::only;
+use crate::head::only;
 use cm_base::faults::ReadStop;
 use cm_base::lines::{Cursor, Line};
 use cm_base::words::at_line;

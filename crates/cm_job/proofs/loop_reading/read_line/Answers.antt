@@ -1,17 +1,32 @@
 use Rattle.std.proofs.Common.{Result, ap, sym, ◌∙◌, subst}
 use Rattle.cm_base.specs.LineView.{line_view}
 use Rattle.cm_base.specs.ReadStop.{Gives}
+use Rattle.cm_base.proofs.Values.{at_line_ok}
 use Rattle.cm_base.specs.Reading.{at_line}
 use Rattle.cm_base.specs.declared.faults.Fault.{Fault}
 use Rattle.cm_base.specs.declared.faults.Refused.{Refused}
 use Rattle.cm_job.proofs.Steps.{kept-by, then-reads, then-stops}
 use Rattle.cm_signal.proofs.Parts.{gives_err}
-use Rattle.cm_job.proofs.LoopKept.{loop-from}
+use Rattle.cm_job.proofs.LoopKept.{asked-from, loop-from}
 use Rattle.cm_job.specs.LoopForms.{asked_of}
 use Rattle.cm_job.specs.LoopJob.{IsLoopJob}
 use Rattle.cm_job.specs.LoopPart as spec
 use Rattle.cm_job.specs.declared.loop_line.LoopLine.{LoopLine}
 use Rattle.cm_job.proofs.loop_reading.read_line.Goals as goal
+
+pub accept_loop-requires-clause-t_in : goal.accept_loop-requires-clause-t_in
+accept_loop-requires-clause-t_in c =
+    let horizon = c.args.signals.now.horizon in
+    let line = line_view c.args.line.now in
+    let asked = c.in_ok-asked.asked in
+    (asked-from horizon line asked (at_line_ok line.number (asked_of horizon line) asked c.in_ok-asked.ensures.value)).t_in
+
+pub accept_loop-requires-clause-t_out : goal.accept_loop-requires-clause-t_out
+accept_loop-requires-clause-t_out c =
+    let horizon = c.args.signals.now.horizon in
+    let line = line_view c.args.line.now in
+    let asked = c.in_ok-asked.asked in
+    (asked-from horizon line asked (at_line_ok line.number (asked_of horizon line) asked c.in_ok-asked.ensures.value)).t_out
 
 pub returns-in_err-asked-clause-value : goal.returns-in_err-asked-clause-value
 returns-in_err-asked-clause-value c =
