@@ -1,16 +1,20 @@
 -- What a stream of one command gives.
-use Rattle.std.specs.Prelude.{◌≡◌, ℕ, ◌≤◌, true, List, length, Option, Some, None}
+use Rattle.std.specs.Prelude.{◌≡◌, ℕ, ◌≤◌, true, List, length, Option, Some, None, MatchOption}
 use Rattle.cm_ring_core.specs.declared.view.RingConstants.{RingConstants}
 use Rattle.cm_ring_core.specs.declared.view.End.{End}
 use Rattle.cm_ring_core.specs.declared.view.EndKind.TheVariants.{Cancelled, Done}
 use Rattle.cm_ring_core.specs.Lawful.{MayEndAs, IsFoundEnd, first_reader}
-use Rattle.cm_ring.specs.Roles.{Reading, Closing}
+use Rattle.cm_ring.specs.Roles.{Reading, Munging, Closing}
 use Rattle.cm_client.specs.Samples.{first_munged, munged_plan}
 use Rattle.cm_client.specs.Progress.{up_to, IsTaken}
 
 -- the writer's end is true of its last look and of the stop that it saw
 abbrev pub EndsTruly : Closing → Type 0
 EndsTruly c = MayEndAs c.ring c.part.at c.part.freed c.part.saw_stop c.end.kind c.end.count
+
+-- the end was found, and all samples up to it are munged
+abbrev pub HasMungedAll : Munging → Type 0
+HasMungedAll m = MatchOption m.part.found ⊥ (λ e. m.part.munged ≡ e.count)
 
 -- a reader that has neither read nor mapped nor asked for anything
 abbrev pub IsFresh : Reading → Type 0

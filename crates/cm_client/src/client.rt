@@ -6,8 +6,8 @@ ghost use Rattle.cm_client.specs.Streamed.{IsFresh, StreamsTo};
 use crate::consuming::Consumer;
 use crate::munging::{OwnMunger, munge_work};
 use crate::reading::consume_to_end;
-use crate::starting::Started;
 use crate::waiting::Waiting;
+use crate::workers::{AllMunged, with_worker};
 use cm_base::gate::Gate;
 use cm_base::transfer::NoMemory;
 use cm_ring::munger::Munger;
@@ -16,7 +16,7 @@ use cm_ring_core::view::End;
 use cm_sample::planned::Planned;
 use crossbeam_utils::Backoff;
 use std::sync::Wait;
-use std::thread::{Threads, join};
+use std::thread::Threads;
 
 // How many samples a client reads at once.
 const CHUNK: u32 = 64;
@@ -73,7 +73,7 @@ fn read_line<R: Wait + Sync, P: Planned, C: Consumer, W: Waiting, G: Gate>(
     mut reader: Reader<P>,
     mut consumer: C,
     waiting: W,
-    before: &Started,
+    started: bool,
     reads: Reads,
     gate: &G,
     who: u32,
@@ -83,7 +83,7 @@ fn read_line<R: Wait + Sync, P: Planned, C: Consumer, W: Waiting, G: Gate>(
     requires accepts { Accepts (C.accepts consumer) reader.ring }
     ensures { IfOk result (λ s. StreamsTo (C.made s.samples) (C.makes consumer) reader.ring reads.take s.end s.reader) }
 {
-    if !before.wait() {
+    if !started {
         reader.ask_stop();
         return Err(NoMemory);
     }
@@ -106,7 +106,7 @@ pub fn run_client<
     rt: &R,
     side: ClientSide<P>,
     consumer: C,
-    writing: &Started,
+    started: bool,
     reads: Reads,
     gate: &G,
     who: u32,
@@ -117,7 +117,7 @@ pub fn run_client<
     ensures { IfOk result (λ s. StreamsTo (C.made s.samples) (C.makes consumer) side.reader.ring reads.take s.end s.reader) }
 {
     let ClientSide { munger, mut reader } = side;
-    if !writing.wait() {
+    if !started {
         reader.ask_stop();
         return Err(NoMemory);
     }
@@ -144,20 +144,16 @@ fn munge_and_read<
     requires accepts { Accepts (C.accepts consumer) reader.ring }
     ensures { IfOk result (λ s. StreamsTo (C.made s.samples) (C.makes consumer) reader.ring reads.take s.end s.reader) }
 {
-    let started = Started::new();
-    let munging = &started;
-    let (_, streamed) = join(
+    let (_, streamed) = with_worker(
         rt,
-        move || {
-            munging.report();
-            let _munger = munge_work(rt, munger);
-        },
-        move || -> Result<Streamed<P, C>, NoMemory>
+        AllMunged,
+        move || munge_work(rt, munger),
+        move |started| -> Result<Streamed<P, C>, NoMemory>
             requires { IsFresh reader × (C.count consumer ≡ 0) × (C.made consumer ≡ C.makes consumer []) × Accepts (C.accepts consumer) reader.ring }
             ensures { IfOk result (λ s. StreamsTo (C.made s.samples) (C.makes consumer) reader.ring reads.take s.end s.reader) }
         {
             let waiting = Backoff::new();
-            read_line(rt, reader, consumer, waiting, munging, reads, gate, who)
+            read_line(rt, reader, consumer, waiting, started, reads, gate, who)
         },
     );
     streamed
@@ -169,7 +165,7 @@ pub fn run_munging_client<R: Wait + Sync, P: Planned, C: Consumer, G: Gate>(
     rt: &R,
     side: ClientSide<P>,
     consumer: C,
-    writing: &Started,
+    started: bool,
     reads: Reads,
     gate: &G,
     who: u32,
@@ -181,5 +177,5 @@ pub fn run_munging_client<R: Wait + Sync, P: Planned, C: Consumer, G: Gate>(
 {
     let ClientSide { munger, reader } = side;
     let waiting = OwnMunger::new(munger);
-    read_line(rt, reader, consumer, waiting, writing, reads, gate, who)
+    read_line(rt, reader, consumer, waiting, started, reads, gate, who)
 }

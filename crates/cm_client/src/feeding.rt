@@ -1,5 +1,6 @@
 // A writer that puts a list of words.
 ghost use Rattle.std.specs.Prelude.{◌≡◌, ◌⊎◌, ◌+◌, ◌<◌, ◌≤◌, length, true};
+ghost use Rattle.cm_client.specs.Streamed.{EndsTruly};
 ghost use Rattle.cm_ring_core.specs.Lawful.{first_writer};
 ghost use Rattle.cm_ring_core.specs.declared.view.EndKind.TheVariants.{Done, Cancelled};
 ghost use Rattle.cm_ring_core.specs.declared.view.End.{End};
@@ -20,6 +21,7 @@ pub fn feed<R: Wait + Sync, P: Planned>(rt: &R, mut writer: Writer<P>, words: &[
     requires plan { writer.ring.samples ≡ words.now }
     requires paced { writer.ring.paced ≡ true }
     ensures of { (result.table ≡ writer.table) × (result.ring ≡ writer.ring) }
+    ensures truly { EndsTruly result }
     ensures end { (result.end ≡ record { kind = Done; count = length words.now }) ⊎ ((result.end.kind ≡ Cancelled) × (result.part.saw_stop ≡ true)) }
 {
     let backoff = Backoff::new();

@@ -12,7 +12,6 @@ pub mod mapping;
 pub mod munging;
 pub mod paced;
 pub mod reading;
-pub mod starting;
 pub mod streaming;
 #[cfg(test)]
 mod tests;
@@ -20,3 +19,4 @@ pub mod waiting;
 #[cfg(test)]
 mod waiting_tests;
 pub mod words;
+pub mod workers;

@@ -1,5 +1,6 @@
 // A munger that follows its writer to the end.
-ghost use Rattle.std.specs.Prelude.{◌≡◌, MatchOption};
+ghost use Rattle.std.specs.Prelude.{◌≡◌};
+ghost use Rattle.cm_client.specs.Streamed.{HasMungedAll};
 
 use crate::waiting::Waiting;
 use cm_ring::munger::Munger;
@@ -17,7 +18,7 @@ const SMALL: u32 = 64;
 /// Munges in pieces until it has found the ring's end and munged all samples up to the end's count.
 pub fn munge_work<R: Wait + Sync, P: Planned>(rt: &R, munger: Munger<P>) -> Munger<P>
     ensures of { (result.table ≡ munger.table) × (result.ring ≡ munger.ring) }
-    ensures end { MatchOption result.part.found ⊥ (λ e. result.part.munged ≡ e.count) }
+    ensures end { HasMungedAll result }
 {
     munge_waiting(rt, munger, Backoff::new())
 }
@@ -29,7 +30,7 @@ pub fn munge_waiting<R: Wait + Sync, P: Planned, W: Waiting>(
     mut waiting: W,
 ) -> Munger<P>
     ensures of { (result.table ≡ munger.table) × (result.ring ≡ munger.ring) }
-    ensures end { MatchOption result.part.found ⊥ (λ e. result.part.munged ≡ e.count) }
+    ensures end { HasMungedAll result }
 {
     for _ in rt.forever() {
         let count = munger.munge_some(PIECE);

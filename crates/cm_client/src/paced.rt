@@ -1,12 +1,13 @@
 // The board of a paced ring.
 ghost use Rattle.std.specs.Prelude.{◌≡◌, true};
 ghost use Rattle.cm_ring_core.specs.Lawful.{first_writer};
+ghost use Rattle.cm_client.specs.Streamed.{EndsTruly};
 
 use crate::boarding::put_words;
 use crate::waiting::Waiting;
 use crate::words::Words;
 use cm_base::gate::Gate;
-use cm_ring::writer::Writer;
+use cm_ring::writer::{Closed, Writer};
 use cm_sample::planned::Planned;
 use std::marker::Model;
 use std::sync::Wait;
@@ -41,16 +42,20 @@ impl<P: Planned, W: Words> PacedBoard<P, W> {
         PacedBoard { writer, words }
     }
 
-    /// Puts all words and ends with `Done`, or ends with `Cancelled` where the stop was asked for.
+    /// Puts all words and ends with `Done`, or ends with `Cancelled` where a look found the stop.
     pub fn put_all<R: Wait + Sync, S: Waiting, G: Gate>(
         self,
         rt: &R,
         mut waiting: S,
         gate: &G,
         who: u32,
-    ) {
+    ) -> Closed<P>
+        ensures of { result.ring ≡ self }
+        ensures end { EndsTruly result }
+    {
         let PacedBoard { writer, words } = self;
-        let _closed = put_words(rt, writer, words, true, &mut waiting, gate, who);
+        let closed = put_words(rt, writer, words, true, &mut waiting, gate, who);
         waiting.end();
+        closed
     }
 }

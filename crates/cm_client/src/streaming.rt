@@ -3,14 +3,14 @@ ghost use Rattle.std.specs.Prelude.{◌≡◌, ◌<◌, ◌≤◌, [], length, I
 ghost use Rattle.cm_client.specs.Progress.{Accepts};
 ghost use Rattle.cm_expand.specs.PlanView.{plan_words};
 ghost use Rattle.cm_ring_core.specs.Lawful.{first_writer};
-ghost use Rattle.cm_client.specs.Streamed.{IsFresh, StreamsTo};
+ghost use Rattle.cm_client.specs.Streamed.{EndsTruly, IsFresh, StreamsTo};
 ghost use Rattle.cm_sample.specs.Rule.{IsRule};
 
 use crate::boarding::put_words;
 use crate::client::{ClientSide, Reads, Streamed, run_client};
 use crate::consuming::Consumer;
-use crate::starting::Started;
 use crate::words::{WordSource, Words};
+use crate::workers::{TrueEnd, with_worker};
 use cm_base::gate::Gate;
 use cm_base::transfer::NoMemory;
 use cm_expand::plan::Plan;
@@ -21,7 +21,7 @@ use cm_sample::rule::MungeRule;
 use crossbeam_utils::Backoff;
 use std::alloc::Global;
 use std::sync::Wait;
-use std::thread::{Threads, join};
+use std::thread::Threads;
 
 /// The number at which the shared counts start: they wrap after the sixth sample.
 pub const BASE: u32 = 4_294_967_290;
@@ -56,20 +56,17 @@ pub fn stream_words<
 {
     let (writer, munger, reader) = open(alloc, size, rule, paced, BASE, plan)?;
     let client = ClientSide { munger, reader };
-    let started = Started::new();
-    let writing = &started;
-    let (_, streamed) = join(
+    let (_, streamed) = with_worker(
         rt,
+        TrueEnd,
         move || -> Closed<P>
             requires { (writer.part ≡ first_writer) × (writer.ring.samples ≡ W.all words) × (W.place words ≡ 0) × (writer.ring.paced ≡ paced) }
-        {
-            writing.report();
-            put_words(rt, writer, words, paced, &mut Backoff::new(), gate, who)
-        },
-        move || -> Result<Streamed<P, C>, NoMemory>
+            ensures { EndsTruly result }
+        { put_words(rt, writer, words, paced, &mut Backoff::new(), gate, who) },
+        move |started| -> Result<Streamed<P, C>, NoMemory>
             requires { IsFresh client.reader × (C.count consumer ≡ 0) × (C.made consumer ≡ C.makes consumer []) × Accepts (C.accepts consumer) client.reader.ring }
             ensures { IfOk result (λ s. StreamsTo (C.made s.samples) (C.makes consumer) client.reader.ring reads.take s.end s.reader) }
-        { run_client(rt, client, consumer, writing, reads, gate, who) },
+        { run_client(rt, client, consumer, started, reads, gate, who) },
     );
     streamed
 }

@@ -8,13 +8,13 @@ use cm_base::transfer::NoMemory;
 use cm_client::client::{ClientSide, Reads, Streamed, run_munging_client};
 use cm_client::munging::munge_work;
 use cm_client::paced::PacedBoard;
-use cm_client::starting::Started;
 use cm_client::words::Words;
+use cm_client::workers::{AllMunged, TrueEnd, with_worker};
 use cm_ring::munger::Munger;
 use cm_sample::planned::Planned;
 use crossbeam_utils::Backoff;
 use std::sync::Wait;
-use std::thread::{Threads, join};
+use std::thread::Threads;
 
 /// The number of the input's board in the gate's points, and that of the output's client.
 const BOARD: u32 = 0;
@@ -52,18 +52,14 @@ pub(crate) fn stream_loop<
     requires words { words.items ≡ [] }
     ensures { IfOk result (λ s. StreamsTo s.samples.items (λ words. words) side.entry.client.reader.ring reads.take s.end s.reader) }
 {
-    let started = Started::new();
-    let writing = &started;
-    let (_, streamed) = join(
+    let (_, streamed) = with_worker(
         rt,
-        move || {
-            writing.report();
-            board.put_all(rt, Backoff::new(), gate, BOARD)
-        },
-        move || -> Result<Streamed<Q, Vec<u32>>, NoMemory>
+        TrueEnd,
+        move || board.put_all(rt, Backoff::new(), gate, BOARD),
+        move |started| -> Result<Streamed<Q, Vec<u32>>, NoMemory>
             requires { IsFresh side.client.reader × (words.items ≡ []) }
             ensures { IfOk result (λ s. StreamsTo s.samples.items (λ words. words) side.entry.client.reader.ring reads.take s.end s.reader) }
-        { munge_beside(rt, side, words, writing, reads, gate) },
+        { munge_beside(rt, side, words, started, reads, gate) },
     );
     streamed
 }
@@ -78,7 +74,7 @@ fn munge_beside<
     rt: &R,
     side: LoopSide<'_, P, Q>,
     words: Vec<u32>,
-    writing: &Started,
+    started: bool,
     reads: Reads,
     gate: &G,
 ) -> Result<Streamed<Q, Vec<u32>>, NoMemory>
@@ -91,22 +87,18 @@ fn munge_beside<
         filter,
         client,
     } = side;
-    if !writing.wait() {
+    if !started {
         filter.stop();
         return Err(NoMemory);
     }
-    let started = Started::new();
-    let munging = &started;
-    let (_, streamed) = join(
+    let (_, streamed) = with_worker(
         rt,
-        move || {
-            munging.report();
-            let _munger = munge_work(rt, munger);
-        },
-        move || -> Result<Streamed<Q, Vec<u32>>, NoMemory>
+        AllMunged,
+        move || munge_work(rt, munger),
+        move |started| -> Result<Streamed<Q, Vec<u32>>, NoMemory>
             requires { IsFresh client.reader × (words.items ≡ []) }
             ensures { IfOk result (λ s. StreamsTo s.samples.items (λ words. words) client.reader.ring reads.take s.end s.reader) }
-        { filter_beside(rt, filter, client, words, munging, reads, gate) },
+        { filter_beside(rt, filter, client, words, started, reads, gate) },
     );
     streamed
 }
@@ -122,7 +114,7 @@ fn filter_beside<
     filter: FilterSide<'_, P, Q>,
     client: ClientSide<Q>,
     words: Vec<u32>,
-    munging: &Started,
+    started: bool,
     reads: Reads,
     gate: &G,
 ) -> Result<Streamed<Q, Vec<u32>>, NoMemory>
@@ -130,22 +122,18 @@ fn filter_beside<
     requires words { words.items ≡ [] }
     ensures { IfOk result (λ s. StreamsTo s.samples.items (λ words. words) client.reader.ring reads.take s.end s.reader) }
 {
-    if !munging.wait() {
+    if !started {
         filter.stop();
         return Err(NoMemory);
     }
-    let started = Started::new();
-    let filtering = &started;
-    let (_, streamed) = join(
+    let (_, streamed) = with_worker(
         rt,
-        move || {
-            filtering.report();
-            filter.filter_all(rt)
-        },
-        move || -> Result<Streamed<Q, Vec<u32>>, NoMemory>
+        TrueEnd,
+        move || filter.filter_all(rt),
+        move |started| -> Result<Streamed<Q, Vec<u32>>, NoMemory>
             requires { IsFresh client.reader × (words.items ≡ []) }
             ensures { IfOk result (λ s. StreamsTo s.samples.items (λ words. words) client.reader.ring reads.take s.end s.reader) }
-        { run_munging_client(rt, client, words, filtering, reads, gate, CLIENT) },
+        { run_munging_client(rt, client, words, started, reads, gate, CLIENT) },
     );
     streamed
 }

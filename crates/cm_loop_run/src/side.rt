@@ -1,6 +1,7 @@
 // What the thread of a loop's filter has.
 ghost use Rattle.std.specs.Prelude.{◌≡◌, true, []};
 ghost use Rattle.cm_client.specs.Samples.{munged_plan};
+ghost use Rattle.cm_client.specs.Streamed.{EndsTruly};
 ghost use Rattle.cm_loop.specs.Filter.{all_filtered, AreWithin};
 ghost use Rattle.cm_loop.specs.State.{StandsFor};
 ghost use Rattle.cm_ring_core.specs.Lawful.{first_reader, first_writer};
@@ -9,7 +10,7 @@ use cm_loop::rule::LoopRule;
 use cm_loop::state::LoopState;
 use cm_loop::work::loop_work;
 use cm_ring::reader::Reader;
-use cm_ring::writer::Writer;
+use cm_ring::writer::{Closed, Writer};
 use cm_sample::planned::Planned;
 use std::marker::Model;
 use std::sync::Wait;
@@ -64,13 +65,16 @@ impl<'a, P: Planned, Q: Planned> FilterSide<'a, P, Q> {
     }
 
     /// Filters all samples, or ends where the stop of the output's ring was asked for.
-    pub(crate) fn filter_all<R: Wait + Sync>(self, rt: &R) {
+    pub(crate) fn filter_all<R: Wait + Sync>(self, rt: &R) -> Closed<Q>
+        ensures of { result.ring ≡ self.entry }
+        ensures end { EndsTruly result }
+    {
         let FilterSide {
             mut input,
             output,
             rule,
             state,
         } = self;
-        let _closed = loop_work(rt, &mut input, output, rule, state);
+        loop_work(rt, &mut input, output, rule, state)
     }
 }

@@ -5,7 +5,7 @@ ghost use Rattle.cm_expand.specs.Items.{items_of};
 ghost use Rattle.cm_expand.specs.PlanView.{plan_text};
 ghost use Rattle.cm_run.specs.Blocks as blocks;
 ghost use Rattle.cm_run.specs.Driving.{IsDrive, IsFeedSide};
-ghost use Rattle.cm_client.specs.Streamed.{IsFresh, StreamsTo};
+ghost use Rattle.cm_client.specs.Streamed.{EndsTruly, IsFresh, StreamsTo};
 ghost use Rattle.cm_sample.specs.Rule.{IsRule};
 ghost use Rattle.cm_text.specs.Outputs.{output_texts};
 ghost use Rattle.cm_text.specs.Tails.{tail_text};
@@ -16,17 +16,17 @@ use cm_base::gate::Gate;
 use cm_base::transfer::NoMemory;
 use cm_client::client::{ClientSide, Reads, Streamed, run_client};
 use cm_client::feeding::feed;
-use cm_client::starting::Started;
 use cm_client::streaming::BASE;
+use cm_client::workers::{TrueEnd, with_worker};
 use cm_expand::plan::Plan;
 use cm_expand::rule::rule_of;
 use cm_ring::open::open;
-use cm_ring::writer::Writer;
+use cm_ring::writer::{Closed, Writer};
 use cm_sample::rule::MungeRule;
 use cm_test::test::Accepted;
 use std::alloc::Global;
 use std::sync::Wait;
-use std::thread::{Threads, join};
+use std::thread::Threads;
 
 /// A `drive` line: an output command with its plan, and the client's words.
 #[derive(Clone, Copy)]
@@ -44,11 +44,13 @@ struct FeedSide<'a> {
 }
 
 // The client's thread.
-fn run_feed<R: Wait + Sync>(rt: &R, side: FeedSide<'_>)
+fn run_feed<'a, R: Wait + Sync>(rt: &R, side: FeedSide<'a>) -> Closed<&'a [u32]>
     requires { IsFeedSide side }
+    ensures of { result.ring ≡ side.entry.writer.ring }
+    ensures end { EndsTruly result }
 {
     let FeedSide { writer, words } = side;
-    let _closed = feed(rt, writer, words);
+    feed(rt, writer, words)
 }
 
 // Moves words through a new paced ring, and gives what comes out of it.
@@ -74,20 +76,17 @@ fn move_words<R: Threads + Wait + Sync, G: Gate + Sync>(
         by_map: false,
         take: None,
     };
-    let started = Started::new();
-    let writing = &started;
-    let (_, streamed) = join(
+    let (_, streamed) = with_worker(
         rt,
-        move ||
+        TrueEnd,
+        move || -> Closed<&[u32]>
             requires { IsFeedSide feeder }
-        {
-            writing.report();
-            run_feed(rt, feeder)
-        },
-        move || -> Result<Streamed<&[u32], Vec<u32>>, NoMemory>
+            ensures { EndsTruly result }
+        { run_feed(rt, feeder) },
+        move |started| -> Result<Streamed<&[u32], Vec<u32>>, NoMemory>
             requires { IsFresh client.reader × (kept.items ≡ []) }
             ensures { IfOk result (λ s. StreamsTo s.samples.items (λ words. words) client.entry.reader.ring reads.take s.end s.reader) }
-        { run_client(rt, client, kept, writing, reads, gate, who) },
+        { run_client(rt, client, kept, started, reads, gate, who) },
     );
     let Streamed {
         samples,

@@ -2,6 +2,7 @@
 ghost use Rattle.std.specs.Prelude.{◌≡◌, ◌+◌, ◌<◌, ◌≤◌, ◌^◌, [], length, IfOk, IsErr, MatchOption};
 ghost use Rattle.std.specs.List.{All};
 ghost use Rattle.std.specs.Thread.{IsSync};
+ghost use Rattle.cm_client.specs.Streamed.{EndsTruly};
 ghost use Rattle.cm_run.specs.Idle.{IsIdle};
 ghost use Rattle.cm_watch.specs.Watched.{AreRead, HasWatched};
 
@@ -12,17 +13,18 @@ use cm_base::gate::Gate;
 use cm_base::transfer::NoMemory;
 use cm_client::munging::munge_waiting;
 use cm_client::paced::PacedBoard;
-use cm_client::starting::Started;
 use cm_client::waiting::Relay;
 use cm_client::words::Words;
+use cm_client::workers::{AllMunged, TrueEnd, with_worker};
 use cm_ring::munger::Munger;
+use cm_ring::writer::Closed;
 use cm_run::claiming::claim_waiting;
 use cm_run::lines::another_seat;
 use cm_sample::planned::Planned;
 use cm_sub::owners::{OwnerSeat, Owners};
 use std::alloc::Global;
 use std::sync::Wait;
-use std::thread::{Threads, join};
+use std::thread::Threads;
 
 // A board's thread: it has its subdevice while it puts its words.
 fn board_thread<R: Wait + Sync, P: Planned, W: Words, G: Gate>(
@@ -34,13 +36,16 @@ fn board_thread<R: Wait + Sync, P: Planned, W: Words, G: Gate>(
     waiting: Relay<'_>,
     gate: &G,
     who: u32,
-)
+) -> Closed<P>
     requires idle { IsIdle owners.now seat }
     requires place { sub < length owners.now.channels }
+    ensures of { result.ring ≡ board }
+    ensures end { EndsTruly result }
 {
     let state = claim_waiting(rt, owners, &mut seat, sub);
-    board.put_all(rt, waiting, gate, who);
+    let closed = board.put_all(rt, waiting, gate, who);
     owners.give_back(&mut seat, sub, state);
+    closed
 }
 
 // Takes the last side.
@@ -94,22 +99,19 @@ pub(crate) fn watch_sides<
     let who = sides.len() as u32;
     let waiting = events.board(sides.len());
     let BoardSide { board, munger, sub } = side;
-    let started = Started::new();
-    let writing = &started;
-    let (_, watched) = join(
+    let (_, watched) = with_worker(
         rt,
-        move ||
+        TrueEnd,
+        move || -> Closed<P>
             requires { IsIdle owners.now theirs × (sub < length owners.now.channels) }
-        {
-            writing.report();
-            board_thread(rt, owners, theirs, sub, board, waiting, gate, who)
-        },
-        move || -> Result<Watched<'_, P>, NoMemory>
+            ensures { EndsTruly result }
+        { board_thread(rt, owners, theirs, sub, board, waiting, gate, who) },
+        move |started| -> Result<Watched<'_, P>, NoMemory>
             requires { IsSync R.row × IsSync G.row × IsIdle owners.now seat × All (λ side. side.sub < length owners.now.channels) sides.items × (length sides.items < 2 ^ 32) × (length sides.items < length events.now.lines.items) × (length client.merge.streams ≤ length events.now.lines.items) × AreRead client.merge.streams client.texts.items }
             ensures { IfOk result (λ w. HasWatched client.entry.merge.streams w.merge.streams client.entry.texts.items w.texts.items) }
         {
             munge_beside(
-                rt, alloc, owners, seat, sides, munger, writing, client, events, gate,
+                rt, alloc, owners, seat, sides, munger, started, client, events, gate,
             )
         },
     );
@@ -131,7 +133,7 @@ fn munge_beside<
     seat: OwnerSeat,
     sides: Vec<BoardSide<P, W>>,
     munger: Munger<P>,
-    writing: &Started,
+    started: bool,
     client: Watched<'a, P>,
     events: &WatchEvents,
     gate: &G,
@@ -144,23 +146,19 @@ fn munge_beside<
     requires read { AreRead client.merge.streams client.texts.items }
     ensures { IfOk result (λ w. HasWatched client.entry.merge.streams w.merge.streams client.entry.texts.items w.texts.items) }
 {
-    if !writing.wait() {
+    if !started {
         return stopped(client, events);
     }
     let waiting = events.munger(sides.len());
-    let started = Started::new();
-    let munging = &started;
-    let (_, watched) = join(
+    let (_, watched) = with_worker(
         rt,
-        move || {
-            munging.report();
-            let _munger = munge_waiting(rt, munger, waiting);
-        },
-        move || -> Result<Watched<'_, P>, NoMemory>
+        AllMunged,
+        move || munge_waiting(rt, munger, waiting),
+        move |started| -> Result<Watched<'_, P>, NoMemory>
             requires { IsSync R.row × IsSync G.row × IsIdle owners.now seat × All (λ side. side.sub < length owners.now.channels) sides.items × (length sides.items < 2 ^ 32) × (length sides.items ≤ length events.now.lines.items) × (length client.merge.streams ≤ length events.now.lines.items) × AreRead client.merge.streams client.texts.items }
             ensures { IfOk result (λ w. HasWatched client.entry.merge.streams w.merge.streams client.entry.texts.items w.texts.items) }
         {
-            if !munging.wait() {
+            if !started {
                 return stopped(client, events);
             }
             watch_sides(rt, alloc, owners, seat, sides, client, events, gate)
