@@ -42,9 +42,9 @@ impl Watch {
         self.pass.count <= self.seen.load(Ordering::SeqCst)
     }
 
-    // Waits until it comes, and reports whether it came within the limit.
-    fn wait(&self) -> bool {
-        for _ in 0..TURNS {
+    // Waits until it comes, and reports whether it came within so many turns.
+    fn wait(&self, turns: u32) -> bool {
+        for _ in 0..turns {
             if self.came() {
                 return true;
             }
@@ -80,7 +80,7 @@ impl HoldGate {
 impl Gate for HoldGate {
     fn pass(&self, who: u32, point: u32) {
         self.until.comes(who, point);
-        if self.held.comes(who, point) && !self.until.wait() {
+        if self.held.comes(who, point) && !self.until.wait(TURNS) {
             self.late.store(1, Ordering::SeqCst);
         }
     }
@@ -92,30 +92,47 @@ impl Gate for HoldGate {
 pub struct MeetGate {
     one: Watch,
     other: Watch,
+    turns: u32,
     late: AtomicU64,
 }
 
 impl MeetGate {
     pub fn new(one: Pass, other: Pass) -> MeetGate {
+        MeetGate::within(one, other, TURNS)
+    }
+
+    /// A gate that holds a worker for so many turns at most.
+    pub fn within(one: Pass, other: Pass, turns: u32) -> MeetGate {
         MeetGate {
             one: Watch::new(one),
             other: Watch::new(other),
+            turns,
             late: AtomicU64::new(0),
         }
     }
 
+    // Whether both passes came.
+    fn both_came(&self) -> bool {
+        self.one.came() && self.other.came()
+    }
+
     /// Whether the two met within the limit.
     pub fn kept(&self) -> bool {
-        self.one.came() && self.other.came() && self.late.load(Ordering::SeqCst) == 0
+        self.both_came() && self.late.load(Ordering::SeqCst) == 0
+    }
+
+    /// Whether both came, and didn't meet: the first was held up to the limit.
+    pub fn missed(&self) -> bool {
+        self.both_came() && self.late.load(Ordering::SeqCst) == 1
     }
 }
 
 impl Gate for MeetGate {
     fn pass(&self, who: u32, point: u32) {
         let met = if self.one.comes(who, point) {
-            self.other.wait()
+            self.other.wait(self.turns)
         } else if self.other.comes(who, point) {
-            self.one.wait()
+            self.one.wait(self.turns)
         } else {
             true
         };

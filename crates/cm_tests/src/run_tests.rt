@@ -17,6 +17,8 @@ use std::thread::Threads;
 const TWO_LINES: &str =
     "go paced copy 0 all 0 0 now:0 timer:1000 now:0 count:1 count:3 0/0/ground\ngo paced map 2000 all 0 0 now:0 timer:1000 now:0 count:1 count:2 0/0/ground\n";
 
+const TWO_BLOCKS: &str = "0 -153\n0 999923\n0 2000000\ndone\n0 2000000\n0 2999771\ndone\n";
+
 const FREE_FOUR: &str = "go free map 0 all 0 0 now:0 timer:1000 now:0 count:1 count:4 0/0/ground\n";
 
 const FREE_FIVE: &str = "go free map 0 all 0 0 now:0 timer:1000 now:0 count:1 count:5 0/0/ground\n";
@@ -42,12 +44,7 @@ const FIVE: &str = "0 -153\n0 999923\n0 2000000\n0 2999771\n0 3999847\ndone\n";
 #[test]
 fn runs_give_their_blocks(rt: HostRuntime) -> Result<(), Fail> {
     let rows: [Row; 5] = [
-        (
-            boards::TABLE,
-            TWO_LINES,
-            "0 -153\n0 999923\n0 2000000\ndone\n0 2000000\n0 2999771\ndone\n",
-            Status::Done,
-        ),
+        (boards::TABLE, TWO_LINES, TWO_BLOCKS, Status::Done),
         (
             boards::TABLE,
             FREE_FOUR,
@@ -150,6 +147,33 @@ fn meeting() -> MeetGate {
         count: 1,
     };
     MeetGate::new(board, client)
+}
+
+// The boards of two lines of one subdevice never meet: a line has it until its workers have ended. Those
+// of two lines of a soak, which are of two subdevices, do.
+#[test]
+fn lines_of_one_subdevice_take_turns(rt: HostRuntime) -> Result<(), Fail> {
+    for command in ["run", "watch"] {
+        let gate = MeetGate::within(first_put(0), first_put(1), 1_000_000);
+        let (ended, text) = streamed(&rt, rt.alloc(), command, boards::TABLE, TWO_LINES, &gate)?;
+        assert!(&rt; gate.missed(), "by {command}");
+        assert_eq!(&rt; ended, Status::Done);
+        assert!(&rt; text.as_slice() == TWO_BLOCKS.as_bytes());
+    }
+    let gate = MeetGate::new(first_put(0), first_put(1));
+    let (ended, _) = soak(&rt, rt.alloc(), "4096", &gate)?;
+    assert!(&rt; gate.kept());
+    assert_eq!(&rt; ended, Status::Done);
+    Ok(())
+}
+
+// The first put of a line's board.
+fn first_put(who: u32) -> Pass {
+    Pass {
+        who,
+        point: 1,
+        count: 1,
+    }
 }
 
 // A soak whose first board and client meet, and one whose last subdevice has no sample.
