@@ -18,7 +18,7 @@ use Rattle.cm_ring_core.specs.Lawful.{munged_at as munged_at_ring}
 use Rattle.cm_job.specs.declared.line.Mode.{Mode}
 use Rattle.cm_text.specs.Blocks.{munged_words, munged_samples, count_of}
 use Rattle.cm_client.specs.LineRing.{ring_of}
-use Rattle.cm_text.proofs.Counts.{length-samples}
+use Rattle.cm_text.proofs.Counts.{length-samples, munged_by_rule}
 
 -- the munged sample of a place in a line's ring is that of the expansion
 munged_there : (p : PlanText) (mode : Mode) → 1 ≤ length p.cmd.list → (place : ℕ) → place < length (samples_of p) → munged_at_ring (ring_of p mode) place ≡ get_or (munged_samples p) place 0

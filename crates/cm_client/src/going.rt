@@ -95,7 +95,8 @@ pub fn text_of<'a>(alloc: Global, go: Go<'a>) -> Result<SampleText<'a>, NoMemory
     ensures accepts { IfOk result (λ t. Accepts (CanReport t) (rings.ring_of (plan_text go.entry.plan) go.entry.mode)) }
 {
     // The board tells what holds of each expansion: that the words are codes of their channels.
-    shows(&Board::new(go.plan).place());
+    let place = Board::new(go.plan).place();
+    shows(&place);
     SampleText::new(alloc, go.plan, room_of(&go))
 }
 

@@ -65,7 +65,8 @@ fn loop_words<R: Threads + Wait + Sync, G: Gate + Sync>(
     let input = job.input_plan();
     let output = job.output_plan();
     // The board tells what holds of each expansion: that the samples are codes of their channels.
-    shows(&Board::new(input).place());
+    let place = Board::new(input).place();
+    shows(&place);
     let munge = rule_of(alloc, input.sub(), &job.input)?;
     let looped = Looped::new(input, &munge, filter);
     let state = LoopState::new(alloc, filter)?;

@@ -13,6 +13,6 @@ pub returns-clause-accepts : goal.returns-clause-accepts
 returns-clause-accepts c =
     let p = plan_text c.args.go.plan in
     let mode = c.args.go.mode in
-    let expansion : IsExpansion p = subst (λ (b : BoardState). IsExpansion b.plan) c.new.ensures c.place.ensures.expansion in
+    let expansion : IsExpansion p = subst (λ (b : BoardState). IsExpansion b.plan) c.new.ensures c.place-place.ensures.expansion in
     IfOk-weaker c.new-2.result _ _ (λ t is. λ place below. subst (λ (t : LinesText). CanReport t place (munged_at (ring_of p mode) place)) (sym is)
     (all_reported p mode expansion c.args.go.plan.fits.some c.requires.input c.requires.few place below)) c.new-2.ensures

@@ -46,7 +46,7 @@ new-requires-3-clause-within g c =
     let plan = c.input_plan-input.ensures.plan in
     let some = subst (λ (t : PlanText). 1 ≤ length t.cmd.list) plan c.input_plan-input.result.fits.some in
     let ring = c.in_ok-board.field-0.reader.ring in
-    let expansion = subst IsExpansion plan (subst (λ (b : BoardState). IsExpansion b.plan) c.new.ensures c.place.ensures.expansion) in
+    let expansion = subst IsExpansion plan (subst (λ (b : BoardState). IsExpansion b.plan) c.new.ensures c.place-place.ensures.expansion) in
     let munged = ring_samples (plan_text c.input_plan-input.result) (input_of job) ring c.in_ok-board.ensures.ring plan some in
     within_ring job ring c.args.filter.now c.requires.filter munged (are_within job c.input_plan-input.ensures.job expansion some)
 
