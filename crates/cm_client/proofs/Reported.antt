@@ -3,12 +3,11 @@ use Rattle.std.proofs.Common.{◌≡◌, ℕ, ◌+◌, ◌<◌, ◌≤◌, ◌^�
 use Rattle.std.specs.Prelude.{min}
 use Rattle.std.proofs.lemmas.List.{get_or-take}
 use Rattle.cm_sample.proofs.Mapped.{get_or-map_from, length-map_from}
-use Rattle.cm_sample.specs.Rule.{map_from, munged_word}
+use Rattle.cm_sample.specs.Rule.{munged_word}
 use Rattle.cm_expand.specs.Fit.{IsExpansion}
 use Rattle.cm_expand.specs.Items.{samples_of}
 use Rattle.cm_expand.specs.Plan.{PlanText}
-use Rattle.cm_expand.specs.Rule.{is_output, munged_at, rule_of}
-use Rattle.cm_expand.proofs.Rules.{rule_munges}
+use Rattle.cm_expand.specs.Rule.{is_output, rule_of}
 use Rattle.cm_text.specs.Format.{IsSample, format_of}
 use Rattle.cm_text.proofs.Codes.{sample_from}
 use Rattle.cm_client.specs.Progress.{Accepts}
@@ -16,7 +15,7 @@ use Rattle.cm_client.specs.Samples.{first_munged, munged_plan}
 use Rattle.cm_ring_core.specs.declared.view.RingConstants.{RingConstants}
 use Rattle.cm_ring_core.specs.Lawful.{munged_at as munged_at_ring}
 use Rattle.cm_job.specs.declared.line.Mode.{Mode}
-use Rattle.cm_text.specs.Blocks.{munged_words, munged_samples, count_of}
+use Rattle.cm_text.specs.Blocks.{munged_samples, count_of}
 use Rattle.cm_client.specs.LineRing.{ring_of}
 use Rattle.cm_text.proofs.Counts.{length-samples, munged_by_rule}
 

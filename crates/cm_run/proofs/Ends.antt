@@ -10,9 +10,7 @@ use Rattle.cm_ring_core.specs.Lawful.{IsFoundEnd}
 use Rattle.cm_ring.specs.Roles.{Reading}
 use Rattle.cm_base.specs.UpTo.{up_to}
 use Rattle.cm_client.specs.Progress.{IsTaken}
-use Rattle.cm_expand.specs.Items.{items_of, samples_of}
 use Rattle.cm_expand.specs.Plan.{PlanText}
-use Rattle.cm_expand.specs.declared.conv.Conv.{Conv}
 use Rattle.cm_job.specs.declared.line.Mode.{Mode}
 use Rattle.cm_job.specs.declared.line.Mode.TheVariants.{Paced, Free}
 use Rattle.cm_text.specs.Blocks.{block, ending, count_of, take_count, cut_tail, paced_block, HasOverrun}
@@ -20,6 +18,7 @@ use Rattle.cm_client.specs.RunText.{IsGoBlock}
 use Rattle.cm_run.specs.Ran.{GoRan}
 use Rattle.cm_client.specs.LineRing.{is_paced, ring_of}
 use Rattle.cm_text.specs.Ends.{tail_after}
+use Rattle.cm_text.proofs.Counts.{length-samples}
 use Rattle.cm_text.specs.declared.tail.Tail.{Tail}
 use Rattle.cm_text.specs.declared.tail.Tail.TheVariants as tails
 

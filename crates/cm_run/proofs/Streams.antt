@@ -1,16 +1,8 @@
 -- What a stream through a line's ring says of the line.
 use Rattle.std.proofs.Common.{◌≡◌, ℕ, ◌≤◌, Bool, ◌++◌, List, length, take, refl, sym, ap, ◌∙◌, subst, arith, eqb, Option, Some}
-use Rattle.cm_board.specs.Board.{SubText, IsSoundSub}
-use Rattle.cm_cmd.specs.Command.{CmdText}
-use Rattle.cm_sample.specs.Rule.{IsRule, RuleText}
 use Rattle.cm_base.specs.UpTo.{up_to}
 use Rattle.cm_expand.specs.Items.{samples_of}
-use Rattle.cm_expand.specs.Plan.{PlanText, is_complete, is_complete_by, whole_count}
-use Rattle.cm_expand.specs.PlanView.{plan_text, plan_words, words_of}
-use Rattle.cm_expand.specs.Rule.{rule_of}
-use Rattle.cm_expand.specs.declared.plan.Plan.{Plan}
-use Rattle.cm_expand.proofs.Counted.{items_counted}
-use Rattle.cm_expand.proofs.Rules.{channels_there, rule_is}
+use Rattle.cm_expand.specs.Plan.{PlanText}
 use Rattle.cm_ring.specs.Roles.{Reading}
 use Rattle.cm_ring_core.specs.Lawful.{IsFoundEnd}
 use Rattle.cm_ring_core.specs.declared.view.End.{End}
@@ -20,17 +12,14 @@ use Rattle.cm_ring_core.specs.declared.view.ReaderPart.{ReaderPart}
 use Rattle.cm_ring_core.specs.declared.view.RingConstants.{RingConstants}
 use Rattle.cm_client.specs.Streamed.{HasStreamed}
 use Rattle.cm_job.specs.declared.line.Mode.{Mode}
-use Rattle.cm_test.proofs.Passed.{passed}
-use Rattle.cm_test.specs.Questions.{tested}
 use Rattle.cm_text.specs.Format.{format_of, sample_lines}
 use Rattle.cm_text.specs.Tails.{tail_text}
-use Rattle.cm_text.specs.Blocks.{block, count_of, munged_samples}
+use Rattle.cm_text.specs.Blocks.{block, munged_samples}
 use Rattle.cm_text.specs.Limits.{FitsCount}
 use Rattle.cm_run.specs.Ran.{GoRan}
-use Rattle.cm_client.specs.LineRing.{is_paced, ring_of}
+use Rattle.cm_client.specs.LineRing.{ring_of}
 use Rattle.cm_text.specs.Ends.{tail_after}
-use Rattle.cm_text.proofs.Counts.{length-samples}
-use Rattle.cm_text.proofs.Counts.{munged_by_rule}
+use Rattle.cm_text.proofs.Counts.{length-samples, munged_by_rule}
 
 module _ (p : PlanText) (mode : Mode) (most : Option ℕ) (words : List ℕ) (e : End) (r : Reading) (s : HasStreamed (ring_of p mode) most words e r) where
   pub words_are : 1 ≤ length p.cmd.list → words ≡ take (up_to e.count most) (munged_samples p)
