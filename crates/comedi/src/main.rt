@@ -4,7 +4,7 @@
 use cm_base::gate::OpenGate;
 use cm_base::standard::{StdSink, StdSource};
 use cm_cli::asked::words_after_name;
-use cm_cli::crate::comedi;
+use cm_cli::comedi::comedi;
 use cm_cli::status::{Status, number_of};
 use std::process::ExitCode;
 use std::sync::Wait;
