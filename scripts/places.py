@@ -4,6 +4,7 @@ The program itself is asked: a word is at fault where another one in its place c
 """
 import re
 import subprocess
+import tempfile
 
 from jobs import Fault
 from refusals import COMMAND, key_of
@@ -50,8 +51,11 @@ class Job:
     def answer(self, command, lines=None):
         """The lines that the program prints for the job, or for other lines in its place."""
         text = "\n".join(self.all if lines is None else lines) + "\n"
-        made = subprocess.run([self.program] + command.split(), input=text.encode("utf-8", "surrogateescape"),
-                              stdout=subprocess.PIPE)
+        # A file and no pipe: a program that doesn't read its input may have ended before a pipe is written.
+        with tempfile.TemporaryFile() as file:
+            file.write(text.encode("utf-8", "surrogateescape"))
+            file.seek(0)
+            made = subprocess.run([self.program] + command.split(), stdin=file, stdout=subprocess.PIPE)
         refused = made.stdout.startswith((b"refused", b"usage"))
         if made.returncode not in (0, 1, 2) or refused != (made.returncode != 0):
             raise Fault("the program ends with status %d" % made.returncode)
