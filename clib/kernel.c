@@ -1,6 +1,6 @@
 /*
  * Where the kernel's core of Comedi (drivers/comedi/comedi_fops.c and range.c of Linux 6.1) answers a call with
- * another error number than the session has (docs/FORMATS.md). Programs compare these numbers, so a client gets the
+ * another error number than the session has (docs/REFUSALS.md). Programs compare these numbers, so a client gets the
  * kernel's. Nothing here changes what a board does: a refused call is a refused call in both.
  */
 #include "device.h"
