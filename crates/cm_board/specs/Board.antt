@@ -152,6 +152,24 @@ is_digital kinds.Do = true
 is_digital kinds.Dio = true
 is_digital kind = false
 
+-- the kind whose channels can be made inputs or outputs
+abbrev pub is_dio : Kind → Bool
+is_dio kinds.Dio = true
+is_dio kind = false
+
+-- the kinds whose samples go out
+abbrev pub is_output : Kind → Bool
+is_output kinds.Ao = true
+is_output kinds.Do = true
+is_output kind = false
+
+-- the kinds whose channels have levels from outside
+abbrev pub has_levels : Kind → Bool
+has_levels kinds.Ai = true
+has_levels kinds.Di = true
+has_levels kinds.Dio = true
+has_levels kind = false
+
 -- the kinds that may take commands
 abbrev pub may_command : Kind → Bool
 may_command kinds.Unused = false

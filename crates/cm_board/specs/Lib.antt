@@ -1,14 +1,4 @@
-pub mod Block
 pub mod Board
-pub mod BoardPart
 pub mod BoardView
 pub mod ChanView
-pub mod DraftView
-pub mod Items
-pub mod Limits
-pub mod Printed
-pub mod PrintedReads
-pub mod Refusal
-pub mod Rows
-pub mod UncheckedView
 pub mod View

@@ -21,7 +21,7 @@ fn set_for(chans: &[ChanSet], chan: u32) -> Option<&ChanSet>
 }
 
 /// The greatest code of a channel.
-pub(crate) fn maxdata_by(chans: &[ChanSet], chan: u32, whole: u32) -> u32
+pub fn maxdata_by(chans: &[ChanSet], chan: u32, whole: u32) -> u32
     ensures { result ≡ maxdata_by (set_for chans.now chan) whole }
 {
     match set_for(chans, chan) {
@@ -31,7 +31,7 @@ pub(crate) fn maxdata_by(chans: &[ChanSet], chan: u32, whole: u32) -> u32
 }
 
 /// How the words of a channel are munged.
-pub(crate) fn munge_by(chans: &[ChanSet], chan: u32, whole: Munge) -> Munge
+pub fn munge_by(chans: &[ChanSet], chan: u32, whole: Munge) -> Munge
     ensures { result ≡ munge_by (set_for chans.now chan) whole }
 {
     match set_for(chans, chan) {

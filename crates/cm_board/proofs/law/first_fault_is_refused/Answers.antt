@@ -1,5 +1,0 @@
-use Rattle.cm_board.proofs.Refusal.{first_is_refused}
-use Rattle.cm_board.proofs.law.first_fault_is_refused.Goals as goal
-
-pub returns : goal.returns
-returns c = first_is_refused

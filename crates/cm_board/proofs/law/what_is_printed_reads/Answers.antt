@@ -1,5 +1,0 @@
-use Rattle.cm_board.proofs.BoardBack.{printed_reads}
-use Rattle.cm_board.proofs.law.what_is_printed_reads.Goals as goal
-
-pub returns : goal.returns
-returns c = printed_reads

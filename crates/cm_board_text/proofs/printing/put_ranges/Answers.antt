@@ -1,0 +1,11 @@
+use Rattle.std.proofs.Common.{◌++◌, ap, sym, ◌∙◌}
+use Rattle.cm_base.specs.WrittenLines.{line_of}
+use Rattle.cm_board_text.specs.Printed.{item_text}
+use Rattle.cm_board_text.specs.declared.items.Item.TheVariants as items
+use Rattle.cm_board_text.proofs.Written.{all_written, items_text-map}
+use Rattle.cm_board_text.proofs.printing.put_ranges.Goals as goal
+
+pub returns : goal.returns
+returns c =
+    all_written (λ x. line_of (item_text (items.Range x))) c.loop-range.out.items c.args.out.now.items c.loop-range.range-index c.args.ranges.now c.loop-range-test.false c.loop-range.invariant
+    ∙ ap (λ text. c.args.out.now.items ++ text) (sym (items_text-map items.Range c.args.ranges.now))

@@ -1,0 +1,10 @@
+pub mod Block
+pub mod BoardPart
+pub mod DraftView
+pub mod Items
+pub mod Limits
+pub mod Printed
+pub mod PrintedReads
+pub mod Refusal
+pub mod Rows
+pub mod UncheckedView

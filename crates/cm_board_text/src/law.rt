@@ -1,0 +1,14 @@
+// Laws about the text of a board.
+ghost use Rattle.cm_board_text.specs.PrintedReads.{PrintedReads};
+ghost use Rattle.cm_board_text.specs.Refusal.{FirstIsRefused};
+
+/// What `print_board` writes, with a `signals` line after it, is read as the same board.
+pub fn what_is_printed_reads()
+    ensures { PrintedReads }
+{}
+
+/// What is refused is the first line that fails: no reading of the lines before it fails, and
+/// together with them it is refused by its cause.
+pub fn first_fault_is_refused()
+    ensures { FirstIsRefused }
+{}

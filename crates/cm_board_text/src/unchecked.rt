@@ -1,0 +1,143 @@
+// A subdevice before the rules over its lines are asked.
+ghost use Rattle.std.specs.Prelude.{◌≡◌};
+ghost use Rattle.cm_board_text.specs.Block.{has_line};
+ghost use Rattle.cm_board.specs.Board.{swaps};
+
+use crate::items::{Sources, Span};
+use cm_base::source::EXT;
+use cm_board::board::{ChanSet, Fifo, Forbid, Kind, Munge, Range, Sub};
+use cm_board::channels::{maxdata_by, munge_by};
+
+/// A subdevice whose numbers keep their limits one by one, and maybe not the rules over them.
+#[derive(Drop)]
+pub struct Unchecked {
+    pub kind: Kind,
+    pub channels: u32,
+    pub maxdata: u32,
+    pub munge: Munge,
+    pub ranges: Vec<Range>,
+    pub sources: Sources,
+    pub tick: u32,
+    pub scan: Span,
+    pub convert: Span,
+    pub list_max: u32,
+    pub scans_max: u32,
+    pub lines: u32,
+    pub buffer: u32,
+    pub same_range: bool,
+    pub forbidden: Vec<Forbid>,
+    pub chans: Vec<ChanSet>,
+    pub invert: bool,
+    pub fifo: Option<Fifo>,
+}
+
+impl Unchecked {
+    ghost use Rattle.cm_board_text.specs.Block.{is_board_ok, is_lines_ok, is_list_ok, is_ticks_ok};
+    ghost use Rattle.cm_board.specs.Board.{IsSoundSub, is_bits_ok, is_channel_ok};
+    ghost use Rattle.cm_board_text.specs.UncheckedView.{unchecked_text};
+    ghost use Rattle.std.specs.Prelude.{◌<◌};
+
+    /// The rules over the lines of a block.
+    pub(crate) fn is_board_ok(&self) -> bool
+        requires { 0 < self.now.tick }
+        ensures { result ≡ is_board_ok (unchecked_text self.now) }
+    {
+        self.is_bits_ok() && self.is_ticks_ok() && self.is_list_ok() && self.is_lines_ok()
+    }
+
+    /// The subdevice, where all rules hold.
+    pub(crate) fn into_sub(self) -> Sub
+        requires { IsSoundSub (unchecked_text self) }
+        ensures { result ≡ unchecked_text self }
+    {
+        let masks = self.sources;
+        Sub {
+            kind: self.kind,
+            channels: self.channels,
+            maxdata: self.maxdata,
+            munge: self.munge,
+            ranges: self.ranges,
+            sources: [
+                masks.start,
+                masks.scan_begin,
+                masks.convert,
+                masks.scan_end,
+                masks.stop,
+            ],
+            tick: self.tick,
+            scan_min: self.scan.min,
+            scan_max: self.scan.max,
+            conv_min: self.convert.min,
+            conv_max: self.convert.max,
+            list_max: self.list_max,
+            scans_max: self.scans_max,
+            lines: self.lines,
+            buffer: self.buffer,
+            same_range: self.same_range,
+            forbidden: self.forbidden,
+            chans: self.chans,
+            invert: self.invert,
+            fifo: self.fifo,
+        }
+    }
+
+    // Each digital channel has one bit, and each whose words are swapped at most 16.
+    #[tactic(auto, unfolding(cm_board::specs::Board::is_bits_ok))]
+    fn is_bits_ok(&self) -> bool
+        ensures { result ≡ is_bits_ok (unchecked_text self.now) }
+    {
+        (0..self.channels).all(|chan| self.is_channel_ok(chan))
+    }
+
+    #[tactic(auto, unfolding(cm_board::specs::Board::maxdata_of, cm_board::specs::Board::munge_of))]
+    fn is_channel_ok(&self, chan: u32) -> bool
+        ensures { result ≡ is_channel_ok (unchecked_text self.now) chan }
+    {
+        let maxdata = maxdata_by(&self.chans, chan, self.maxdata);
+        let munge = munge_by(&self.chans, chan, self.munge);
+        (!self.kind.is_digital() || maxdata == 1) && (!swaps(munge) || maxdata <= 65_535)
+    }
+
+    // The limits of times are multiples of the tick.
+    fn is_ticks_ok(&self) -> bool
+        requires { 0 < self.now.tick }
+        ensures { result ≡ is_ticks_ok (unchecked_text self.now) }
+    {
+        self.scan.min % self.tick == 0
+            && self.scan.max % self.tick == 0
+            && self.convert.min % self.tick == 0
+            && self.convert.max % self.tick == 0
+    }
+
+    // All conversions of the longest list fit into the longest scan.
+    fn is_list_ok(&self) -> bool
+        ensures { result ≡ is_list_ok (unchecked_text self.now) }
+    {
+        self.convert.min as u64 * self.list_max as u64 <= self.scan.max as u64
+    }
+
+    // Where an external source may stand there is an external line.
+    fn is_lines_ok(&self) -> bool
+        ensures { result ≡ is_lines_ok (unchecked_text self.now) }
+    {
+        let sources = &self.sources;
+        has_line(self.lines, sources.start)
+            && has_line(self.lines, sources.scan_begin)
+            && has_line(self.lines, sources.convert)
+            && has_line(self.lines, sources.scan_end)
+            && has_line(self.lines, sources.stop)
+    }
+}
+
+// A trigger that may be external has a line.
+fn has_line(lines: u32, mask: u32) -> bool
+    ensures { result ≡ has_line lines mask }
+{
+    EXT & mask != EXT || 1 <= lines
+}
+
+fn swaps(munge: Munge) -> bool
+    ensures { result ≡ swaps munge }
+{
+    matches!(munge, Munge::Swap16)
+}
