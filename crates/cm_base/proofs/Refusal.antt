@@ -3,7 +3,7 @@ use Rattle.std.proofs.Common.{◌≡◌, ℕ, Bool, true, false, cond, drop, Lis
 use Rattle.cm_base.specs.Lines.{LineText}
 use Rattle.cm_base.specs.Parts.{begins, fixed}
 use Rattle.cm_base.specs.Reading.{◌>>=◌, at_line, read_each}
-use Rattle.cm_base.specs.Refusal.{FirstFault}
+use Rattle.cm_base.specs.Refusal.{FirstFault, RefusesFirst}
 use Rattle.cm_base.specs.Words.{Form}
 use Rattle.cm_base.specs.declared.faults.Fault.{Fault}
 use Rattle.cm_base.specs.declared.faults.Fault.TheVariants as faults
@@ -63,6 +63,10 @@ pub each_refuses : {X : Type 0} (read : List X → LineText → Result X Fault) 
 each_refuses read before lines more refused f =
     each-append read before f.good (f.line ∷ more) ∙ ap (λ r. r >>= λ said. read_each read said (f.line ∷ more)) f.before
     ∙ ap (λ r. r >>= λ x. read_each read (f.said ++ x ∷ []) more) (refusal_of f.line.number refused (read f.said f.line) f.number f.cause)
+
+-- lines that are read one after another are refused at the first that fails
+pub refuses_first : {X : Type 0} (read : List X → LineText → Result X Fault) (before : List X) → RefusesFirst (read_each read before) read
+refuses_first read before = λ lines refused e. (each_refused read before lines refused e, λ f more. each_refuses read before lines more refused f)
 
 -- what a first line says by whether it is bad and begins with the one word
 abbrev pub keyed : LineText → Bool → Bool → Result (ℕ × List (List ℕ)) Fault

@@ -52,7 +52,7 @@ impl From<WriteFault> for TextStop {
     }
 }
 
-/// Why a read to the end gave nothing.
+/// Why a read gave nothing: of a whole input, or of a line.
 #[derive(Clone, Copy, Debug, PartialEq, Eq)]
 pub enum ReadError {
     NoMemory,
@@ -64,6 +64,14 @@ impl From<AllocError> for ReadError {
     ghost from_gives = { λ _ e. e ≡ NoMemory };
 
     fn from(_: AllocError) -> Self {
+        ReadError::NoMemory
+    }
+}
+
+impl<T: Drop> From<AllocFailed<T>> for ReadError {
+    ghost from_gives = { λ _ e. e ≡ NoMemory };
+
+    fn from(_: AllocFailed<T>) -> Self {
         ReadError::NoMemory
     }
 }

@@ -159,17 +159,26 @@ fn bit_of(name: &[u8]) -> Option<u32>
     ensures bit { result ≡ bit_of name.now }
     ensures low { IfSome result (λ bit. bit ≤ 256) }
 {
-    match name {
-        [b'n', b'o', b'n', b'e'] => Some(NONE),
-        [b'n', b'o', b'w'] => Some(NOW),
-        [b'f', ..] if name == b"follow".as_slice() => Some(FOLLOW),
-        [b't', b'i', b'm', b'e'] => Some(TIME),
-        [b't', b'i', b'm', b'e', b'r'] => Some(TIMER),
-        [b'c', b'o', b'u', b'n', b't'] => Some(COUNT),
-        [b'e', b'x', b't'] => Some(EXT),
-        [b'i', b'n', b't'] => Some(INT),
-        [b'o', b't', b'h', b'e', b'r'] => Some(OTHER),
-        _ => None,
+    if name == b"none".as_slice() {
+        Some(NONE)
+    } else if name == b"now".as_slice() {
+        Some(NOW)
+    } else if name == b"follow".as_slice() {
+        Some(FOLLOW)
+    } else if name == b"time".as_slice() {
+        Some(TIME)
+    } else if name == b"timer".as_slice() {
+        Some(TIMER)
+    } else if name == b"count".as_slice() {
+        Some(COUNT)
+    } else if name == b"ext".as_slice() {
+        Some(EXT)
+    } else if name == b"int".as_slice() {
+        Some(INT)
+    } else if name == b"other".as_slice() {
+        Some(OTHER)
+    } else {
+        None
     }
 }
 
