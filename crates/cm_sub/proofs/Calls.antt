@@ -25,8 +25,9 @@ module _ (slots id k : ℕ) (me : Seated) (v : SeatView) (channels : List ℕ) (
 
   pub may_stow : me.1 ≡ (k, None) ∷ [] → Allows (AreInTurn channels) slots id me k (λ n. n) (StowsSlot (step slots k 0 0 none) me)
   may_stow out = subst (λ (l : List ℕ). Allows (AreInTurn l) slots id me k (λ n. n) (StowsSlot (step slots k 0 0 none) me)) mine
-      (stows_slot slots id me k out (ap (λ (h : SeatView). h.hand) is ∙ hand) below (subst (λ (h : SeatView). Holds k h.holds) (sym is) has))
+      (stows_slot slots id k me (out, ap (λ (h : SeatView). h.hand) is ∙ hand, below, subst (λ (h : SeatView). Holds k h.holds) (sym is) has))
 
   pub may_return : (state : StateText) → me.1 ≡ (k, Some state) ∷ [] → channel_count state ≡ get_or channels k 0 → Allows (AreInTurn channels) slots id me k (λ _. 0) (ReturnsTurn (step slots k 0 0 none) me)
   may_return state out suits = subst (λ (l : List ℕ). Allows (AreInTurn l) slots id me k (λ _. 0) (ReturnsTurn (step slots k 0 0 none) me)) mine
-      (returns_turn slots id me k state out (suits ∙ ap (λ (l : List ℕ). get_or l k 0) (sym mine)) (ap (λ (h : SeatView). h.hand) is ∙ hand) below (subst (λ (h : SeatView). Holds k h.holds) (sym is) has))
+      (returns_turn slots id k me
+      (state, out, suits ∙ ap (λ (l : List ℕ). get_or l k 0) (sym mine), ap (λ (h : SeatView). h.hand) is ∙ hand, below, subst (λ (h : SeatView). Holds k h.holds) (sym is) has))

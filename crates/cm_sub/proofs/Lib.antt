@@ -4,3 +4,4 @@ pub mod Moves
 pub mod Opening
 pub mod Places
 pub mod Seats
+pub mod Stepping

@@ -7,4 +7,5 @@ pub mod Owning
 pub mod OwnersView
 pub mod State
 pub mod StateView
+pub mod Stepping
 pub mod Turns

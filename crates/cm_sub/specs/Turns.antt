@@ -1,4 +1,4 @@
--- The rule of the turns, and what each kind of step tells the seat that makes it.
+-- The rule of the turns, and the kinds of step: when a seat may make one, and what it tells the seat.
 use Rattle.std.specs.Prelude.{◌≡◌, ◌≢◌, ℕ, ◌+◌, ◌<◌, List, [], ◌∷◌, length, slice_index, Option, Some, None}
 use mathlib.Core.Option.{some}
 use lib.ListN.{get_elem?}
@@ -36,6 +36,25 @@ pub record AreInTurn (channels : List ℕ) (s : TurnTable) : Type 0 where
 -- what a new seat knows
 abbrev pub first_view : List ℕ → SeatView
 first_view channels = record { holds = []; refused = no_refusals channels; channels = channels; hand = 0 }
+
+-- A seat may take the turn of a place that it doesn't hold, with no slot in its hand
+abbrev pub MayTake : ℕ → Seated → Type 0
+MayTake place me = (me.1 ≡ []) × (me.0.hand ≡ 0) × (place < length me.0.channels) × (¬ Holds place me.0.holds)
+
+-- It may stow the slot of a place that it holds, which is in its hand, and empty
+abbrev pub MayStow : ℕ → Seated → Type 0
+MayStow place me = (me.1 ≡ (place, None) ∷ []) × (me.0.hand ≡ place + 1)
+    × (place < length me.0.channels) × Holds place me.0.holds
+
+-- It may fetch the slot of a place that it holds
+abbrev pub MayFetch : ℕ → Seated → Type 0
+MayFetch place me = (me.1 ≡ []) × (me.0.hand ≡ 0) × (place < length me.0.channels) × Holds place me.0.holds
+
+-- It may return the turn of a place that it holds, whose slot is in its hand with a state of the place's channels
+abbrev pub MayReturn : ℕ → Seated → Type 0
+MayReturn place me = (state : StateText) × (me.1 ≡ (place, Some state) ∷ [])
+    × (channel_count state ≡ slice_index me.0.channels place)
+    × (me.0.hand ≡ place + 1) × (place < length me.0.channels) × Holds place me.0.holds
 
 -- the seat holds the place now, and its state is with the seat
 abbrev pub GetsPlace : ℕ → Seated → Seated → Type 0

@@ -9,8 +9,8 @@ swap-requires c = let view = c.seat.inside.seat.me.0 in let of = c.requires.of i
   same_table _ _ view _ _ _ c.seat.view_is c.self.view_is of,
   in_words _ _ view _ _ _ c.seat.view_is c.self.view_is of c.self.invariant _ c.requires.place,
   rw (sym (same_channels _ _ view _ _ _ c.seat.view_is c.self.view_is of))
-      (takes_turn _ _ _ _ c.seat.invariant.empty c.seat.invariant.free
-      (in_view _ _ view _ _ _ c.seat.view_is c.self.view_is of _ c.requires.place) (is_free _ _ view _ _ _ c.seat.view_is c.self.view_is of _ c.requires.free)),
+      (takes_turn _ _ _ _
+      (c.seat.invariant.empty, c.seat.invariant.free, in_view _ _ view _ _ _ c.seat.view_is c.self.view_is of _ c.requires.place, is_free _ _ view _ _ _ c.seat.view_is c.self.view_is of _ c.requires.free)),
 )
 
 pub exchange-taken-requires : goal.exchange-taken-requires

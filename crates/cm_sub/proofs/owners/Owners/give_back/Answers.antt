@@ -9,8 +9,8 @@ load-requires c = let view = c.seat.inside.seat.me.0 in let of = c.requires.of i
   same_table _ _ view _ _ _ c.seat.view_is c.self.view_is of,
   in_words _ _ view _ _ _ c.seat.view_is c.self.view_is of c.self.invariant _ c.requires.place,
   rw (sym (same_channels _ _ view _ _ _ c.seat.view_is c.self.view_is of))
-      (fetches_slot _ _ _ _ c.seat.invariant.empty c.seat.invariant.free
-      (in_view _ _ view _ _ _ c.seat.view_is c.self.view_is of _ c.requires.place) (is_held _ _ view _ _ _ c.seat.view_is c.self.view_is of _ c.requires.held)),
+      (fetches_slot _ _ _ _
+      (c.seat.invariant.empty, c.seat.invariant.free, in_view _ _ view _ _ _ c.seat.view_is c.self.view_is of _ c.requires.place, is_held _ _ view _ _ _ c.seat.view_is c.self.view_is of _ c.requires.held)),
 )
 
 pub swap-requires : goal.swap-requires
