@@ -9,11 +9,18 @@ use Rattle.cm_base.specs.declared.faults.Fault.{Fault}
 use Rattle.cm_base.specs.declared.faults.Fault.TheVariants.{Limit}
 use Rattle.cm_base.specs.declared.faults.ReadStop.{ReadStop}
 use Rattle.cm_base.specs.declared.faults.ReadStop.TheVariants as stops
+use Rattle.cm_board.specs.Board.{BoardText}
+use Rattle.cm_signal.specs.Signals.{SignalsText}
+use Rattle.cm_expand.specs.Calls.{CallText, plan_of}
 use Rattle.cm_expand.specs.Plan.{PlanText}
 use Rattle.cm_expand.specs.Totals.{Adds, Reports, has_room, length_of, length_of_all}
 use Rattle.cm_expand.specs.declared.conv.TooMany.{TooMany}
 use Rattle.cm_expand.specs.declared.totals.Total.{Total}
 use Rattle.cm_expand.specs.declared.totals.Total.TheVariants.{AtMost, Exactly}
+
+-- the plan of what makes a call
+abbrev pub plan_by : {X : Type 0} → (X → CallText) → BoardText → SignalsText → X → PlanText
+plan_by call board signals x = plan_of board signals (call x)
 
 few-fit : (before n : ℕ) → n ≤ 1000000 → before + n ≤ 4000000 → has_room before n ≡ true
 few-fit before n one all = and_from _ _ (le-leb n 1000000 one) (le-leb (before + n) 4000000 all)

@@ -4,7 +4,7 @@ use Rattle.std.specs.Prelude.{slice_get, slice_index}
 use Rattle.std.specs.Option.{option_map}
 use Rattle.std.proofs.lemmas.List.{length-map}
 use Rattle.std.proofs.lemmas.Option.{slice_get-map, slice_get-get_or}
-use Rattle.cm_board.specs.Board.{SubText, IsSoundSub}
+use Rattle.cm_board.specs.Board.{IsSoundSub, SubText, is_output}
 use Rattle.cm_cmd.specs.Command.{CmdText}
 use Rattle.cm_cmd.specs.Entry.{chan}
 use Rattle.cm_test.specs.Questions.{tested}
@@ -14,7 +14,7 @@ use Rattle.cm_sample.specs.Rule.{IsRule, munged_word, item_word_if}
 use Rattle.cm_sample.specs.declared.rule.MungeItem.{MungeItem}
 use Rattle.cm_board.proofs.ChannelNumbers.{channel}
 use Rattle.cm_sample.proofs.Channels.{may_shift}
-use Rattle.cm_expand.specs.Rule.{item_of, rule_of, munged_at, is_output, is_raw}
+use Rattle.cm_expand.specs.Rule.{item_of, rule_of, munged_at, is_raw}
 use Rattle.cm_expand.proofs.Fits.{entry_at}
 
 item_there : (sub : SubText) (cmd : CmdText) (place : ℕ) → 1 ≤ length cmd.list → slice_get (map (item_of sub) cmd.list) (place % length (map (item_of sub) cmd.list)) ≡ Some (item_of sub (slice_index cmd.list (place % length cmd.list)))

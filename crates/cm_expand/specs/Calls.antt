@@ -17,10 +17,15 @@ pub record CanCallAt (board : BoardText) (signals : SignalsText) (t0 : ℕ) (cmd
   pub passes : (tested (sub_at board cmd.sub) cmd).0 ≡ 0
   pub time : t0 ≤ signals.horizon
 
--- the plan of what asks for a command at a time
-abbrev pub plan_by : {X : Type 0} → (X → ℕ) → (X → CmdText) → BoardText → SignalsText → X → PlanText
-plan_by t0_of cmd_of board signals x = plan_at board signals (t0_of x) (cmd_of x)
+-- a command, and when it is called
+pub record CallText : Type 0 where
+  pub t0 : ℕ
+  pub cmd : CmdText
 
--- what asks for a command at a time can be called
-abbrev pub CanCallBy : {X : Type 0} → (X → ℕ) → (X → CmdText) → BoardText → SignalsText → X → Type 0
-CanCallBy t0_of cmd_of board signals x = CanCallAt board signals (t0_of x) (cmd_of x)
+-- the plan of a call
+abbrev pub plan_of : BoardText → SignalsText → CallText → PlanText
+plan_of board signals call = plan_at board signals call.t0 call.cmd
+
+-- a call's command passes the test of its subdevice, and comes up to the horizon
+abbrev pub CanCall : BoardText → SignalsText → CallText → Type 0
+CanCall board signals call = CanCallAt board signals call.t0 call.cmd

@@ -1,27 +1,23 @@
 -- The munge of a command's buffer.
-use Rattle.std.specs.Prelude.{ℕ, ◌/◌, ◌%◌, Bool, true, false, ◌==◌, length, map, slice_index, if◌then◌else◌}
-use Rattle.cm_board.specs.Board.{SubText, maxdata_of, munge_of}
-use Rattle.cm_board.specs.declared.board.Kind.{Kind}
-use Rattle.cm_board.specs.declared.board.Kind.TheVariants as kinds
+use Rattle.std.specs.Prelude.{ℕ, ◌/◌, ◌%◌, Bool, ◌==◌, List, length, map, slice_index, if◌then◌else◌}
+use Rattle.cm_board.specs.Board.{SubText, is_output, maxdata_of, munge_of}
 use Rattle.cm_cmd.specs.Command.{CmdText}
 use Rattle.cm_cmd.specs.Entry.{chan}
 use Rattle.cm_sample.specs.Munging.{munged, unmunged}
 use Rattle.cm_sample.specs.Rule.{RuleText, rule_text}
 use Rattle.cm_sample.specs.declared.rule.MungeItem.{MungeItem}
 
--- the kinds whose commands put samples out
-abbrev pub is_output : Kind → Bool
-is_output kinds.Ao = true
-is_output kinds.Do = true
-is_output kind = false
-
 -- the flags ask for words that aren't munged
 abbrev pub is_raw : ℕ → Bool
 is_raw flags = flags / 128 % 2 == 1
 
+-- the entry of a place: the list comes again and again
+abbrev pub entry_at : List ℕ → ℕ → ℕ
+entry_at list place = slice_index list (place % length list)
+
 -- the channel of a place, whose entry is that of the place modulo the list's length
 abbrev pub chan_at : CmdText → ℕ → ℕ
-chan_at cmd place = chan (slice_index cmd.list (place % length cmd.list))
+chan_at cmd place = chan (entry_at cmd.list place)
 
 -- the munged word of a place, by the munge and the greatest code of its channel
 abbrev pub munged_at : SubText → CmdText → ℕ → ℕ → ℕ

@@ -1,6 +1,5 @@
 // Commands that are called at a time over a board and its signals.
-ghost use Rattle.std.specs.Prelude.{◌≡◌, ◌<◌, ◌≤◌, ℕ, length};
-ghost use Rattle.cm_cmd.specs.Command.{CmdText};
+ghost use Rattle.std.specs.Prelude.{◌≡◌, ◌<◌, ◌≤◌, length};
 ghost use Rattle.cm_test.specs.Accepting.{sub_at};
 ghost use Rattle.cm_test.specs.Questions.{tested};
 ghost use Rattle.cm_expand.specs.Calls as spec;
@@ -13,25 +12,22 @@ use cm_test::test::Accepted;
 
 /// What asks for a command that its subdevice accepts, called at a time.
 pub trait Call {
-    /// When the command is called, in nanoseconds.
-    ghost t0_of: { Self → ℕ };
-
-    /// The command.
-    ghost cmd_of: { Self → CmdText };
+    /// The command, and when it is called.
+    ghost call: { Self → spec.CallText };
 
     /// When the command is called, in nanoseconds.
     fn call_time(&self) -> u64
-        ensures { result ≡ t0_of self.now };
+        ensures { result ≡ (call self.now).t0 };
 
     /// The command.
     fn command(&self) -> &Accepted
-        ensures { result.now ≡ cmd_of self.now };
+        ensures { result.now ≡ (call self.now).cmd };
 }
 
 /// The plan of what is asked.
 pub fn plan_of<'a, C: Call>(board: &'a BoardDesc, signals: &'a Signals, call: &'a C) -> Plan<'a>
-    requires { spec.CanCallBy C.t0_of C.cmd_of board.now signals.now call.now }
-    ensures { plan_text result ≡ spec.plan_by C.t0_of C.cmd_of board.now signals.now call.now }
+    requires { spec.CanCall board.now signals.now (C.call call.now) }
+    ensures { plan_text result ≡ spec.plan_of board.now signals.now (C.call call.now) }
 {
     plan_at(board, signals, call.call_time(), call.command())
 }

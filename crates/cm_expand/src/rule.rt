@@ -21,7 +21,7 @@ pub fn rule_of(alloc: Global, sub: &Sub, cmd: &Accepted) -> Result<MungeRule, No
     ensures rule { IfOk result (λ rule. rule ≡ spec.rule_of sub.now cmd.now) }
     ensures applies { IfOk result (λ rule. (place word : ℕ) → munged_word rule place word ≡ spec.munged_at sub.now cmd.now place word) }
 {
-    let out = is_output(sub.kind);
+    let out = sub.kind.is_output();
     let cmd = cmd.cmd();
     let items = items_of(alloc, sub, &cmd.list)?;
     Ok(MungeRule {
@@ -52,13 +52,6 @@ fn item_of(sub: &Sub, channel: u32) -> MungeItem
         kind: sub.munge_of(channel),
         maxdata: sub.maxdata_of(channel),
     }
-}
-
-/// Whether the commands of a kind put samples out.
-pub fn is_output(kind: Kind) -> bool
-    ensures { result ≡ spec.is_output kind }
-{
-    matches!(kind, Kind::Ao | Kind::Do)
 }
 
 /// Whether the flags of a command ask for words that aren't munged.

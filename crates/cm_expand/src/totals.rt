@@ -1,7 +1,7 @@
 // How many conversions lines have together, where there is room for them.
 ghost use Rattle.std.specs.Prelude.{◌≡◌, ◌≤◌, ◌<◌, ◌-◌, min, MatchResult};
 ghost use Rattle.std.specs.List.{All};
-ghost use Rattle.cm_expand.specs.Calls.{CanCallBy, plan_by};
+ghost use Rattle.cm_expand.specs.Calls.{CanCall, plan_of};
 ghost use Rattle.cm_expand.specs.Totals.{Adds, Reports, length_of, length_of_all};
 
 use crate::call::{Call, plan_of};
@@ -35,10 +35,10 @@ pub fn total_with<C: Call>(
     total: Total,
     line: &C,
 ) -> Result<Total, Fault>
-    requires before { All (CanCallBy C.t0_of C.cmd_of board.now signals.now) before.now }
-    requires line { CanCallBy C.t0_of C.cmd_of board.now signals.now line.now }
-    requires total { Reports total (length_of_all (plan_by C.t0_of C.cmd_of board.now signals.now) before.now) }
-    ensures { Adds (length_of_all (plan_by C.t0_of C.cmd_of board.now signals.now) before.now) (length_of (plan_by C.t0_of C.cmd_of board.now signals.now line.now)) result }
+    requires before { All (λ call. CanCall board.now signals.now (C.call call)) before.now }
+    requires line { CanCall board.now signals.now (C.call line.now) }
+    requires total { Reports total (length_of_all (λ call. plan_of board.now signals.now (C.call call)) before.now) }
+    ensures { Adds (length_of_all (λ call. plan_of board.now signals.now (C.call call)) before.now) (length_of (plan_of board.now signals.now (C.call line.now))) result }
 {
     match total {
         Total::AtMost(most) => match plan_of(board, signals, line).bound(room(most)) {
@@ -64,9 +64,9 @@ fn counted_with<C: Call>(
     before: &[C],
     line: &C,
 ) -> Result<Total, Fault>
-    requires before { All (CanCallBy C.t0_of C.cmd_of board.now signals.now) before.now }
-    requires line { CanCallBy C.t0_of C.cmd_of board.now signals.now line.now }
-    ensures { Adds (length_of_all (plan_by C.t0_of C.cmd_of board.now signals.now) before.now) (length_of (plan_by C.t0_of C.cmd_of board.now signals.now line.now)) result }
+    requires before { All (λ call. CanCall board.now signals.now (C.call call)) before.now }
+    requires line { CanCall board.now signals.now (C.call line.now) }
+    ensures { Adds (length_of_all (λ call. plan_of board.now signals.now (C.call call)) before.now) (length_of (plan_of board.now signals.now (C.call line.now))) result }
 {
     match count_all(board, signals, before) {
         Ok(count) => exactly_with(board, signals, count, line),
@@ -82,8 +82,8 @@ fn exactly_with<C: Call>(
     line: &C,
 ) -> Result<Total, Fault>
     requires before { before ≤ 4000000 }
-    requires line { CanCallBy C.t0_of C.cmd_of board.now signals.now line.now }
-    ensures { Adds before (length_of (plan_by C.t0_of C.cmd_of board.now signals.now line.now)) result }
+    requires line { CanCall board.now signals.now (C.call line.now) }
+    ensures { Adds before (length_of (plan_of board.now signals.now (C.call line.now))) result }
 {
     match plan_of(board, signals, line).count(room(before)) {
         Ok(count) => Ok(Total::Exactly(before + count)),
@@ -93,8 +93,8 @@ fn exactly_with<C: Call>(
 
 // How many conversions lines have together, where they aren't too many.
 fn count_all<C: Call>(board: &BoardDesc, signals: &Signals, lines: &[C]) -> Result<u64, TooMany>
-    requires { All (CanCallBy C.t0_of C.cmd_of board.now signals.now) lines.now }
-    ensures { MatchResult result (λ count. (count ≡ length_of_all (plan_by C.t0_of C.cmd_of board.now signals.now) lines.now) × (count ≤ 4000000)) (λ _. 4000000 < length_of_all (plan_by C.t0_of C.cmd_of board.now signals.now) lines.now) }
+    requires { All (λ call. CanCall board.now signals.now (C.call call)) lines.now }
+    ensures { MatchResult result (λ count. (count ≡ length_of_all (λ call. plan_of board.now signals.now (C.call call)) lines.now) × (count ≤ 4000000)) (λ _. 4000000 < length_of_all (λ call. plan_of board.now signals.now (C.call call)) lines.now) }
 {
     let mut count = 0;
     for line in lines {

@@ -2,9 +2,7 @@
 use Rattle.std.specs.Prelude.{ℕ, ◌-◌, ◌/◌, ◌%◌, Bool, true, false, not, ◌&&◌, ◌==◌, nat_le}
 use Rattle.std.specs.Prelude.{List, [], ◌∷◌, length, get_or, set, slice_index, replicate, Option, Some, None, Result, Ok, Err, if◌then◌else◌}
 use Rattle.std.specs.List.{list_all}
-use Rattle.cm_board.specs.Board.{SubText, is_digital, is_unused, maxdata_of}
-use Rattle.cm_board.specs.declared.board.Kind.{Kind}
-use Rattle.cm_board.specs.declared.board.Kind.TheVariants as kinds
+use Rattle.cm_board.specs.Board.{SubText, is_digital, is_dio, is_unused, maxdata_of}
 use Rattle.cm_cmd.specs.Entry.{chan, range}
 use Rattle.cm_signal.specs.Signals.{SignalsText}
 use Rattle.cm_sub.specs.State.{StateText}
@@ -62,11 +60,6 @@ put sub state given = with_bits sub state (slice_index given 0) (slice_index giv
 -- bits are put, and then word 1 is that of the subdevice
 abbrev pub bits : SiteText → StateText → List ℕ → Option Done
 bits s state given = done_if (can_put s.sub given) (put s.sub state given) (set given 1 (bits_of s (put s.sub state given)))
-
--- the kind whose channels can be configured
-abbrev pub is_dio : Kind → Bool
-is_dio kinds.Dio = true
-is_dio kind = false
 
 -- a channel can become an input by the word 0, and an output by the word 1
 abbrev pub can_config : SubText → ℕ → ℕ → Bool

@@ -1,13 +1,12 @@
 // What each instruction does.
 ghost use Rattle.std.specs.Prelude.{◌≡◌, ◌≤◌, ◌^◌, length};
-ghost use Rattle.cm_board.specs.Board as board;
 ghost use Rattle.cm_insn.specs.Insn as table;
 ghost use Rattle.cm_insn.specs.Insn.{answer_of, insn_at, state_after, words_after};
 ghost use Rattle.cm_insn.specs.Kept.{IsAsLong};
 
 use crate::site::Site;
 use cm_base::prover::shows;
-use cm_board::board::{Kind, Sub};
+use cm_board::board::Sub;
 use cm_cmd::entry::{chan, range};
 use cm_signal::signals::Signals;
 use cm_sub::errno::Errno;
@@ -77,7 +76,6 @@ pub fn insn(
 
 impl Site<'_> {
     ghost use Rattle.std.specs.Prelude.{◌≡◌, ◌<◌, ◌≤◌, length};
-    ghost use Rattle.cm_board.specs.Board.{is_unused, is_digital};
     ghost use Rattle.cm_cmd.specs.Entry as bits;
     ghost use Rattle.cm_insn.specs.Insn as table;
     ghost use Rattle.cm_insn.specs.Insn.{answer_of, state_after, words_after};
@@ -104,7 +102,7 @@ impl Site<'_> {
         ensures { result ≡ table.can_read self.now.sub.now entry words.now }
     {
         let sub = self.sub;
-        !is_unused(sub.kind) && self.has_entry(entry) && !words.is_empty()
+        !sub.kind.is_unused() && self.has_entry(entry) && !words.is_empty()
     }
 
     // Writes words to an output, which keeps the last of them.
@@ -157,7 +155,7 @@ impl Site<'_> {
         ensures { result ≡ table.can_put self.now.sub.now words.now }
     {
         let sub = self.sub;
-        is_digital(sub.kind) && words.len() == 2
+        sub.kind.is_digital() && words.len() == 2
     }
 
     // Makes a channel an input or an output.
@@ -182,7 +180,7 @@ impl Site<'_> {
         ensures { result ≡ table.can_config self.now.sub.now entry word }
     {
         let sub = self.sub;
-        is_dio(sub.kind) && self.has_entry(entry) && word <= 1
+        sub.kind.is_dio() && self.has_entry(entry) && word <= 1
     }
 
     // Tells the seconds and the microseconds of the time.
@@ -216,25 +214,4 @@ fn are_codes(maxdata: u32, words: &[u32]) -> bool
     ensures { result ≡ table.are_codes maxdata words.now }
 {
     words.iter().all(|word| *word <= maxdata)
-}
-
-// Whether a subdevice is there in name alone.
-fn is_unused(kind: Kind) -> bool
-    ensures { result ≡ board.is_unused kind }
-{
-    matches!(kind, Kind::Unused)
-}
-
-// Whether the channels of a kind are one bit.
-fn is_digital(kind: Kind) -> bool
-    ensures { result ≡ board.is_digital kind }
-{
-    matches!(kind, Kind::Di | Kind::Do | Kind::Dio)
-}
-
-// Whether the channels of a kind can be configured.
-fn is_dio(kind: Kind) -> bool
-    ensures { result ≡ table.is_dio kind }
-{
-    matches!(kind, Kind::Dio)
 }

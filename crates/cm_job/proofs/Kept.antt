@@ -9,11 +9,10 @@ use Rattle.cm_base.specs.declared.faults.Fault.TheVariants.{Bad}
 use Rattle.cm_base.specs.Reading.{at_line}
 use Rattle.cm_base.specs.Words.{limited, number_in}
 use Rattle.cm_base.proofs.Values.{at_line_ok}
-use Rattle.cm_board.specs.Board.{BoardText, SubText}
+use Rattle.cm_board.specs.Board.{BoardText, SubText, is_output}
 use Rattle.cm_cmd.specs.Command.{CmdText}
 use Rattle.cm_cmd.specs.CommandText.{command_of}
 use Rattle.cm_test.specs.Accepting.{numbered_sub, passed, sub_at}
-use Rattle.cm_expand.specs.Rule.{is_output}
 use Rattle.cm_signal.specs.Signals.{SignalsText}
 use Rattle.cm_test.specs.Questions.{tested}
 use Rattle.cm_expand.specs.Totals.{has_room, length_of, length_of_all}

@@ -10,7 +10,7 @@ use Rattle.cm_cmd.specs.Command.{CmdText}
 use Rattle.cm_cmd.specs.CommandText.{command_of}
 use Rattle.cm_signal.specs.Signals.{SignalsText}
 use Rattle.cm_test.specs.Accepting.{accepted}
-use Rattle.cm_expand.specs.Calls.{CanCallAt, plan_at}
+use Rattle.cm_expand.specs.Calls as calls
 use Rattle.cm_expand.specs.Plan.{PlanText}
 use Rattle.cm_expand.specs.Totals.{has_room, length_of, length_of_all}
 use Rattle.cm_job.specs.Head.{before_commands, only_word, word_at}
@@ -32,13 +32,17 @@ accepted_line board w = accepted board w.1 >>= λ cmd. Ok (record { t0 = w.0; cm
 abbrev pub line_of : BoardText → SignalsText → LineText → Result ExpandLine Fault
 line_of board signals line = expand_words signals.horizon line >>= λ w. accepted_line board w
 
+-- what a line calls, and when
+abbrev pub call_of : ExpandLine → calls.CallText
+call_of line = record { t0 = line.t0; cmd = line.cmd }
+
 -- the plan that a line asks for
 abbrev pub plan_of : BoardText → SignalsText → ExpandLine → PlanText
-plan_of board signals line = plan_at board signals line.t0 line.cmd
+plan_of board signals line = calls.plan_of board signals (call_of line)
 
 -- a line's command passes the test of its subdevice, and is called up to the horizon
 abbrev pub CanExpand : BoardText → SignalsText → ExpandLine → Type 0
-CanExpand board signals line = CanCallAt board signals line.t0 line.cmd
+CanExpand board signals line = calls.CanCall board signals (call_of line)
 
 -- the line that a text says, where there is room for its conversions after those of other lines
 abbrev pub line_after : BoardText → SignalsText → List ExpandLine → LineText → Result ExpandLine Fault

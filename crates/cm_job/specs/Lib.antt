@@ -15,3 +15,4 @@ pub mod Pace
 pub mod Head
 pub mod TestLines
 pub mod ExpandLines
+pub mod Law

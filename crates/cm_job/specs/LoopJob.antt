@@ -1,11 +1,11 @@
 -- A loop job: a board, its signals, and two commands.
 use Rattle.std.specs.Prelude.{◌≡◌, ℕ, ◌<◌, ◌≤◌, Bool, true, false, length}
-use Rattle.cm_board.specs.Board.{BoardText}
+use Rattle.cm_board.specs.Board.{BoardText, is_output}
 use Rattle.cm_cmd.specs.Command.{CmdText}
 use Rattle.cm_test.specs.Accepting.{sub_at}
 use Rattle.cm_expand.specs.Items.{items_of}
 use Rattle.cm_expand.specs.Plan.{PlanText}
-use Rattle.cm_expand.specs.Rule.{is_output, is_raw}
+use Rattle.cm_expand.specs.Rule.{is_raw}
 use Rattle.cm_signal.specs.Signals.{SignalsText}
 use Rattle.cm_test.specs.Questions.{tested}
 use Rattle.cm_expand.specs.Calls.{plan_at}

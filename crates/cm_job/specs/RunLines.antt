@@ -1,9 +1,8 @@
 -- What the lines of a run that were read keep.
 use Rattle.std.specs.Prelude.{◌≡◌, ◌≤◌, true, false, List, length, IfSome}
 use Rattle.std.specs.List.{All}
-use Rattle.cm_board.specs.Board.{BoardText, SubText}
+use Rattle.cm_board.specs.Board.{BoardText, SubText, is_output}
 use Rattle.cm_test.specs.Accepting.{sub_at}
-use Rattle.cm_expand.specs.Rule.{is_output}
 use Rattle.cm_signal.specs.Signals.{SignalsText}
 use Rattle.cm_expand.specs.Totals.{length_of, length_of_all}
 use Rattle.cm_job.specs.Calls.{CanCall, cmd_of, plan_of}

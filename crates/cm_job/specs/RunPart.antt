@@ -1,19 +1,19 @@
 -- The session part of a run job.
-use Rattle.std.specs.Prelude.{ℕ, suc, ◌%◌, Bool, true, false, not, ◌&&◌, nat_le, nat_lt}
-use Rattle.std.specs.Prelude.{List, [], ◌∷◌, length, slice_index, Result, Ok, Err, if◌then◌else◌}
+use Rattle.std.specs.Prelude.{ℕ, suc, Bool, true, false, not, ◌&&◌, nat_le, nat_lt}
+use Rattle.std.specs.Prelude.{List, [], ◌∷◌, length, Result, Ok, Err, if◌then◌else◌}
 use Rattle.cm_base.specs.Lines.{LineText}
 use Rattle.cm_base.specs.Reading.{◌>>=◌, read_each}
 use Rattle.cm_base.specs.Words.{limited}
 use Rattle.cm_base.specs.declared.faults.Fault.{Fault}
 use Rattle.cm_base.specs.declared.faults.Fault.TheVariants.{Bad}
 use Rattle.cm_base.specs.declared.faults.Refused.{Refused}
-use Rattle.cm_board.specs.Board.{BoardText, SubText, maxdata_of}
+use Rattle.cm_board.specs.Board.{BoardText, SubText, is_output, maxdata_of}
 use Rattle.cm_cmd.specs.Command.{CmdText}
 use Rattle.cm_cmd.specs.Entry.{chan}
 use Rattle.cm_test.specs.Accepting.{numbered_sub, passed}
-use Rattle.cm_expand.specs.Rule.{is_output}
 use Rattle.cm_signal.specs.Signals.{SignalsText}
 use Rattle.cm_expand.specs.Totals.{has_room, length_of, length_of_all}
+use Rattle.cm_expand.specs.Rule.{entry_at}
 use Rattle.cm_job.specs.Forms.{asked_of}
 use Rattle.cm_job.specs.Sessions.{takes}
 use Rattle.cm_job.specs.declared.asked.Asked.{Asked}
@@ -49,14 +49,10 @@ is_code sub channel number = nat_le number (maxdata_of sub channel)
 abbrev pub code_in : SubText → ℕ → ℕ → Result ℕ Fault
 code_in sub channel number = limited (is_code sub channel number) number
 
--- the channel of a place, whose entry is that of the place modulo the list's length
-abbrev pub chan_at : List ℕ → ℕ → ℕ
-chan_at list place = chan (slice_index list (place % length list))
-
--- each number, from this place on, is a code of the channel of its place
+-- each number, from this place on, is a code of the channel of its place's entry
 abbrev pub are_codes : SubText → List ℕ → ℕ → List ℕ → Bool
 are_codes sub list place [] = true
-are_codes sub list place (number ∷ numbers) = is_code sub (chan_at list place) number && are_codes sub list (suc place) numbers
+are_codes sub list place (number ∷ numbers) = is_code sub (chan (entry_at list place)) number && are_codes sub list (suc place) numbers
 
 -- up to 1,024 values, each a code of its channel
 abbrev pub values_of : SubText → CmdText → List ℕ → Result (List ℕ) Fault

@@ -20,7 +20,6 @@ use cm_base::words::at_line;
 use cm_board::board::{BoardDesc, Sub};
 use cm_cmd::command::Cmd;
 use cm_cmd::entry::chan;
-use cm_expand::rule::is_output;
 use cm_test::accepting::{numbered_sub, passed};
 use cm_test::test::Accepted;
 use std::alloc::Global;
@@ -152,7 +151,7 @@ fn directed_sub(board: &BoardDesc, out: bool, number: u32) -> Result<&Sub, Fault
     ensures { seen (λ sub. sub.now) result ≡ spec.directed_sub board.now out number }
 {
     let sub = numbered_sub(board, number)?;
-    if is_output(sub.kind) == out {
+    if sub.kind.is_output() == out {
         Ok(sub)
     } else {
         Err(Fault::Bad)

@@ -29,9 +29,7 @@ pub struct ExpandLine {
 }
 
 impl Call for ExpandLine {
-    ghost t0_of = { λ line. line.t0 };
-
-    ghost cmd_of = { λ line. line.cmd };
+    ghost call = { spec.call_of };
 
     fn call_time(&self) -> u64 {
         self.t0

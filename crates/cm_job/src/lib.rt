@@ -7,6 +7,7 @@ pub mod asked;
 pub mod expand_lines;
 pub mod head;
 pub mod job;
+pub mod law;
 pub mod line;
 pub mod loop_accepting;
 pub mod loop_asked;

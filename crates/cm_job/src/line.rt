@@ -74,9 +74,7 @@ impl RunLine {
 }
 
 impl Call for RunLine {
-    ghost t0_of = { spec.t0_of };
-
-    ghost cmd_of = { spec.cmd_of };
+    ghost call = { spec.call_of };
 
     fn call_time(&self) -> u64 {
         self.t0()

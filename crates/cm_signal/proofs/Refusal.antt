@@ -1,6 +1,7 @@
 -- What is refused of a signals part is the first line that fails.
 use Rattle.std.proofs.Common.{◌≡◌, ℕ, ◌+◌, Bool, true, false, List, [], ◌∷◌, ◌++◌, take, refl, sym, ap, ◌∙◌, Result, Ok, Err, codes}
 use Rattle.std.specs.List.{position_or_len}
+use Rattle.cm_base.specs.Refusal.{next_number}
 use Rattle.cm_base.specs.Lines.{LineText}
 use Rattle.cm_base.specs.Parts.{fixed}
 use Rattle.cm_base.specs.Reading.{◌>>=◌, at_line, read_on}
@@ -11,7 +12,6 @@ use Rattle.cm_base.specs.declared.faults.ReadStop.TheVariants as stops
 use Rattle.cm_base.specs.declared.faults.Refused.{Refused}
 use Rattle.cm_base.proofs.Refusal.{err_is, fixed_number}
 use Rattle.cm_board.specs.Board.{BoardText, SubText}
-use Rattle.cm_board.specs.BoardPart.{next_number}
 use Rattle.cm_signal.specs.Refusal.{FirstIsRefused, IsFirstFault}
 use Rattle.cm_signal.specs.Signals.{SignalsText}
 use Rattle.cm_signal.specs.SignalsPart.{horizon_words, is_session, lines_after, lines_inside, said_after, signals_after, silent}

@@ -1,10 +1,10 @@
 -- The refusal of a signals part.
 use Rattle.std.specs.Prelude.{ℕ, ◌≡◌, List, ◌++◌, take, Err}
+use Rattle.cm_base.specs.Refusal.{next_number}
 use Rattle.cm_base.specs.Lines.{LineText}
 use Rattle.cm_base.specs.declared.faults.Fault.TheVariants.{Missing}
 use Rattle.cm_base.specs.declared.faults.Refused.{Refused}
 use Rattle.cm_board.specs.Board.{BoardText}
-use Rattle.cm_board.specs.BoardPart.{next_number}
 use Rattle.cm_signal.specs.SignalsPart.{signals_of}
 
 -- no reading of these lines fails: whatever number their end has, all that they lack is what comes after them

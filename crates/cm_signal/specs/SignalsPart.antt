@@ -11,9 +11,7 @@ use Rattle.cm_base.specs.Words.{one_and_more, one_word, or_fault, signed_number,
 use Rattle.cm_base.specs.declared.faults.Fault.{Fault}
 use Rattle.cm_base.specs.declared.faults.Fault.TheVariants.{Bad, BadLine, BadNumber, Double, Limit}
 use Rattle.cm_base.specs.declared.faults.Refused.{Refused}
-use Rattle.cm_board.specs.Board.{BoardText, SubText}
-use Rattle.cm_board.specs.declared.board.Kind.{Kind}
-use Rattle.cm_board.specs.declared.board.Kind.TheVariants as kinds
+use Rattle.cm_board.specs.Board.{BoardText, SubText, has_levels}
 use Rattle.cm_signal.specs.Signals.{SignalsText, edge_count, is_at, times_at}
 use Rattle.cm_signal.specs.declared.said.Said.{Said}
 use Rattle.cm_signal.specs.declared.said.Said.TheVariants as said
@@ -22,13 +20,6 @@ use Rattle.cm_signal.specs.declared.signals.Slope.TheVariants as slopes
 use Rattle.cm_signal.specs.declared.wave.Wave.{Wave}
 use Rattle.cm_signal.specs.declared.wave.Wave.TheVariants as waves
 use Rattle.cm_signal.specs.declared.wave.WaveAt.{WaveAt}
-
--- the kinds whose channels have levels from outside
-abbrev pub has_levels : Kind → Bool
-has_levels kinds.Ai = true
-has_levels kinds.Di = true
-has_levels kinds.Dio = true
-has_levels kind = false
 
 -- how many channels with levels a subdevice has
 abbrev pub level_channels : Option SubText → ℕ

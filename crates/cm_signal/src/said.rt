@@ -1,5 +1,5 @@
 // What a line of the signals part says by itself.
-ghost use Rattle.std.specs.Prelude.{◌≡◌, ◌<◌, ◌≤◌, ◌∷◌, ◌^◌, [], IfOk, length, map, slice_get};
+ghost use Rattle.std.specs.Prelude.{◌≡◌, ◌<◌, ◌≤◌, ◌∷◌, ◌^◌, [], IfOk, Some, length, map, slice_get};
 ghost use Rattle.cm_base.specs.Numbers.{number_of};
 ghost use Rattle.cm_base.specs.Words.{or_fault};
 ghost use Rattle.cm_base.specs.declared.faults.Fault.TheVariants as faults;
@@ -21,7 +21,7 @@ use cm_base::words::{
     at_line, four, number_below, number_in, one, one_and_more, signed_number, signed_numbers,
     three, three_and_more, time_in, times_in,
 };
-use cm_board::board::{Kind, Sub};
+use cm_board::board::Sub;
 use std::alloc::{AllocError, Global};
 
 /// What a line of the signals part says.
@@ -272,20 +272,19 @@ fn level_channels(subs: &[Sub], place: u32) -> u32
 {
     match subs.get(place as usize) {
         None => 0,
-        Some(sub) => {
-            if has_levels(sub.kind) {
-                sub.channels
-            } else {
-                0
-            }
-        }
+        Some(sub) => channels_with_levels(sub),
     }
 }
 
-fn has_levels(kind: Kind) -> bool
-    ensures { result ≡ spec.has_levels kind }
+// How many channels with levels a subdevice has.
+fn channels_with_levels(sub: &Sub) -> u32
+    ensures { result ≡ spec.level_channels (Some sub.now) }
 {
-    matches!(kind, Kind::Ai | Kind::Di | Kind::Dio)
+    if sub.kind.has_levels() {
+        sub.channels
+    } else {
+        0
+    }
 }
 
 // A period in nanoseconds.

@@ -6,9 +6,8 @@ use Rattle.std.proofs.lemmas.Bool.{eqb-true, eq-eqb, leb-true, ltb-true}
 use Rattle.std.proofs.lemmas.Bool.Decides.{nat_tests}
 use Rattle.std.proofs.lemmas.List.Sums.{AllPass-from_list_all}
 use Rattle.std.proofs.lemmas.Nat.{and_assoc, and_le_r}
-use Rattle.cm_board.specs.Board.{SubText, Masks, IsSoundSub, IsFrom1To, has_text, fits_kind, fits_commands, fits_lines, takes_commands, are_full, is_among, is_idle, may_command, range_count}
+use Rattle.cm_board.specs.Board.{SubText, Masks, IsSoundSub, IsFrom1To, has_text, fits_kind, fits_commands, fits_lines, takes_commands, are_empty, are_full, is_among, is_idle, may_command, range_count}
 use Rattle.cm_base.specs.Source as source
-use Rattle.cm_board.proofs.PrintedBack.{takes_by_start}
 use Rattle.cm_cmd.specs.Command.{CmdText}
 use Rattle.cm_cmd.specs.Entry.{chan, range}
 use Rattle.cm_cmd.specs.declared.command.Trig.{Trig}
@@ -20,7 +19,7 @@ use Rattle.cm_test.specs.ValidList.{is_valid_entry, is_valid_list, has_valid_len
 use Rattle.cm_base.proofs.SourcesBack.{each_below}
 use Rattle.cm_test.proofs.Adjusted.{first_no}
 use Rattle.cm_test.proofs.Inside.{passed_inside}
-use Rattle.cm_base.proofs.Bools.{and_true, both}
+use Rattle.cm_base.proofs.Bools.{and_true, both, not_true}
 use Rattle.cm_test.proofs.Same.{are_same}
 
 -- the five questions, each with yes
@@ -143,6 +142,9 @@ takes_some mask src o =
     let more : 1 ≤ mask = omega (arith, le, kept) in
     grind (arith, nat_tests)
 
+takes_by_start : (m : Masks) → not (m.start == 0) ≡ true → not (are_empty m) ≡ true
+takes_by_start m some = ap (λ (b : Bool). not (b && m.scan_begin == 0 && m.convert == 0 && m.scan_end == 0 && m.stop == 0)) (not_true (m.start == 0) some)
+
 timed_low : (least a : ℕ) → 1 ≤ least → least ≤ a → 1 ≤ a
 timed_low least a h k = omega arith
 
@@ -204,7 +206,7 @@ passed sub cmd ok zero =
     let o3 = one_of sub.masks.convert cmd.convert m.convert s2.1 b2.1 in
     let o4 = one_of sub.masks.scan_end cmd.scan_end m.scan_end s3.1 b3.1 in
     let o5 = one_of sub.masks.stop cmd.stop m.stop s4.1 b4.1 in
-    let takes : takes_commands sub ≡ true = takes_by_start sub ok ∙ takes_some sub.masks.start cmd.start.src o1 in
+    let takes : takes_commands sub ≡ true = takes_by_start sub.masks (takes_some sub.masks.start cmd.start.src o1) in
     let full = sound_masks sub ok takes in
     let i = passed_inside sub cmd ok (record { narrow = yes.first; compatible = yes.second; within = yes.third }) in
     let v2 = both (has_valid_length sub cmd.list && list_all (is_valid_entry sub) cmd.list) (has_valid_ranges sub cmd.list) yes.fifth in

@@ -1,10 +1,9 @@
 use Rattle.std.proofs.Common.{◌≡◌, ℕ, false, cond, ap, sym, ◌∙◌}
 use Rattle.std.specs.Prelude.{slice_index}
-use Rattle.cm_board.specs.Board.{SubText}
+use Rattle.cm_board.specs.Board.{SubText, is_output}
 use Rattle.cm_expand.specs.Items.{input_at}
 use Rattle.cm_expand.specs.Plan.{PlanText}
 use Rattle.cm_expand.specs.PlanView.{plan_text}
-use Rattle.cm_expand.specs.Rule.{is_output}
 use Rattle.cm_expand.proofs.plan.Plan.item.Goals as goal
 
 pub returns-else-no_input : goal.returns-else-no_input
