@@ -3,13 +3,13 @@ use Rattle.std.proofs.Common.{◌≡◌, ℕ, zero, suc, ◌+◌, ◌%◌, ◌<�
 use Rattle.std.specs.Prelude.{if◌then◌else◌, map, slice_index}
 use Rattle.std.proofs.lemmas.Bool.{cond-false}
 use Rattle.cm_cmd.specs.Entry.{chan}
-use Rattle.cm_board.specs.Board.{maxdata_of, munge_of}
+use Rattle.cm_board.specs.Board.{is_output, maxdata_of, munge_of}
 use Rattle.cm_sample.specs.Munging.{munged}
 use Rattle.cm_sample.specs.Rule.{map_from}
 use Rattle.cm_expand.specs.Fit.{IsExpansion}
 use Rattle.cm_expand.specs.Items.{conv_at, input_at, items_of, raw_of, samples_of}
 use Rattle.cm_expand.specs.Plan.{PlanText, times_of}
-use Rattle.cm_expand.specs.Rule.{is_output, is_raw, munged_at}
+use Rattle.cm_expand.specs.Rule.{is_raw, munged_at}
 use Rattle.cm_expand.specs.declared.conv.Conv.{Conv}
 use Rattle.cm_expand.proofs.Counted.{items_counted}
 use Rattle.cm_text.specs.Format.{IsSample, format_of}

@@ -1,13 +1,14 @@
 -- Lines that are kept for the next samples of their list entries.
 use Rattle.std.proofs.Common.{◌≡◌, inl, inr, ℕ, ◌+◌, ◌%◌, ◌<◌, ◌≤◌, false, List, ◌++◌, length, take, set, get_or, sym, ap, ◌∙◌, subst, Some, None, arith, append_assoc}
-use Rattle.std.specs.Prelude.{slice_get}
+use Rattle.std.specs.Prelude.{codes, slice_get, if◌then◌else◌}
+use Rattle.std.specs.Fmt.{decimal}
 use Rattle.std.specs.List.{All}
 use Rattle.std.proofs.Math.Nat.{mod-eq_of_lt, mod-add-mod}
 use Rattle.std.proofs.lemmas.List.{length-set}
 use Rattle.std.proofs.lemmas.Option.{slice_get_within, get_or_from_slice_get}
 use Rattle.cm_board.specs.Board.{maxdata_of}
 use Rattle.cm_cmd.specs.Entry.{chan}
-use Rattle.cm_text.specs.Format.{Format, IsSample, line_text, sample_line, sample_lines}
+use Rattle.cm_text.specs.Format.{Format, IsSample, level_of, sample_line, sample_lines}
 use Rattle.cm_text.proofs.Lines.{sample_lines-next}
 use Rattle.cm_text.specs.Kept.{AreKept, IsKept}
 use Rattle.cm_text.specs.declared.kept.KeptLine.{KeptLine}
@@ -44,8 +45,13 @@ module _ (f : Format) (place index : ℕ) (at : index ≡ place % length f.list)
   same_entry : index % length f.list ≡ place % length f.list
   same_entry = mod-eq_of_lt low ∙ at
 
+  -- what a word of a list index says
+  said_by : ℕ → ℕ → List ℕ
+  said_by k word = if f.raw then codes "raw " ++ decimal word else level_of f.sub (get_or f.list k 0) word
+
   pub same_line : (word : ℕ) → sample_line f index word ≡ sample_line f place word
-  same_line word = ap (λ (k : ℕ). line_text f.sub f.raw (get_or f.list k 0) k word) same_entry
+  unfolding said_by
+  same_line word = ap (λ (k : ℕ). decimal k ++ codes " " ++ said_by k word ++ codes "\n") same_entry
 
   pub same_sample : (word : ℕ) → IsSample f place word → IsSample f index word
   same_sample word may = subst (λ (k : ℕ). f.raw ≡ false → word ≤ maxdata_of f.sub (chan (get_or f.list k 0))) (sym same_entry) may

@@ -7,3 +7,4 @@ pub mod Joined
 pub mod Outs
 pub mod Writing
 pub mod Counts
+pub mod Scaled

@@ -6,6 +6,7 @@ use Rattle.cm_expand.specs.Items.{items_of, samples_of}
 use Rattle.cm_expand.specs.Plan.{PlanText, is_complete}
 use Rattle.cm_expand.specs.Rule.{munged_at}
 use Rattle.cm_expand.specs.declared.conv.Conv.{Conv}
+use Rattle.cm_expand.specs.Totals.{length_of}
 use Rattle.cm_text.specs.Format.{format_of, sample_lines}
 use Rattle.cm_text.specs.Outputs.{Output, output_texts}
 use Rattle.cm_text.specs.Tails.{tail_text}
@@ -20,10 +21,6 @@ munged_words p words = map_from (munged_at p.sub p.cmd) 0 words
 abbrev pub munged_samples : PlanText → List ℕ
 munged_samples p = munged_words p (samples_of p)
 
--- how many conversions a command has
-abbrev pub count_of : PlanText → ℕ
-count_of p = length (items_of p)
-
 -- the lines of the first k samples, and then the end line
 abbrev pub block : PlanText → ℕ → Tail → List ℕ
 block p k tail = sample_lines (format_of p) 0 (take k (munged_samples p)) ++ tail_text tail
@@ -34,12 +31,12 @@ ending p = if is_complete p then tails.Done else tails.Dry
 
 -- how many samples a client takes that may take them all, or no more than some
 abbrev pub take_count : PlanText → Option ℕ → ℕ
-take_count p most = up_to (count_of p) most
+take_count p most = up_to (length_of p) most
 
 -- the end line where nothing is lost: `taken` where the client takes fewer than there are
 abbrev pub cut_tail : PlanText → Option ℕ → Tail
 cut_tail p None = ending p
-cut_tail p (Some most) = if nat_lt most (count_of p) then tails.Taken most else ending p
+cut_tail p (Some most) = if nat_lt most (length_of p) then tails.Taken most else ending p
 
 -- the block of a `go` line where nothing is lost
 abbrev pub paced_block : PlanText → Option ℕ → List ℕ
@@ -61,7 +58,7 @@ outputs_of sub (conv ∷ convs) (word ∷ words) =
 
 -- `underrun` where fewer values were given than there are conversions
 abbrev pub values_tail : PlanText → ℕ → Tail
-values_tail p values = if nat_lt values (count_of p) then tails.Underrun values else ending p
+values_tail p values = if nat_lt values (length_of p) then tails.Underrun values else ending p
 
 -- the block of a `drive` line: its munged values at the times of the conversions, and the end line
 abbrev pub drive_block : PlanText → List ℕ → List ℕ

@@ -3,7 +3,8 @@ use Rattle.std.specs.Prelude.{ℕ, nat_lt, Option, Some, None, if◌then◌else�
 use Rattle.cm_expand.specs.Plan.{PlanText}
 use Rattle.cm_ring_core.specs.declared.view.EndKind.{EndKind}
 use Rattle.cm_ring_core.specs.declared.view.EndKind.TheVariants as ends
-use Rattle.cm_text.specs.Blocks.{count_of, ending}
+use Rattle.cm_expand.specs.Totals.{length_of}
+use Rattle.cm_text.specs.Blocks.{ending}
 use Rattle.cm_text.specs.declared.tail.Tail.{Tail}
 use Rattle.cm_text.specs.declared.tail.Tail.TheVariants as tails
 
@@ -20,4 +21,4 @@ tail_cut most kind count = tails.Taken most
 -- the end line of a block whose reader found an end
 abbrev pub tail_after : PlanText → Option ℕ → EndKind → ℕ → Tail
 tail_after p None kind count = tail_whole p kind count
-tail_after p (Some most) kind count = if nat_lt most (count_of p) then tail_cut most kind count else tail_whole p kind count
+tail_after p (Some most) kind count = if nat_lt most (length_of p) then tail_cut most kind count else tail_whole p kind count

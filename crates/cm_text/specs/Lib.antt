@@ -9,3 +9,4 @@ pub mod Joined
 pub mod Limits
 pub mod Blocks
 pub mod Ends
+pub mod SampleLines

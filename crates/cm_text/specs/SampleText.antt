@@ -1,7 +1,6 @@
 -- How contracts see the lines of samples that are made as the samples come.
 use Rattle.std.specs.Prelude.{ℕ, ◌+◌, ◌<◌, ◌^◌, List, [], ◌++◌, length}
 use Rattle.cm_text.specs.Format.{Format, IsSample, sample_lines}
-use Rattle.cm_text.specs.Kept.{AreKept}
 use Rattle.cm_text.specs.declared.sample_text.SampleText.TheInside.{Inside}
 
 -- the text so far, of so many samples
@@ -11,11 +10,7 @@ pub record LinesText : Type 0 where
   pub count : ℕ
 
 abbrev pub lines_text : Inside → LinesText
-lines_text t = record { format = t.format; text = t.text.items; count = t.count }
-
--- the lines that are kept are those of its format
-abbrev pub IsSampleText : Inside → Type 0
-IsSampleText t = AreKept t.format t.kept.items
+lines_text t = record { format = t.lines; text = t.text.items; count = t.count }
 
 -- a word can be reported as the sample of a place
 abbrev pub CanReport : LinesText → ℕ → ℕ → Type 0

@@ -2,6 +2,7 @@
 ghost use Rattle.std.specs.Prelude.{◌≡◌, ◌≤◌, min, length};
 ghost use Rattle.cm_expand.specs.PlanView.{plan_text};
 ghost use Rattle.cm_expand.specs.Plan as plans;
+ghost use Rattle.cm_expand.specs.Totals.{length_of};
 ghost use Rattle.cm_text.specs.Blocks as blocks;
 ghost use Rattle.cm_text.specs.Ends as ends;
 ghost use Rattle.cm_text.specs.Limits.{FitsCount};
@@ -16,8 +17,8 @@ const MANY: u64 = 4_000_000;
 
 /// How many conversions a line's command has.
 pub fn count_of(plan: &Plan<'_>) -> u64
-    requires { blocks.count_of (plan_text plan.now) ≤ 4000000 }
-    ensures { result ≡ blocks.count_of (plan_text plan.now) }
+    requires { length_of (plan_text plan.now) ≤ 4000000 }
+    ensures { result ≡ length_of (plan_text plan.now) }
 {
     match plan.count(MANY) {
         Ok(count) => count,
@@ -28,7 +29,7 @@ pub fn count_of(plan: &Plan<'_>) -> u64
 /// A board that has passed so many conversions of a plan, or all where there are fewer.
 pub fn board_after<'a>(plan: Plan<'a>, count: u64) -> Board<'a>
     ensures plan { result.plan ≡ plan_text plan.entry }
-    ensures place { result.place ≡ min count (blocks.count_of (plan_text plan.entry)) }
+    ensures place { result.place ≡ min count (length_of (plan_text plan.entry)) }
 {
     let mut board = Board::new(plan);
     for _ in 0..count {
@@ -39,7 +40,7 @@ pub fn board_after<'a>(plan: Plan<'a>, count: u64) -> Board<'a>
 
 /// The end line of a whole expansion, which has so many conversions.
 pub fn ending(plan: Plan<'_>, count: u64) -> Tail
-    requires { count ≡ blocks.count_of (plan_text plan) }
+    requires { count ≡ length_of (plan_text plan) }
     ensures { result ≡ blocks.ending (plan_text plan.entry) }
 {
     if is_complete(plan, count) {
@@ -53,7 +54,7 @@ pub fn ending(plan: Plan<'_>, count: u64) -> Tail
 // count nothing has to be walked through.
 #[tactic(auto, using(cm_expand::proofs::Counted::items_counted))]
 fn is_complete(plan: Plan<'_>, count: u64) -> bool
-    requires { count ≡ blocks.count_of (plan_text plan) }
+    requires { count ≡ length_of (plan_text plan) }
     ensures { result ≡ plans.is_complete (plan_text plan.entry) }
 {
     match plan.whole_count() {
@@ -63,7 +64,7 @@ fn is_complete(plan: Plan<'_>, count: u64) -> bool
 }
 
 fn tail_whole(plan: Plan<'_>, end: End) -> Tail
-    requires many { blocks.count_of (plan_text plan) ≤ 4000000 }
+    requires many { length_of (plan_text plan) ≤ 4000000 }
     requires end { FitsCount (plan_text plan) end.kind end.count }
     ensures { result ≡ ends.tail_whole (plan_text plan.entry) end.kind end.count }
 {
@@ -92,7 +93,7 @@ fn tail_cut(most: u64, end: End) -> Tail
 
 /// The end line of a `go` line's block whose reader found an end.
 pub fn tail_after(plan: Plan<'_>, take: Option<u64>, end: End) -> Tail
-    requires many { blocks.count_of (plan_text plan) ≤ 4000000 }
+    requires many { length_of (plan_text plan) ≤ 4000000 }
     requires end { FitsCount (plan_text plan) end.kind end.count }
     ensures { result ≡ ends.tail_after (plan_text plan.entry) take end.kind end.count }
 {

@@ -41,13 +41,14 @@ fn renew(
     index: usize,
     word: u32,
 ) -> Result<(), NoMemory>
+    requires index { index < length format.now.list }
     requires code { IsSample format.now index word }
     ensures kept { IsKept format.now index kept.new }
     ensures made { OnOk result (kept.new.made.items ≡ sample_line format.now index word) }
 {
     kept.word = None;
     kept.made.clear();
-    format.put(&mut kept.made, index as u64, word)?;
+    format.put(&mut kept.made, index, word)?;
     if let Some(line) = ShortLine::of(&kept.made) {
         kept.line = line;
         kept.word = Some(word);
@@ -65,6 +66,7 @@ fn put_new_line(
     index: usize,
     word: u32,
 ) -> Result<(), NoMemory>
+    requires index { index < length format.now.list }
     requires code { IsSample format.now index word }
     ensures kept { IsKept format.now index kept.new }
     ensures line { OnOk result (text.new.items ++ gathered.new ≡ (text.old.items ++ gathered.old) ++ sample_line format.now index word) }

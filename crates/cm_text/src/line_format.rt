@@ -1,7 +1,8 @@
 // How a command's samples are reported, by the scales of its list entries.
 
-use crate::samples::put_samples;
+use crate::line::put_line;
 use crate::scales::scales_of;
+use cm_base::short::Short;
 use cm_base::transfer::NoMemory;
 use cm_board::board::Sub;
 use cm_expand::plan::Plan;
@@ -61,20 +62,14 @@ impl<'a> LineFormat<'a> {
         self.list.len()
     }
 
-    /// Appends the line of the sample of a place.
-    pub fn put(&self, text: &mut Vec<u8>, place: u64, word: u32) -> Result<(), NoMemory>
-        requires { IsSample self.now place word }
-        ensures { OnOk result (text.new.items ≡ text.old.items ++ sample_line self.now place word) }
+    /// Appends the line of a word of the list entry `index`.
+    pub fn put(&self, text: &mut Vec<u8>, index: usize, word: u32) -> Result<(), NoMemory>
+        requires index { index < length self.now.list }
+        requires code { IsSample self.now index word }
+        ensures { OnOk result (text.new.items ≡ text.old.items ++ sample_line self.now index word) }
     {
-        put_samples(
-            text,
-            self.sub,
-            self.list,
-            self.raw,
-            Some(&self.scales),
-            place,
-            &[word],
-            &[],
-        )
+        let mut line = Short::new();
+        put_line(&mut line, &self.scales[index], self.raw, index, word);
+        line.append_to(text)
     }
 }

@@ -3,6 +3,7 @@ ghost use Rattle.std.specs.Prelude.{◌≡◌, ◌≤◌, ◌++◌, IfOk};
 ghost use Rattle.cm_expand.specs.Items.{items_of};
 ghost use Rattle.cm_expand.specs.PlanView.{plan_text};
 ghost use Rattle.cm_expand.specs.Taking.{left_of};
+ghost use Rattle.cm_expand.specs.Totals.{length_of};
 ghost use Rattle.cm_text.specs.Blocks as blocks;
 ghost use Rattle.cm_text.specs.Outputs.{output_texts};
 ghost use Rattle.cm_text.specs.Tails.{tail_text};
@@ -39,7 +40,7 @@ fn put_outputs(
 
 // The end line of an output command for which so many values were given.
 fn values_tail(plan: Plan<'_>, values: u64) -> Tail
-    requires { blocks.count_of (plan_text plan) ≤ 4000000 }
+    requires { length_of (plan_text plan) ≤ 4000000 }
     ensures { result ≡ blocks.values_tail (plan_text plan.entry) values }
 {
     let count = count_of(&plan);
@@ -59,7 +60,7 @@ pub fn outputs_block(
     words: &[u32],
     values: u64,
 ) -> Result<Vec<u8>, NoMemory>
-    requires { blocks.count_of (plan_text plan) ≤ 4000000 }
+    requires { length_of (plan_text plan) ≤ 4000000 }
     ensures { IfOk result (λ v. v.items ≡ output_texts (blocks.outputs_of sub (items_of (plan_text plan.entry)) words.now) ++ tail_text (blocks.values_tail (plan_text plan.entry) values)) }
 {
     let mut block = part_block(alloc, sub, Board::new(plan), words)?;
@@ -84,7 +85,7 @@ pub fn part_block(
 
 /// The end line of an output command for which so many values were given.
 pub fn tail_block(alloc: Global, plan: Plan<'_>, values: u64) -> Result<Vec<u8>, NoMemory>
-    requires { blocks.count_of (plan_text plan) ≤ 4000000 }
+    requires { length_of (plan_text plan) ≤ 4000000 }
     ensures { IfOk result (λ v. v.items ≡ tail_text (blocks.values_tail (plan_text plan.entry) values)) }
 {
     let mut block = Vec::new(alloc);

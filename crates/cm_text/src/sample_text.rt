@@ -1,7 +1,6 @@
 // The lines of a command's samples, made as the samples come.
 
-use crate::kept::{KeptLine, none_kept, put_kept};
-use crate::line_format::LineFormat;
+use crate::sample_lines::SampleLines;
 use cm_base::transfer::NoMemory;
 use cm_expand::plan::Plan;
 use cm_sample::consuming::Consumer;
@@ -14,20 +13,17 @@ const LINE: usize = 12;
 /// The lines of a command's samples, made as the samples come.
 #[derive(Drop)]
 pub struct SampleText<'a> {
-    format: LineFormat<'a>,
-    kept: Vec<KeptLine>,
+    lines: SampleLines<'a>,
     text: Vec<u8>,
     count: u64,
 }
 
 impl<'a> Model for SampleText<'a> {
-    ghost use Rattle.cm_text.specs.SampleText.{LinesText, lines_text, IsSampleText};
+    ghost use Rattle.cm_text.specs.SampleText.{LinesText, lines_text};
 
     ghost Value = { LinesText };
 
     ghost view = { lines_text };
-
-    ghost invariant = { IsSampleText };
 }
 
 impl<'a> SampleText<'a> {
@@ -41,11 +37,8 @@ impl<'a> SampleText<'a> {
         requires { IsFormat (format_of (plan_text plan)) }
         ensures { IfOk result (λ t. t ≡ no_lines (format_of (plan_text plan.entry))) }
     {
-        let format = LineFormat::new(alloc, plan)?;
-        let kept = none_kept(alloc, &format)?;
         Ok(SampleText {
-            format,
-            kept,
+            lines: SampleLines::new(alloc, plan)?,
             text: Vec::with_capacity(alloc, room.saturating_mul(LINE))?,
             count: 0,
         })
@@ -57,13 +50,7 @@ impl<'a> SampleText<'a> {
         ensures lines { OnOk result (self.new ≡ with_lines self.old words.now) }
         ensures format { self.new.format ≡ self.old.format }
     {
-        put_kept(
-            &mut self.text,
-            &mut self.kept,
-            &self.format,
-            self.count,
-            words,
-        )?;
+        self.lines.put(&mut self.text, self.count, words)?;
         self.count += words.len() as u64;
         Ok(())
     }
@@ -73,8 +60,7 @@ impl<'a> SampleText<'a> {
         ensures { result.items ≡ self.entry.text }
     {
         let SampleText {
-            format: _,
-            kept: _,
+            lines: _,
             text,
             count: _,
         } = self;

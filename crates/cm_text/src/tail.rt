@@ -28,19 +28,26 @@ pub fn put_tail(text: &mut Vec<u8>, tail: Tail) -> Result<(), NoMemory>
     match tail {
         Tail::Done => text.extend_from_slice(b"done\n")?,
         Tail::Dry => text.extend_from_slice(b"dry\n")?,
-        Tail::Overrun(count) => put_counted(text, b"overrun ", count)?,
-        Tail::Taken(count) => put_counted(text, b"taken ", count)?,
-        Tail::Underrun(count) => put_counted(text, b"underrun ", count)?,
+        Tail::Overrun(count) => put_counted_line(text, b"overrun ", count)?,
+        Tail::Taken(count) => put_counted_line(text, b"taken ", count)?,
+        Tail::Underrun(count) => put_counted_line(text, b"underrun ", count)?,
     }
     Ok(())
 }
 
-// Appends a word with a count, as a line.
-fn put_counted(text: &mut Vec<u8>, word: &[u8], count: u64) -> Result<(), NoMemory>
-    ensures { OnOk result (text.new.items ≡ text.old.items ++ (word.now ++ decimal count ++ codes "\n")) }
+/// Appends a word, as `overrun `, and a count.
+pub fn put_counted(text: &mut Vec<u8>, word: &[u8], count: u64) -> Result<(), NoMemory>
+    ensures { OnOk result (text.new.items ≡ text.old.items ++ (word.now ++ decimal count)) }
 {
     text.extend_from_slice(word)?;
-    put_u64(text, count)?;
+    put_u64(text, count)
+}
+
+/// Appends a word and a count as a line.
+pub fn put_counted_line(text: &mut Vec<u8>, word: &[u8], count: u64) -> Result<(), NoMemory>
+    ensures { OnOk result (text.new.items ≡ text.old.items ++ (word.now ++ decimal count ++ codes "\n")) }
+{
+    put_counted(text, word, count)?;
     text.extend_from_slice(b"\n")?;
     Ok(())
 }
