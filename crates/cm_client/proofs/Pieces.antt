@@ -1,55 +1,14 @@
--- Pieces of the munged plan, one sample longer at a time.
-use Rattle.std.proofs.Common.{◌≡◌, ℕ, zero, suc, ◌+◌, ◌-◌, ◌<◌, ◌≤◌, List, [], ◌∷◌, ◌++◌, length, get_or, take, drop, set, refl, sym, subst, Option, Some, ap, ◌∙◌, arith, length-drop, get_or-drop, append_assoc}
+-- Pieces of the munged plan that are read and handed over.
+use Rattle.std.proofs.Common.{◌≡◌, ℕ, ◌+◌, ◌-◌, ◌<◌, ◌≤◌, List, ◌++◌, length, get_or, take, drop, sym, subst, Option, Some, ap, ◌∙◌, arith, get_or-drop}
 use Rattle.std.proofs.Math.Seq.{take-add, take-append_seam}
-use Rattle.std.proofs.lemmas.List.{get_or-take, take_more, drop_more, set-append_right, length-take-le}
-use Rattle.cm_sample.specs.Rule.{munged_word, map_from}
+use Rattle.std.proofs.lemmas.List.{get_or-take}
 use Rattle.cm_ring_core.specs.declared.view.RingConstants.{RingConstants}
 use Rattle.cm_ring_core.specs.Lawful.{munged_at}
+use Rattle.cm_ring.proofs.Pieces.{length-piece, munged_there}
 use Rattle.cm_ring.specs.Roles.{Reading}
-use Rattle.cm_client.specs.Samples.{munged_plan, first_munged, piece}
+use Rattle.cm_ring.specs.Samples.{munged_plan, first_munged, piece}
 use Rattle.cm_base.specs.UpTo.{up_to}
 use Rattle.cm_client.specs.Progress.{Accepts, IsTaken, HasRead, HasAll}
-
-pub length-map_from : (f : ℕ → ℕ → ℕ) (place : ℕ) (xs : List ℕ) → length (map_from f place xs) ≡ length xs
-length-map_from f place [] = refl
-length-map_from f place (x ∷ xs) = ap suc (length-map_from f (suc place) xs)
-
-pub get_or-map_from : (f : ℕ → ℕ → ℕ) (place : ℕ) (xs : List ℕ) (i d : ℕ) → i < length xs → get_or (map_from f place xs) i d ≡ f (place + i) (get_or xs i 0)
-get_or-map_from f place [] i d within = absurd (omega arith)
-get_or-map_from f place (x ∷ xs) zero d within = ap (λ (k : ℕ). f k x) (omega arith)
-get_or-map_from f place (x ∷ xs) (suc i) d within = get_or-map_from f (suc place) xs i d (omega arith) ∙ ap (λ (k : ℕ). f k (get_or xs i 0)) (omega arith)
-
-pub piece_more : (ring : RingConstants) (place count : ℕ) → place + count < length ring.samples → piece ring place (count + 1) ≡ piece ring place count ++ munged_at ring (place + count) ∷ []
-piece_more ring place count within =
-    let all = munged_plan ring in
-    let size : length all ≡ length ring.samples = length-map_from (munged_word ring.rule) 0 ring.samples in
-    let left : length (drop place all) ≡ length all - place = length-drop place all in
-    let here : 0 + (place + count) ≡ place + count = omega arith in
-    take_more (drop place all) count 0 (omega arith)
-    ∙ ap (λ (w : ℕ). piece ring place count ++ w ∷ [])
-    (get_or-drop place all count 0 ∙ get_or-map_from (munged_word ring.rule) 0 ring.samples (place + count) 0 within ∙ ap (λ (k : ℕ). munged_word ring.rule k (get_or ring.samples (place + count) 0)) here)
-
-pub length-piece : (ring : RingConstants) (place count : ℕ) → place + count ≤ length ring.samples → length (piece ring place count) ≡ count
-length-piece ring place count within =
-    let all = munged_plan ring in
-    let size : length all ≡ length ring.samples = length-map_from (munged_word ring.rule) 0 ring.samples in
-    let left : length (drop place all) ≡ length all - place = length-drop place all in
-    length-take-le count (drop place all) (omega arith)
-
--- a sample more is copied
-pub copied_more : (ring : RingConstants) (place i : ℕ) (out old : List ℕ) → place + i < length ring.samples → i < length old → out ≡ piece ring place i ++ drop i old
-    → set out i (munged_at ring (place + i)) ≡ piece ring place (i + 1) ++ drop (i + 1) old
-copied_more ring place i out old within room is =
-    let w = munged_at ring (place + i) in
-    let size : length (piece ring place i) ≡ i = length-piece ring place i (omega arith) in
-    let split : drop i old ≡ get_or old i 0 ∷ drop (i + 1) old = drop_more old i 0 room in
-    let same : i - i ≡ 0 = omega arith in
-    ap (λ (l : List ℕ). set l i w) is
-    ∙ set-append_right (piece ring place i) (drop i old) i i w size (omega arith)
-    ∙ ap (λ (l : List ℕ). piece ring place i ++ set l (i - i) w) split
-    ∙ ap (λ (k : ℕ). piece ring place i ++ set (get_or old i 0 ∷ drop (i + 1) old) k w) same
-    ∙ sym (append_assoc (piece ring place i) (w ∷ []) (drop (i + 1) old))
-    ∙ ap (λ (l : List ℕ). l ++ drop (i + 1) old) (sym (piece_more ring place i within))
 
 -- each word of a piece may be the sample of its place
 pub piece_accepted : (count : ℕ) (made : List ℕ) (makes : List ℕ → List ℕ) (accepts : ℕ → ℕ → Type 0) (r : Reading) (words : List ℕ) (k : ℕ) → HasAll count made makes accepts r → r.part.released + k ≤ length r.ring.samples → words ≡ piece r.ring r.part.released k →
@@ -58,11 +17,9 @@ piece_accepted count made makes accepts r words k all within are i more =
     let place = r.part.released in
     let plan = munged_plan r.ring in
     let size : length words ≡ k = ap (λ (l : List ℕ). length l) are ∙ length-piece r.ring place k within in
-    let here : 0 + (place + i) ≡ place + i = omega arith in
     let word : get_or words i 0 ≡ munged_at r.ring (place + i) =
     ap (λ (l : List ℕ). get_or l i 0) are ∙ get_or-take k (drop place plan) i 0 (omega (arith, more, size)) ∙ get_or-drop place plan i 0
-    ∙ get_or-map_from (munged_word r.ring.rule) 0 r.ring.samples (place + i) 0 (omega (arith, more, size, within))
-    ∙ ap (λ (n : ℕ). munged_word r.ring.rule n (get_or r.ring.samples (place + i) 0)) here in
+    ∙ munged_there r.ring (place + i) (omega (arith, more, size, within)) in
     subst (λ (w : ℕ). accepts (count + i) w) (sym word)
     (subst (λ (n : ℕ). accepts (n + i) (munged_at r.ring (place + i))) (sym all.counted) (all.accepts (place + i) (omega (arith, more, size, within))))
 

@@ -15,16 +15,23 @@ use Rattle.cm_job.specs.declared.line.Mode.TheVariants.{Paced}
 use Rattle.cm_job.specs.declared.line.RunLine.{RunLine}
 use Rattle.cm_job.specs.declared.line.RunLine.TheVariants.{Go, Drive}
 use Rattle.cm_signal.specs.Signals.{SignalsText}
-use Rattle.cm_text.specs.Blocks.{count_of, ending, munged_samples, paced_block}
+use Rattle.cm_expand.specs.Totals.{length_of}
+use Rattle.cm_text.specs.Blocks.{ending, munged_samples, paced_block}
 use Rattle.cm_client.specs.RunText.{line_block}
 use Rattle.cm_text.specs.Limits.{FitsCount}
 use Rattle.cm_client.specs.LineRing.{ring_of}
 use Rattle.cm_text.specs.Ends.{tail_after}
 use Rattle.cm_text.specs.SampleText.{LinesText, lines_of}
+use Rattle.cm_client.specs.Going.{IsGoLine}
 use Rattle.cm_client.specs.Whole.{IsWhole, TakesAll, line_format}
 use Rattle.cm_text.proofs.Counts.{length-munged, munged_by_rule}
 use Rattle.cm_text.specs.Format.{format_of, sample_lines}
 use Rattle.cm_text.specs.Tails.{tail_text}
+
+-- a line that takes all samples reads
+pub reads : (line : RunLine) → TakesAll line → IsGoLine line
+reads (Go mode access t0 most cmd) takes = tt
+reads (Drive t0 values cmd) takes = absurd takes
 
 -- the block of a line that takes all samples
 block_all : (board : BoardText) (signals : SignalsText) (line : RunLine) → TakesAll line → line_block board signals line ≡ paced_block (plan_of board signals line) None
@@ -37,8 +44,8 @@ module _ (board : BoardText) (signals : SignalsText) (line : RunLine) (words : L
   plan = plan_of board signals line
 
   -- its words are the first ones, up to the number of conversions
-  pub first_ones : words ≡ take (count_of plan) (munged_samples plan)
-  first_ones = whole.all ∙ sym (take_all (count_of plan) (munged_samples plan) (omega (arith, length-munged plan)))
+  pub first_ones : words ≡ take (length_of plan) (munged_samples plan)
+  first_ones = whole.all ∙ sym (take_all (length_of plan) (munged_samples plan) (omega (arith, length-munged plan)))
 
   pub count_fits : FitsCount plan end.kind end.count
   count_fits = subst (λ (k : EndKind). FitsCount plan k end.count) (sym whole.done) (whole.count ∙ ap (λ (l : List ℕ). length l) whole.all ∙ length-munged plan)

@@ -1,14 +1,27 @@
 -- A `go` line whose command can be streamed.
-use Rattle.std.specs.Prelude.{◌≡◌, ◌≤◌, false}
+use Rattle.std.specs.Prelude.{◌≡◌, ◌≤◌, ℕ, false, Option, ⊤}
 use Rattle.cm_cmd.specs.Command.{CmdText}
 use Rattle.cm_expand.specs.Plan.{PlanText}
-use Rattle.cm_expand.specs.Rule.{is_output}
+use Rattle.cm_board.specs.Board.{is_output}
+use Rattle.cm_job.specs.declared.line.Mode.{Mode}
+use Rattle.cm_job.specs.declared.line.RunLine.{RunLine}
+use Rattle.cm_job.specs.declared.line.RunLine.TheVariants.{Go, Drive}
 use Rattle.cm_test.specs.Questions.{tested}
-use Rattle.cm_text.specs.Blocks.{count_of}
+use Rattle.cm_expand.specs.Totals.{length_of}
 
 -- the plan is of this command, which its subdevice, an input, accepts, and it has 4,000,000 conversions at most
 pub record IsGo (p : PlanText) (c : CmdText) : Type 0 where
   pub cmd : p.cmd ≡ c
   pub passed : (tested p.sub c).0 ≡ 0
   pub input : is_output p.sub.kind ≡ false
-  pub few : count_of p ≤ 4000000
+  pub few : length_of p ≤ 4000000
+
+-- a line that reads
+abbrev pub IsGoLine : RunLine → Type 0
+IsGoLine (Go mode access t0 most cmd) = ⊤
+IsGoLine (Drive t0 values cmd) = ⊥
+
+-- its mode, and how many samples its client takes
+abbrev pub Asks : RunLine → Mode → Option ℕ → Type 0
+Asks (Go mode access t0 most cmd) its_mode its_most = (its_mode ≡ mode) × (its_most ≡ most)
+Asks (Drive t0 values cmd) its_mode its_most = ⊥

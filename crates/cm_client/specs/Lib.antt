@@ -1,10 +1,11 @@
 pub mod Paced
 pub mod Progress
-pub mod Samples
 pub mod Source
 pub mod SourceView
 pub mod Streamed
 pub mod Waiting
+pub mod Waking
+pub mod Handing
 pub mod Idle
 pub mod Going
 pub mod Whole

@@ -6,7 +6,7 @@ use Rattle.cm_ring_core.specs.declared.view.EndKind.TheVariants.{Done, Cancelled
 use Rattle.cm_ring_core.specs.declared.view.RingConstants.{RingConstants}
 use Rattle.cm_ring_core.specs.Lawful.{IsFoundEnd, munged_at}
 use Rattle.cm_ring.specs.Roles.{Reading}
-use Rattle.cm_client.specs.Samples.{first_munged, munged_plan}
+use Rattle.cm_ring.specs.Samples.{first_munged, munged_plan}
 
 -- the number of samples to take isn't above an end's count
 abbrev pub IsTaken : Option ℕ → ℕ → Type 0

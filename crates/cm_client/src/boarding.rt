@@ -1,9 +1,12 @@
 // The board's worker.
-ghost use Rattle.std.specs.Prelude.{◌≡◌, ◌+◌, ◌<◌, ◌≤◌, length, slice_index, MatchOption};
+ghost use Rattle.std.specs.Prelude.{◌≡◌, ◌+◌, ◌<◌, ◌≤◌, length, slice_index, MatchOption, Some};
 ghost use Rattle.cm_expand.specs.PlanView.{plan_words};
-ghost use Rattle.cm_ring_core.specs.Lawful.{first_writer};
-ghost use Rattle.cm_client.specs.Streamed.{EndsTruly};
+ghost use Rattle.cm_ring_core.specs.Lawful.{first_writer, MayEndAs};
+ghost use Rattle.cm_ring_core.specs.declared.view.End.{End};
+ghost use Rattle.cm_client.specs.Handing.{in_64_bits};
+ghost use Rattle.cm_client.specs.Streamed.{EndsTruly, HeedsStop};
 
+use crate::handover::Handover;
 use crate::waiting::Waiting;
 use crate::words::{WordSource, Words};
 use cm_base::gate::Gate;
@@ -21,13 +24,13 @@ const PIECE: u32 = 256;
 /// else they are published in pieces, and before the writer waits. Where the ring is full it
 /// ends with `Cancelled` if a look found the stop asked for, and else waits if the ring is paced, and
 /// ends with `Overrun` if it isn't. After all words it ends with `Done`. It waits in a way that the
-/// caller chooses, who lets the others know that it has ended.
+/// caller chooses.
 pub fn put_words<R: Wait + Sync, P: Planned, W: Words, S: Waiting, G: Gate>(
     rt: &R,
     mut writer: Writer<P>,
     mut words: W,
     paced: bool,
-    waiting: &mut S,
+    waiting: S,
     gate: &G,
     who: u32,
 ) -> Closed<P>
@@ -36,7 +39,9 @@ pub fn put_words<R: Wait + Sync, P: Planned, W: Words, S: Waiting, G: Gate>(
     requires paced { writer.ring.paced ≡ paced }
     ensures of { (result.table ≡ writer.table) × (result.ring ≡ writer.ring) }
     ensures end { EndsTruly result }
+    ensures heeds { HeedsStop result }
 {
+    let mut handover = Handover::new(waiting, 0);
     let size = writer.size();
     let most = if paced { PIECE } else { 1 };
     // How many words are put before the next place that is a multiple of the ring's size.
@@ -50,33 +55,54 @@ pub fn put_words<R: Wait + Sync, P: Planned, W: Words, S: Waiting, G: Gate>(
         if left == 0 {
             gate.pass(who, 1);
         }
+        prove!(paced || fresh == 0);
         if writer.put(word).is_ok() {
             words.step();
             left = if left == 0 { size - 1 } else { left - 1 };
             fresh += 1;
             if fresh >= most || left == 0 {
-                writer.publish();
-                waiting.hand_on(fresh);
+                publish(&mut writer, &mut handover, fresh);
                 fresh = 0;
             }
         } else {
             if fresh > 0 {
-                writer.publish();
-                waiting.hand_on(fresh);
+                publish(&mut writer, &mut handover, fresh);
                 fresh = 0;
             }
             gate.pass(who, 2);
             if writer.stop_asked() {
-                return writer.end(EndKind::Cancelled);
+                return end(writer, handover, EndKind::Cancelled);
             }
             if !paced {
-                return writer.end(EndKind::Overrun);
+                return end(writer, handover, EndKind::Overrun);
             }
-            waiting.wait(rt);
+            handover.wait(rt, &writer);
         }
     }
     writer.publish();
-    writer.end(EndKind::Done)
+    end(writer, handover, EndKind::Done)
+}
+
+// Publishes what was put, and hands it on.
+fn publish<P: Planned, S: Waiting>(writer: &mut Writer<P>, handover: &mut Handover<S>, fresh: u32)
+    requires handed { handover.old ≡ in_64_bits writer.old.part.written }
+    requires fresh { writer.old.part.written + fresh ≡ writer.old.part.next }
+    ensures writer { writer.new ≡ record writer.old { part = record writer.old.part { written = writer.old.part.next } } }
+    ensures handed { handover.new ≡ in_64_bits writer.new.part.written }
+{
+    writer.publish();
+    handover.hand_on(writer, fresh);
+}
+
+// Ends, and lets the next worker know.
+fn end<P: Planned, S: Waiting>(writer: Writer<P>, handover: Handover<S>, kind: EndKind) -> Closed<P>
+    requires published { writer.part.written ≡ writer.part.next }
+    requires kind { MayEndAs writer.ring writer.part.at writer.part.freed writer.part.saw_stop kind writer.part.written }
+    ensures { let e : End = record { kind = kind; count = writer.part.written } in result ≡ record { table = writer.table; ring = writer.ring; part = record writer.part { closed = Some e }; end = e } }
+{
+    let closed = writer.end(kind);
+    handover.end(&closed);
+    closed
 }
 
 /// Puts the expansion of a plan into its ring, as `put_words` does.
@@ -93,7 +119,8 @@ pub fn board_work<'a, R: Wait + Sync, G: Gate>(
     requires paced { writer.ring.paced ≡ paced }
     ensures of { (result.table ≡ writer.entry.table) × (result.ring ≡ writer.entry.ring) }
     ensures end { EndsTruly result }
+    ensures heeds { HeedsStop result }
 {
     let words = WordSource::new(plan);
-    put_words(rt, writer, words, paced, &mut Backoff::new(), gate, who)
+    put_words(rt, writer, words, paced, Backoff::new(), gate, who)
 }

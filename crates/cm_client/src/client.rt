@@ -1,12 +1,12 @@
 // The client's worker, and the munger's beside it.
-ghost use Rattle.std.specs.Prelude.{◌≡◌, [], IfOk, OnErr, true};
+ghost use Rattle.std.specs.Prelude.{◌≡◌, [], IfOk, IfErr, OnErr, true};
 ghost use Rattle.cm_client.specs.Progress.{Accepts, IsSameRing};
-ghost use Rattle.cm_client.specs.Streamed.{IsFresh, StreamsTo};
+ghost use Rattle.cm_client.specs.Streamed.{HasAsked, IsFresh, StreamsTo};
 
 use crate::munging::{OwnMunger, munge_work};
 use crate::reading::consume_to_end;
 use crate::waiting::Waiting;
-use crate::workers::{AllMunged, with_worker};
+use crate::workers::{AllMunged, Worker, with_worker};
 use cm_base::gate::Gate;
 use cm_base::transfer::NoMemory;
 use cm_ring::munger::Munger;
@@ -27,6 +27,27 @@ pub struct Streamed<P: Planned, C: Consumer> {
     pub samples: C,
     pub end: End,
     pub reader: Reader<P>,
+}
+
+/// A client that gave up, for want of memory or of a thread: its reader, which has asked for the stop, so that
+/// a writer that waits for room ends.
+#[derive(Drop)]
+pub struct GaveUp<P: Planned> {
+    pub reader: Reader<P>,
+}
+
+impl<P: Planned> From<GaveUp<P>> for NoMemory {
+    fn from(_: GaveUp<P>) -> Self {
+        NoMemory
+    }
+}
+
+// Asks for the stop, and gives up.
+fn give_up<P: Planned>(mut reader: Reader<P>) -> GaveUp<P>
+    ensures { HasAsked reader result.reader }
+{
+    reader.ask_stop();
+    GaveUp { reader }
 }
 
 /// How a client reads: in place or by copying, and how many samples it takes, or all.
@@ -73,30 +94,32 @@ fn read_line<R: Wait + Sync, P: Planned, C: Consumer, W: Waiting, G: Gate>(
     mut reader: Reader<P>,
     mut consumer: C,
     waiting: W,
-    started: bool,
+    other: Worker,
     reads: Reads,
     gate: &G,
     who: u32,
-) -> Result<Streamed<P, C>, NoMemory>
+) -> Result<Streamed<P, C>, GaveUp<P>>
     requires fresh { IsFresh reader }
     requires new { (C.count consumer ≡ 0) × (C.made consumer ≡ C.makes consumer []) }
     requires accepts { Accepts (C.accepts consumer) reader.ring }
-    ensures { IfOk result (λ s. StreamsTo (C.made s.samples) (C.makes consumer) reader.ring reads.take s.end s.reader) }
+    ensures streamed { IfOk result (λ s. StreamsTo (C.made s.samples) (C.makes consumer) reader.ring reads.take s.end s.reader) }
+    ensures gave_up { IfErr result (λ g. HasAsked reader g.reader) }
 {
-    if !started {
-        reader.ask_stop();
-        return Err(NoMemory);
+    if other == Worker::Refused {
+        return Err(give_up(reader));
     }
-    let end = client_work(rt, &mut reader, &mut consumer, waiting, reads, gate, who)?;
-    Ok(Streamed {
-        samples: consumer,
-        end,
-        reader,
-    })
+    match client_work(rt, &mut reader, &mut consumer, waiting, reads, gate, who) {
+        Ok(end) => Ok(Streamed {
+            samples: consumer,
+            end,
+            reader,
+        }),
+        Err(NoMemory) => Err(GaveUp { reader }),
+    }
 }
 
 /// Munges and reads to the end, each in a thread of its own, where the writer's thread has started.
-/// It gives NoMemory where that one, or the munger's, can't be made, and has asked for the stop then.
+/// It gives up where that one, or the munger's, couldn't be made, and where memory runs out.
 pub fn run_client<
     R: Threads + Wait + Sync,
     P: Planned + Send + Sync,
@@ -106,20 +129,20 @@ pub fn run_client<
     rt: &R,
     side: ClientSide<P>,
     consumer: C,
-    started: bool,
+    other: Worker,
     reads: Reads,
     gate: &G,
     who: u32,
-) -> Result<Streamed<P, C>, NoMemory>
+) -> Result<Streamed<P, C>, GaveUp<P>>
     requires fresh { IsFresh side.reader }
     requires new { (C.count consumer ≡ 0) × (C.made consumer ≡ C.makes consumer []) }
     requires accepts { Accepts (C.accepts consumer) side.reader.ring }
-    ensures { IfOk result (λ s. StreamsTo (C.made s.samples) (C.makes consumer) side.reader.ring reads.take s.end s.reader) }
+    ensures streamed { IfOk result (λ s. StreamsTo (C.made s.samples) (C.makes consumer) side.reader.ring reads.take s.end s.reader) }
+    ensures gave_up { IfErr result (λ g. HasAsked side.reader g.reader) }
 {
-    let ClientSide { munger, mut reader } = side;
-    if !started {
-        reader.ask_stop();
-        return Err(NoMemory);
+    let ClientSide { munger, reader } = side;
+    if other == Worker::Refused {
+        return Err(give_up(reader));
     }
     munge_and_read(rt, munger, reader, consumer, reads, gate, who)
 }
@@ -138,44 +161,46 @@ fn munge_and_read<
     reads: Reads,
     gate: &G,
     who: u32,
-) -> Result<Streamed<P, C>, NoMemory>
+) -> Result<Streamed<P, C>, GaveUp<P>>
     requires fresh { IsFresh reader }
     requires new { (C.count consumer ≡ 0) × (C.made consumer ≡ C.makes consumer []) }
     requires accepts { Accepts (C.accepts consumer) reader.ring }
-    ensures { IfOk result (λ s. StreamsTo (C.made s.samples) (C.makes consumer) reader.ring reads.take s.end s.reader) }
+    ensures streamed { IfOk result (λ s. StreamsTo (C.made s.samples) (C.makes consumer) reader.ring reads.take s.end s.reader) }
+    ensures gave_up { IfErr result (λ g. HasAsked reader g.reader) }
 {
     let (_, streamed) = with_worker(
         rt,
         AllMunged,
         move || munge_work(rt, munger),
-        move |started| -> Result<Streamed<P, C>, NoMemory>
+        move |munging| -> Result<Streamed<P, C>, GaveUp<P>>
             requires { IsFresh reader × (C.count consumer ≡ 0) × (C.made consumer ≡ C.makes consumer []) × Accepts (C.accepts consumer) reader.ring }
-            ensures { IfOk result (λ s. StreamsTo (C.made s.samples) (C.makes consumer) reader.ring reads.take s.end s.reader) }
+            ensures { IfOk result (λ s. StreamsTo (C.made s.samples) (C.makes consumer) reader.ring reads.take s.end s.reader) × IfErr result (λ g. HasAsked reader g.reader) }
         {
             let waiting = Backoff::new();
-            read_line(rt, reader, consumer, waiting, started, reads, gate, who)
+            read_line(rt, reader, consumer, waiting, munging, reads, gate, who)
         },
     );
     streamed
 }
 
 /// Munges and reads to the end, both in the thread that calls it, where the writer's thread has started.
-/// It gives NoMemory where that one can't be made, and has asked for the stop then.
+/// It gives up where that one couldn't be made, and where memory runs out.
 pub fn run_munging_client<R: Wait + Sync, P: Planned, C: Consumer, G: Gate>(
     rt: &R,
     side: ClientSide<P>,
     consumer: C,
-    started: bool,
+    other: Worker,
     reads: Reads,
     gate: &G,
     who: u32,
-) -> Result<Streamed<P, C>, NoMemory>
+) -> Result<Streamed<P, C>, GaveUp<P>>
     requires fresh { IsFresh side.reader }
     requires new { (C.count consumer ≡ 0) × (C.made consumer ≡ C.makes consumer []) }
     requires accepts { Accepts (C.accepts consumer) side.reader.ring }
-    ensures { IfOk result (λ s. StreamsTo (C.made s.samples) (C.makes consumer) side.reader.ring reads.take s.end s.reader) }
+    ensures streamed { IfOk result (λ s. StreamsTo (C.made s.samples) (C.makes consumer) side.reader.ring reads.take s.end s.reader) }
+    ensures gave_up { IfErr result (λ g. HasAsked side.reader g.reader) }
 {
     let ClientSide { munger, reader } = side;
     let waiting = OwnMunger::new(munger);
-    read_line(rt, reader, consumer, waiting, started, reads, gate, who)
+    read_line(rt, reader, consumer, waiting, other, reads, gate, who)
 }

@@ -1,7 +1,7 @@
 // Reads by copying.
 ghost use Rattle.std.specs.Prelude.{◌≡◌, ◌+◌, ◌-◌, ◌<◌, ◌≤◌, ◌++◌, min, length, drop, Some};
 ghost use Rattle.cm_ring_core.specs.declared.view.End.{End};
-ghost use Rattle.cm_client.specs.Samples.{piece};
+ghost use Rattle.cm_ring.specs.Samples.{piece};
 
 use cm_ring::reader::Reader;
 use cm_sample::planned::Planned;
@@ -26,22 +26,8 @@ pub fn copy_read<P: Planned>(reader: &mut Reader<P>, out: &mut [u32]) -> usize
     let most = out.len().min(65536) as u32;
     let count = reader.map(most);
     if count > 0 {
-        copy_mapped(reader, out, count);
+        reader.copy_words(out, count);
         reader.release(count);
     }
     count as usize
-}
-
-// Copies the mapped samples.
-#[tactic(auto, using(crate::proofs::Pieces::copied_more))]
-fn copy_mapped<P: Planned>(reader: &mut Reader<P>, out: &mut [u32], count: u32)
-    requires mapped { count ≡ reader.old.mapped }
-    requires room { count ≤ length out.old }
-    requires within { reader.old.part.released + count ≤ length reader.old.ring.samples }
-    ensures same { reader.new ≡ reader.old }
-    ensures copied { out.new ≡ piece reader.old.ring reader.old.part.released count ++ drop count out.old }
-{
-    for i in 0..count {
-        out[i as usize] = reader.word(i);
-    }
 }

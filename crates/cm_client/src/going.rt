@@ -1,8 +1,11 @@
 // Input commands, whose samples a client reads.
-ghost use Rattle.std.specs.Prelude.{◌≡◌, ◌++◌, [], ℕ, take, IfOk};
+ghost use Rattle.std.specs.Prelude.{◌≡◌, ◌++◌, [], ℕ, take, IfOk, None};
 ghost use Rattle.cm_client.specs.Progress.{Accepts};
 ghost use Rattle.cm_expand.specs.PlanView.{plan_text};
-ghost use Rattle.cm_client.specs.Going.{IsGo};
+ghost use Rattle.cm_client.specs.Going.{Asks, IsGo, IsGoLine};
+ghost use Rattle.cm_client.specs.Whole.{TakesAll};
+ghost use Rattle.cm_job.specs.Calls as calls;
+ghost use Rattle.cm_job.specs.RunLines.{CanRun};
 ghost use Rattle.cm_client.specs.LineRing as rings;
 ghost use Rattle.cm_text.specs.Ends as ends;
 ghost use Rattle.cm_text.specs.Limits.{FitsCount};
@@ -16,12 +19,15 @@ use crate::streaming::stream;
 use cm_base::gate::Gate;
 use cm_base::prover::shows;
 use cm_base::transfer::NoMemory;
+use cm_board::board::BoardDesc;
 use cm_expand::board::Board;
+use cm_expand::call::plan_of;
 use cm_expand::plan::Plan;
 use cm_expand::rule::rule_of;
-use cm_job::line::{Access, Mode};
+use cm_job::line::{Access, Mode, RunLine};
 use cm_ring_core::view::End;
 use cm_sample::consuming::Consumer;
+use cm_signal::signals::Signals;
 use cm_test::test::Accepted;
 use cm_text::ending::tail_after;
 use cm_text::sample_text::SampleText;
@@ -42,6 +48,35 @@ pub struct Go<'a> {
     pub access: Access,
     /// How many samples the client takes, or all.
     pub take: Option<u64>,
+}
+
+/// What a `go` line asks.
+pub fn go_of<'a>(board: &'a BoardDesc, signals: &'a Signals, line: &'a RunLine) -> Go<'a>
+    requires run { CanRun board.now signals.now line.now }
+    requires reads { IsGoLine line.now }
+    ensures go { IsGo (plan_text result.plan) result.cmd.now }
+    ensures plan { plan_text result.plan ≡ calls.plan_of board.entry.now signals.entry.now line.entry.now }
+    ensures asks { Asks line.entry.now result.mode result.take }
+    ensures all { TakesAll line.entry.now → result.take ≡ None }
+{
+    let plan = plan_of(board, signals, line);
+    let RunLine::Go {
+        mode,
+        access,
+        take,
+        cmd,
+        ..
+    } = line
+    else {
+        unreachable!()
+    };
+    Go {
+        plan,
+        cmd,
+        mode: *mode,
+        access: *access,
+        take: *take,
+    }
 }
 
 // Whether the board waits for room.

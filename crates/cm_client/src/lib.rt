@@ -9,6 +9,8 @@ pub mod client;
 pub mod copying;
 pub mod feeding;
 pub mod going;
+pub mod handover;
+pub mod law;
 pub mod mapping;
 pub mod munging;
 pub mod opening;

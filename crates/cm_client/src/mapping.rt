@@ -1,7 +1,8 @@
 // Reads in place.
-ghost use Rattle.std.specs.Prelude.{◌≡◌, ◌+◌, ◌-◌, ◌<◌, ◌≤◌, min, length, Some};
+ghost use Rattle.std.specs.Prelude.{◌≡◌, ◌+◌, ◌-◌, ◌<◌, ◌≤◌, ◌++◌, min, length, drop, Some};
 ghost use Rattle.cm_ring_core.specs.declared.view.End.{End};
 ghost use Rattle.cm_ring_core.specs.Lawful.{munged_at};
+ghost use Rattle.cm_ring.specs.Samples.{piece};
 
 use cm_ring::reader::Reader;
 use cm_sample::planned::Planned;
@@ -43,6 +44,17 @@ impl<'a, P: Planned> MapReader<'a, P> {
         ensures same { self.new.reader.now ≡ self.old.reader.now }
     {
         self.reader.word(i)
+    }
+
+    // Copies the first `count` mapped samples to the front of `out`.
+    pub(crate) fn copy_words(&mut self, out: &mut [u32], count: u32)
+        requires mapped { count ≤ self.old.reader.now.mapped }
+        requires room { count ≤ length out.old }
+        ensures same_reader { self.new.reader.ghost_name ≡ self.old.reader.ghost_name }
+        ensures reader { self.new.reader.now ≡ self.old.reader.now }
+        ensures copied { out.new ≡ piece self.old.reader.now.ring self.old.reader.now.part.released count ++ drop count out.old }
+    {
+        self.reader.copy_words(out, count);
     }
 
     /// Releases the first `k` mapped samples, whose cells the writer may then use again (Comedi:

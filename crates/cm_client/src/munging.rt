@@ -2,6 +2,7 @@
 ghost use Rattle.std.specs.Prelude.{◌≡◌};
 ghost use Rattle.cm_client.specs.Streamed.{HasMungedAll};
 
+use crate::handover::Handover;
 use crate::waiting::Waiting;
 use cm_ring::munger::Munger;
 use cm_sample::planned::Planned;
@@ -27,14 +28,15 @@ pub fn munge_work<R: Wait + Sync, P: Planned>(rt: &R, munger: Munger<P>) -> Mung
 pub fn munge_waiting<R: Wait + Sync, P: Planned, W: Waiting>(
     rt: &R,
     mut munger: Munger<P>,
-    mut waiting: W,
+    waiting: W,
 ) -> Munger<P>
     ensures of { (result.table ≡ munger.table) × (result.ring ≡ munger.ring) }
     ensures end { HasMungedAll result }
 {
+    let mut handover = Handover::new(waiting, munger.munged());
     for _ in rt.forever() {
         let count = munger.munge_some(PIECE);
-        waiting.hand_on(count);
+        handover.hand_on(&munger, count);
         if count >= SMALL {
             continue;
         }
@@ -43,9 +45,9 @@ pub fn munge_waiting<R: Wait + Sync, P: Planned, W: Waiting>(
                 break;
             }
         }
-        waiting.wait(rt);
+        handover.wait(rt, &munger);
     }
-    waiting.end();
+    handover.end(&munger);
     munger
 }
 

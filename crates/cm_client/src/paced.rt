@@ -1,7 +1,7 @@
 // The board of a paced ring.
 ghost use Rattle.std.specs.Prelude.{◌≡◌, true};
 ghost use Rattle.cm_ring_core.specs.Lawful.{first_writer};
-ghost use Rattle.cm_client.specs.Streamed.{EndsTruly};
+ghost use Rattle.cm_client.specs.Streamed.{EndsTruly, HeedsStop};
 
 use crate::boarding::put_words;
 use crate::waiting::Waiting;
@@ -46,16 +46,15 @@ impl<P: Planned, W: Words> PacedBoard<P, W> {
     pub fn put_all<R: Wait + Sync, S: Waiting, G: Gate>(
         self,
         rt: &R,
-        mut waiting: S,
+        waiting: S,
         gate: &G,
         who: u32,
     ) -> Closed<P>
         ensures of { result.ring ≡ self }
         ensures end { EndsTruly result }
+        ensures heeds { HeedsStop result }
     {
         let PacedBoard { writer, words } = self;
-        let closed = put_words(rt, writer, words, true, &mut waiting, gate, who);
-        waiting.end();
-        closed
+        put_words(rt, writer, words, true, waiting, gate, who)
     }
 }

@@ -1,11 +1,13 @@
 // Reads to the end of a ring.
 ghost use Rattle.std.specs.Prelude.{◌≡◌, ◌+◌, ◌-◌, ◌<◌, ◌≤◌, ◌++◌, ◌≢◌, [], min, length, drop, take, true, Some, None, IfOk, IfSome, IsTrue, IsFalse, OnErr, MatchOption, ⊤};
-ghost use Rattle.cm_client.specs.Samples.{first_munged, piece};
+ghost use Rattle.cm_ring.specs.Samples.{first_munged, piece};
 ghost use Rattle.cm_base.specs.UpTo.{up_to};
+ghost use Rattle.cm_client.specs.Handing.{in_64_bits};
 ghost use Rattle.cm_client.specs.Progress.{Accepts, HasRead, HasAll, IsReadToEnd, IsSameRing, Stops};
 ghost use Rattle.cm_ring_core.specs.Lawful.{IsFoundEnd};
 
 use crate::copying::copy_read;
+use crate::handover::Handover;
 use crate::mapping::MapReader;
 use crate::waiting::Waiting;
 use cm_base::gate::Gate;
@@ -84,26 +86,11 @@ fn hand_over<P: Planned, C: Consumer, G: Gate>(
     if count == 0 {
         return Ok(0);
     }
-    copy_words(map, room, count);
+    map.copy_words(room, count);
     consumer.consume(&room[..count as usize])?;
     gate.pass(who, 3);
     map.release(count);
     Ok(count)
-}
-
-// Copies the mapped samples.
-#[tactic(auto, using(crate::proofs::Pieces::copied_more))]
-fn copy_words<P: Planned>(map: &mut MapReader<'_, P>, out: &mut [u32], count: u32)
-    requires mapped { count ≡ map.old.reader.now.mapped }
-    requires room { count ≤ length out.old }
-    requires within { map.old.reader.now.part.released + count ≤ length map.old.reader.now.ring.samples }
-    ensures same_reader { map.new.reader.ghost_name ≡ map.old.reader.ghost_name }
-    ensures reader { map.new.reader.now ≡ map.old.reader.now }
-    ensures copied { out.new ≡ piece map.old.reader.now.ring map.old.reader.now.part.released count ++ drop count out.old }
-{
-    for i in 0..count {
-        out[i as usize] = map.word(i);
-    }
 }
 
 fn read_piece<P: Planned, C: Consumer, G: Gate>(
@@ -173,6 +160,7 @@ fn read_more<P: Planned, C: Consumer, G: Gate>(
     ensures all { IfOk result (λ _. HasAll (C.count consumer.new) (C.made consumer.new) (C.makes consumer.new) (C.accepts consumer.new) reader.new) }
     ensures most { IfOk result (λ _. MatchOption most ⊤ (λ m. reader.new.part.released ≤ m)) }
     ensures asked { IfOk result (λ _. reader.new.part.asked ≡ reader.old.part.asked) }
+    ensures read { IfOk result (λ t. reader.new.part.released ≡ reader.old.part.released + t.0) }
     ensures makes { C.makes consumer.new ≡ C.makes consumer.old }
     ensures of { IsSameRing reader.old reader.new }
 {
@@ -194,10 +182,19 @@ fn end_at<P: Planned>(reader: &mut Reader<P>, count: u64) -> Option<End>
 }
 
 // Hands samples on. After a piece that isn't full the client waits, so that the munger gets ahead of it.
-fn after_piece<R: Wait, W: Waiting>(rt: &R, waiting: &mut W, count: u32, piece: u32) {
-    waiting.hand_on(count);
+fn after_piece<R: Wait, P: Planned, W: Waiting>(
+    rt: &R,
+    reader: &Reader<P>,
+    handover: &mut Handover<W>,
+    count: u32,
+    piece: u32,
+)
+    requires { in_64_bits reader.now.part.released ≡ in_64_bits (handover.old + count) }
+    ensures { handover.new ≡ in_64_bits reader.now.part.released }
+{
+    handover.hand_on(reader, count);
     if count < piece {
-        waiting.wait(rt);
+        handover.wait(rt, reader);
     }
 }
 
@@ -206,7 +203,7 @@ fn read_up_to<R: Wait + Sync, P: Planned, C: Consumer, W: Waiting, G: Gate>(
     rt: &R,
     reader: &mut Reader<P>,
     consumer: &mut C,
-    waiting: &mut W,
+    handover: &mut Handover<W>,
     chunk: u32,
     by_map: bool,
     most: Option<u64>,
@@ -214,6 +211,7 @@ fn read_up_to<R: Wait + Sync, P: Planned, C: Consumer, W: Waiting, G: Gate>(
     who: u32,
 ) -> Result<Option<End>, NoMemory>
     requires chunk { 1 ≤ chunk }
+    requires handed { handover.old ≡ in_64_bits reader.old.part.released }
     requires all { HasAll (C.count consumer.old) (C.made consumer.old) (C.makes consumer.old) (C.accepts consumer.old) reader.old }
     requires most { MatchOption most ⊤ (λ m. reader.old.part.released ≤ m) }
     ensures all { IfOk result (λ _. HasAll (C.count consumer.new) (C.made consumer.new) (C.makes consumer.new) (C.accepts consumer.new) reader.new) }
@@ -231,7 +229,7 @@ fn read_up_to<R: Wait + Sync, P: Planned, C: Consumer, W: Waiting, G: Gate>(
             return Ok(Some(end));
         }
         let (count, piece) = read_more(reader, consumer, chunk, by_map, most, gate, who)?;
-        after_piece(rt, waiting, count, piece);
+        after_piece(rt, reader, handover, count, piece);
     }
     unreachable!()
 }
@@ -253,24 +251,24 @@ fn wait_for_end<R: Wait + Sync, P: Planned>(rt: &R, reader: &mut Reader<P>) -> E
 }
 
 // Asks for the stop, and wakes a writer that waits for room.
-fn ask_stop<P: Planned, W: Waiting>(reader: &mut Reader<P>, mut waiting: W)
+fn ask_stop<P: Planned, W: Waiting>(reader: &mut Reader<P>, handover: Handover<W>)
     ensures { reader.new ≡ record reader.old { part = record reader.old.part { asked = true } } }
 {
     reader.ask_stop();
-    waiting.end();
+    handover.end(reader);
 }
 
 // Asks for the stop and waits for the end.
 fn stop_and_wait<R: Wait + Sync, P: Planned, W: Waiting>(
     rt: &R,
     reader: &mut Reader<P>,
-    waiting: W,
+    handover: Handover<W>,
 ) -> End
     ensures same { reader.new ≡ record reader.old { part = record reader.old.part { asked = true; found = Some result; end_looks = reader.new.part.end_looks } } }
     ensures above { reader.old.part.released ≤ result.count }
     ensures says { IsFoundEnd reader.new.ring reader.new.part result.kind result.count }
 {
-    ask_stop(reader, waiting);
+    ask_stop(reader, handover);
     wait_for_end(rt, reader)
 }
 
@@ -307,7 +305,7 @@ pub fn consume_to_end<R: Wait + Sync, P: Planned, C: Consumer, W: Waiting, G: Ga
     rt: &R,
     reader: &mut Reader<P>,
     consumer: &mut C,
-    mut waiting: W,
+    waiting: W,
     chunk: u32,
     by_map: bool,
     take: Option<u64>,
@@ -324,11 +322,12 @@ pub fn consume_to_end<R: Wait + Sync, P: Planned, C: Consumer, W: Waiting, G: Ga
     ensures of { IsSameRing reader.old reader.new }
     ensures no_memory { OnErr result (reader.new.part.asked ≡ true) }
 {
+    let mut handover = Handover::new(waiting, reader.released());
     match read_up_to(
         rt,
         reader,
         consumer,
-        &mut waiting,
+        &mut handover,
         chunk,
         by_map,
         take,
@@ -336,12 +335,12 @@ pub fn consume_to_end<R: Wait + Sync, P: Planned, C: Consumer, W: Waiting, G: Ga
         who,
     ) {
         Ok(Some(end)) => {
-            waiting.end();
+            handover.end(reader);
             Ok(end)
         }
-        Ok(None) => Ok(stop_and_wait(rt, reader, waiting)),
+        Ok(None) => Ok(stop_and_wait(rt, reader, handover)),
         Err(_) => {
-            ask_stop(reader, waiting);
+            ask_stop(reader, handover);
             Err(NoMemory)
         }
     }

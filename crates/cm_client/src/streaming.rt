@@ -7,7 +7,7 @@ ghost use Rattle.cm_client.specs.Streamed.{EndsTruly, IsFresh, StreamsTo};
 ghost use Rattle.cm_sample.specs.Rule.{IsRule};
 
 use crate::boarding::put_words;
-use crate::client::{ClientSide, Reads, Streamed, run_client};
+use crate::client::{ClientSide, GaveUp, Reads, Streamed, run_client};
 use crate::words::{WordSource, Words};
 use crate::workers::{TrueEnd, with_worker};
 use cm_base::gate::Gate;
@@ -62,13 +62,13 @@ pub fn stream_words<
         move || -> Closed<P>
             requires { (writer.part ≡ first_writer) × (writer.ring.samples ≡ W.all words) × (W.place words ≡ 0) × (writer.ring.paced ≡ paced) }
             ensures { EndsTruly result }
-        { put_words(rt, writer, words, paced, &mut Backoff::new(), gate, who) },
-        move |started| -> Result<Streamed<P, C>, NoMemory>
+        { put_words(rt, writer, words, paced, Backoff::new(), gate, who) },
+        move |board| -> Result<Streamed<P, C>, GaveUp<P>>
             requires { IsFresh client.reader × (C.count consumer ≡ 0) × (C.made consumer ≡ C.makes consumer []) × Accepts (C.accepts consumer) client.reader.ring }
             ensures { IfOk result (λ s. StreamsTo (C.made s.samples) (C.makes consumer) client.reader.ring reads.take s.end s.reader) }
-        { run_client(rt, client, consumer, started, reads, gate, who) },
+        { run_client(rt, client, consumer, board, reads, gate, who) },
     );
-    streamed
+    Ok(streamed?)
 }
 
 /// Streams the expansion of a plan through a new ring to a consumer.

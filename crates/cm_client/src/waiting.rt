@@ -157,19 +157,30 @@ impl<'a> Relay<'a> {
 }
 
 impl Waiting for Relay<'_> {
-    fn hand_on(&mut self, count: u32) {
+    ghost use Rattle.std.specs.Prelude.{◌≡◌, ◌+◌, ◌<◌, ◌≤◌, false, not};
+
+    fn hand_on(&mut self, count: u32)
+        ensures awake { 0 < count → self.new.sleeper ≡ false }
+        ensures woken { 0 < count → self.old.alarm.every ≤ self.old.alarm.count + count → self.new.alarm ≡ record self.old.alarm { count = 0 } }
+        ensures kept { self.old.alarm.count + count < self.old.alarm.every → self.new.alarm ≡ record self.old.alarm { count = self.old.alarm.count + count } }
+    {
         if count > 0 {
             self.sleeper.go_on();
             self.alarm.add(count);
         }
     }
 
-    fn wait<R: Wait>(&mut self, rt: &R) {
+    fn wait<R: Wait>(&mut self, rt: &R)
+        ensures alarm { self.new.alarm ≡ record self.old.alarm { count = 0 } }
+        ensures sleeper { self.new.sleeper ≡ not self.old.sleeper }
+    {
         self.alarm.wake_for_rest();
         self.sleeper.wait(rt);
     }
 
-    fn end(&mut self) {
+    fn end(&mut self)
+        ensures { self.new.alarm ≡ record self.old.alarm { count = 0 } }
+    {
         self.alarm.wake();
     }
 }

@@ -1,9 +1,7 @@
 // The blocks of lines that take all samples.
-ghost use Rattle.std.specs.Prelude.{◌≡◌, ◌<◌, length, slice_get, IfOk, IfSome, None};
+ghost use Rattle.std.specs.Prelude.{◌≡◌, ◌<◌, length, slice_get, IfOk, IfSome};
 ghost use Rattle.cm_client.specs.Progress.{Accepts};
-ghost use Rattle.cm_expand.specs.PlanView.{plan_text};
 ghost use Rattle.cm_client.specs.RunText.{line_block};
-ghost use Rattle.cm_client.specs.Going.{IsGo};
 ghost use Rattle.cm_client.specs.LineRing.{ring_of};
 ghost use Rattle.cm_text.specs.SampleText.{CanReport, no_lines};
 ghost use Rattle.cm_client.specs.Whole.{HasWhole, IsWhole, TakesAll, line_format};
@@ -11,10 +9,9 @@ ghost use Rattle.cm_job.specs.Calls as calls;
 ghost use Rattle.cm_job.specs.RunLines.{CanRun};
 ghost use Rattle.cm_job.specs.declared.line.Mode.TheVariants.{Paced};
 
-use crate::going::{Go, text_of, with_end};
+use crate::going::{go_of, text_of, with_end};
 use cm_base::transfer::NoMemory;
 use cm_board::board::BoardDesc;
-use cm_expand::call::plan_of;
 use cm_job::job::RunJob;
 use cm_job::line::RunLine;
 use cm_ring_core::view::End;
@@ -58,6 +55,7 @@ fn whole_block(
 }
 
 /// The lines of the samples of a line that takes all, before the first.
+#[tactic(auto, using(crate::proofs::Wholes::reads))]
 pub fn text_for<'a>(
     alloc: Global,
     board: &'a BoardDesc,
@@ -73,6 +71,7 @@ pub fn text_for<'a>(
 }
 
 /// The block of a line that takes all samples, whose lines are made.
+#[tactic(auto, using(crate::proofs::Wholes::reads))]
 pub fn block_of(
     board: &BoardDesc,
     signals: &Signals,
@@ -85,32 +84,4 @@ pub fn block_of(
     ensures { IfOk result (λ text. text.items ≡ line_block board.now signals.now line.now) }
 {
     with_end(go_of(board, signals, line), lines, end)
-}
-
-// What a `go` line that takes all samples asks.
-fn go_of<'a>(board: &'a BoardDesc, signals: &'a Signals, line: &'a RunLine) -> Go<'a>
-    requires run { CanRun board.now signals.now line.now }
-    requires all { TakesAll line.now }
-    ensures go { IsGo (plan_text result.plan) result.cmd.now }
-    ensures plan { plan_text result.plan ≡ calls.plan_of board.entry.now signals.entry.now line.entry.now }
-    ensures all { result.take ≡ None }
-{
-    let plan = plan_of(board, signals, line);
-    let RunLine::Go {
-        mode,
-        access,
-        take,
-        cmd,
-        ..
-    } = line
-    else {
-        unreachable!()
-    };
-    Go {
-        plan,
-        cmd,
-        mode: *mode,
-        access: *access,
-        take: *take,
-    }
 }

@@ -1,5 +1,5 @@
 // A worker in a thread of its own.
-ghost use Rattle.std.specs.Prelude.{Bool};
+ghost use Rattle.cm_client.specs.declared.workers.Worker.{Worker};
 ghost use Rattle.cm_client.specs.Streamed.{EndsTruly, HasMungedAll};
 
 use cm_ring::munger::Munger;
@@ -25,37 +25,46 @@ impl<P: Planned> Promise<Munger<P>> for AllMunged {
     ghost kept_by = { λ _ munger. HasMungedAll munger };
 }
 
+/// What became of a worker that was to have a thread of its own.
+#[derive(Clone, Copy, Debug, PartialEq, Eq)]
+pub enum Worker {
+    /// It has its thread.
+    Started,
+    /// No thread could be made for it.
+    Refused,
+}
+
 /// Calls a worker in a thread of its own and the rest in this one, and gives what both give. The rest
-/// is told at once whether the thread could be made; where it couldn't, the worker is called after the
-/// rest. The worker has ended when it returns, and gives what it promises.
+/// learns at once what became of the worker; where that was refused, it is called after the rest. The
+/// worker has ended when it returns, and gives what it promises.
 pub fn with_worker<
     R: Threads + Wait,
     A: Send + Drop,
     B,
     P: Promise<A> + Drop,
     F: FnOnce() -> A + Send,
-    G: FnOnce(bool) -> B,
+    G: FnOnce(Worker) -> B,
 >(rt: &R, promise: P, worker: F, rest: G) -> (A, B)
     requires worker { F.pre worker }
     requires keeps { (given : A) → F.post worker given → P.kept_by promise given }
-    requires rest { (started : Bool) → G.pre rest started }
+    requires rest { (became : Worker) → G.pre rest became }
     ensures worker { P.kept_by promise result.0 }
-    ensures rest { (started : Bool) × G.post rest started result.1 }
+    ensures rest { (became : Worker) × G.post rest became result.1 }
 {
     thread::scope(
         thread::scope_env(),
         rt,
         move |scope| -> (A, B)
-            requires { F.pre worker × ((given : A) → F.post worker given → P.kept_by promise given) × ((started : Bool) → G.pre rest started) }
-            ensures { P.kept_by promise result.0 × ((started : Bool) × G.post rest started result.1) }
+            requires { F.pre worker × ((given : A) → F.post worker given → P.kept_by promise given) × ((became : Worker) → G.pre rest became) }
+            ensures { P.kept_by promise result.0 × ((became : Worker) × G.post rest became result.1) }
         {
             match scope.spawn_with(promise, worker) {
                 Ok(handle) => {
-                    let others = rest(true);
+                    let others = rest(Worker::Started);
                     (handle.join(rt), others)
                 }
                 Err(refused) => {
-                    let others = rest(false);
+                    let others = rest(Worker::Refused);
                     ((refused.value)(), others)
                 }
             }

@@ -5,7 +5,7 @@ use Rattle.std.proofs.lemmas.List.{take_all}
 use Rattle.cm_sample.proofs.Mapped.{length-map_from}
 use Rattle.cm_sample.specs.Rule.{RuleText, map_from, munged_word}
 use Rattle.cm_client.specs.Progress.{IsTaken}
-use Rattle.cm_client.specs.Samples.{munged_plan}
+use Rattle.cm_ring.specs.Samples.{munged_plan}
 use Rattle.cm_expand.specs.Items.{items_of, samples_of}
 use Rattle.cm_expand.specs.Plan.{PlanText}
 use Rattle.cm_expand.specs.Rule.{rule_of}
@@ -21,7 +21,8 @@ use Rattle.cm_ring_core.specs.declared.view.EndKind.{EndKind}
 use Rattle.cm_ring_core.specs.declared.view.EndKind.TheVariants.{Done, Overrun, Cancelled}
 use Rattle.cm_ring_core.specs.declared.view.ReaderPart.{ReaderPart}
 use Rattle.cm_ring_core.specs.declared.view.RingConstants.{RingConstants}
-use Rattle.cm_text.specs.Blocks.{count_of, munged_samples, munged_words, outputs_of, values_tail}
+use Rattle.cm_expand.specs.Totals.{length_of}
+use Rattle.cm_text.specs.Blocks.{munged_samples, munged_words, outputs_of, values_tail}
 use Rattle.cm_client.specs.LineRing.{ring_of}
 use Rattle.cm_text.proofs.Counts.{length-munged, munged_by_rule}
 use Rattle.cm_client.specs.Streamed.{HasStreamed}
@@ -31,7 +32,7 @@ use Rattle.cm_text.specs.Tails.{tail_text}
 use Rattle.cm_loop.specs.LoopText.{filter_of, loop_text, loop_words, take_of}
 
 -- as many words as samples of the input
-pub length-loop_words : (job : LoopJobText) → length (loop_words job) ≡ count_of (input_of job)
+pub length-loop_words : (job : LoopJobText) → length (loop_words job) ≡ length_of (input_of job)
 length-loop_words job = length_all_filtered (filter_of job) (munged_samples (input_of job)) ∙ length-munged (input_of job)
 
 -- the words past the last conversion are not put out
@@ -95,14 +96,14 @@ munged_as p ring words some rule samples =
 
 -- what comes out of a loop's output ring
 pub loop_out : (job : LoopJobText) (ring : RingConstants) (most : Option ℕ) (words : List ℕ) (e : End) (r : Reading) → 1 ≤ length (output_of job).cmd.list → ring.paced ≡ true → ring.rule ≡ rule_of (output_of job).sub (output_of job).cmd → ring.samples ≡ loop_words job
-    → most ≡ take_of (count_of (input_of job)) (count_of (output_of job)) → HasStreamed ring most words e r → words ≡ take (count_of (output_of job)) (munged_words (output_of job) (loop_words job))
+    → most ≡ take_of (length_of (input_of job)) (length_of (output_of job)) → HasStreamed ring most words e r → words ≡ take (length_of (output_of job)) (munged_words (output_of job) (loop_words job))
 loop_out job ring most words e r some paced rule samples takes streamed =
     let s = subst (λ (o : Option ℕ). HasStreamed ring o words e r) takes streamed in
-    let many : length ring.samples ≡ count_of (input_of job) = ap (length {A = ℕ}) samples ∙ length-loop_words job in
-    first_words ring (count_of (input_of job)) (count_of (output_of job)) words e r paced many s ∙ ap (take (count_of (output_of job))) (munged_as (output_of job) ring (loop_words job) some rule samples)
+    let many : length ring.samples ≡ length_of (input_of job) = ap (length {A = ℕ}) samples ∙ length-loop_words job in
+    first_words ring (length_of (input_of job)) (length_of (output_of job)) words e r paced many s ∙ ap (take (length_of (output_of job))) (munged_as (output_of job) ring (loop_words job) some rule samples)
 
 -- the text of a loop, of which the words past the last conversion are no part
-pub text_is : (job : LoopJobText) (sub : ℕ) (p : PlanText) (words : List ℕ) (values : ℕ) → sub ≡ (output_of job).index → p ≡ output_of job → words ≡ take (count_of (output_of job)) (munged_words (output_of job) (loop_words job)) → values ≡ length (loop_words job)
+pub text_is : (job : LoopJobText) (sub : ℕ) (p : PlanText) (words : List ℕ) (values : ℕ) → sub ≡ (output_of job).index → p ≡ output_of job → words ≡ take (length_of (output_of job)) (munged_words (output_of job) (loop_words job)) → values ≡ length (loop_words job)
     → output_texts (outputs_of sub (items_of p) words) ++ tail_text (values_tail p values) ≡ loop_text job
 text_is job sub p words values sub_is plan words_are values_are =
     let q : PlanText = output_of job in

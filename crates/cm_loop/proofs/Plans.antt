@@ -4,10 +4,10 @@ use Rattle.cm_board.specs.Board.{SubText, IsSoundSub}
 use Rattle.cm_cmd.specs.Command.{CmdText}
 use Rattle.cm_expand.specs.Plan.{PlanText}
 use Rattle.cm_expand.specs.Rule.{rule_of}
-use Rattle.cm_text.specs.Blocks.{count_of}
 use Rattle.cm_client.proofs.Rings.{rule_sound}
 use Rattle.cm_sample.specs.Rule.{IsRule, RuleText}
 use Rattle.cm_test.specs.Questions.{tested}
+use Rattle.cm_expand.specs.Totals.{length_of}
 
 -- a plan, with its subdevice and its command as a job has them
 module _ (t p : PlanText) (sub : SubText) (cmd : CmdText) (plan : p ≡ t) (sub_is : sub ≡ p.sub) (cmd_is : cmd ≡ t.cmd) where
@@ -24,5 +24,5 @@ module _ (t p : PlanText) (sub : SubText) (cmd : CmdText) (plan : p ≡ t) (sub_
   sound_rule rule is sound ok = subst IsRule (sym is) (rule_sound sub cmd sound (passes ok))
 
 -- both commands have few conversions
-pub few_of : (p t : PlanText) → p ≡ t → count_of t ≤ 1000000 → count_of p ≤ 4000000
-few_of p t plan few = let same = ap count_of plan in omega arith
+pub few_of : (p t : PlanText) → p ≡ t → length_of t ≤ 1000000 → length_of p ≤ 4000000
+few_of p t plan few = let same = ap length_of plan in omega arith

@@ -2,25 +2,16 @@
 use Rattle.std.proofs.Common.{◌≡◌, ℕ, ◌+◌, ◌%◌, ◌<◌, ◌≤◌, Bool, true, cond, List, [], ◌∷◌, ◌++◌, length, take, get_or, sym, ap, ◌∙◌, subst, Option, Some, None, arith}
 use Rattle.std.specs.Prelude.{slice_get, slice_index}
 use Rattle.std.proofs.lemmas.List.{take_more, length-take-le}
-use Rattle.cm_sample.proofs.Mapped.{length-map_from, get_or-map_from, map_from-same}
+use Rattle.cm_sample.proofs.Mapped.{map_from-same}
 use Rattle.cm_sample.specs.Rule.{item_word_if, munged_word}
 use Rattle.cm_ring_core.specs.declared.view.RingConstants.{RingConstants}
-use Rattle.cm_ring_core.specs.Lawful.{munged_at}
-use Rattle.cm_client.specs.Samples.{munged_plan}
+use Rattle.cm_ring.specs.Roles.{Writing}
+use Rattle.cm_ring.specs.Samples.{munged_plan}
 use Rattle.cm_loop.specs.declared.rule.LoopItem.{LoopItem}
 use Rattle.cm_loop.specs.Filter.{FilterText, AreWithin, filtered, all_filtered}
 use Rattle.cm_loop.specs.State.{StateText, StandsFor, IsNext}
-use Rattle.cm_loop.specs.Work.{IsWaiting}
+use Rattle.cm_loop.specs.Work.{HasLooked, IsWaiting}
 use Rattle.cm_loop.proofs.Outputs.{length_all_filtered, output_there, filtered_first}
-
--- there are as many munged samples as samples, and each is that of its place
-pub length_munged : (ring : RingConstants) → length (munged_plan ring) ≡ length ring.samples
-length_munged ring = length-map_from (munged_word ring.rule) 0 ring.samples
-
-pub munged_there : (ring : RingConstants) (k : ℕ) → k < length ring.samples → get_or (munged_plan ring) k 0 ≡ munged_at ring k
-munged_there ring k h =
-    let here : 0 + k ≡ k = omega arith in
-    get_or-map_from (munged_word ring.rule) 0 ring.samples k 0 0 h ∙ ap (λ (p : ℕ). munged_word ring.rule p (get_or ring.samples k 0)) here
 
 -- the next sample of a list, given to a state that stands for those before it
 module _ (rule : FilterText) (x : List ℕ) (k : ℕ) (more : k < length x) (was : StateText) (same : was.rule ≡ rule) (stands : StandsFor was (take k x)) (word : ℕ) (is_word : word ≡ get_or x k 0) where
@@ -64,6 +55,14 @@ pub all_put : (rule : FilterText) (x samples : List ℕ) (written put taken : �
 all_put rule x samples written put taken waiting plan all is waits here =
     let w : IsWaiting None put taken rule x = subst (λ (o : Option ℕ). IsWaiting o put taken rule x) is waits in
     let size : length samples ≡ length (all_filtered rule x) = ap (length {A = ℕ}) plan in here ∙ (w ∙ (all ∙ (sym (length_all_filtered rule x) ∙ sym size)))
+
+-- looks after which there were others
+pub looked_on : (a b c : Writing) (waiting : Option ℕ) → HasLooked a b None → HasLooked b c waiting → HasLooked a c waiting
+looked_on a b c waiting first then = record {
+  looks = omega (arith, first.looks, then.looks);
+  stop_looks = then.stop_looks ∙ first.stop_looks;
+  saw_stop = then.saw_stop ∙ first.saw_stop;
+}
 
 -- raw samples stay as they are
 pub munged_raw : (ring : RingConstants) → ring.rule.raw ≡ true → munged_plan ring ≡ ring.samples

@@ -1,6 +1,6 @@
 -- What the thread of a loop's filter has.
 use Rattle.std.specs.Prelude.{◌≡◌, true, []}
-use Rattle.cm_client.specs.Samples.{munged_plan}
+use Rattle.cm_ring.specs.Samples.{munged_plan}
 use Rattle.cm_loop.specs.Filter.{FilterText, all_filtered, AreWithin}
 use Rattle.cm_loop.specs.State.{StateText, StandsFor}
 use Rattle.cm_ring.specs.Roles.{Reading, Writing}

@@ -31,6 +31,17 @@ IsSameInput old new = IsSameStream old new × (new.part.released ≡ old.part.re
 abbrev pub IsSameOutput : Writing → Writing → Type 0
 IsSameOutput old new = (new.table ≡ old.table) × (new.ring ≡ old.ring)
 
+-- how many outputs wait for room
+abbrev pub waits : Option ℕ → ℕ
+waits None = 0
+waits (Some output) = 1
+
+-- a writer each of whose looks found a sample more released, but for that of an output which waits; none was at the stop
+pub record HasLooked (old new : Writing) (waiting : Option ℕ) : Type 0 where
+  pub looks : new.part.read_looks + old.part.freed ≤ old.part.read_looks + new.part.freed + waits waiting
+  pub stop_looks : new.part.stop_looks ≡ old.part.stop_looks
+  pub saw_stop : new.part.saw_stop ≡ old.part.saw_stop
+
 -- at an end with Done all of the input is released, and at one with Cancelled the stop was asked for
 abbrev pub IsLoopEndBy : EndKind → Reading → Type 0
 IsLoopEndBy Done input = input.part.released ≡ length input.ring.samples

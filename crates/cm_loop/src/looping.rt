@@ -1,5 +1,6 @@
 // A whole loop.
 ghost use Rattle.std.specs.Prelude.{◌≡◌, ◌≤◌, take, IfOk};
+ghost use Rattle.cm_expand.specs.Totals.{length_of};
 ghost use Rattle.cm_text.specs.Blocks as blocks;
 ghost use Rattle.cm_job.specs.LoopJob.{input_of, output_of};
 ghost use Rattle.cm_loop.specs.LoopText as spec;
@@ -59,8 +60,8 @@ fn loop_words<R: Threads + Wait + Sync, G: Gate + Sync>(
     gate: &G,
 ) -> Result<Vec<u32>, NoMemory>
     requires filter { filter.now ≡ spec.filter_of job.now }
-    requires samples { samples ≡ blocks.count_of (input_of job.now) }
-    ensures { IfOk result (λ v. v.items ≡ take (blocks.count_of (output_of job.now)) (blocks.munged_words (output_of job.now) (spec.loop_words job.now))) }
+    requires samples { samples ≡ length_of (input_of job.now) }
+    ensures { IfOk result (λ v. v.items ≡ take (length_of (output_of job.now)) (blocks.munged_words (output_of job.now) (spec.loop_words job.now))) }
 {
     let input = job.input_plan();
     let output = job.output_plan();
@@ -95,8 +96,10 @@ fn loop_words<R: Threads + Wait + Sync, G: Gate + Sync>(
     let outputs = count_of(&output);
     let words = Vec::with_capacity(alloc, samples.min(outputs) as usize)?;
     let reads = reads_of(samples, outputs);
-    let streamed = stream_loop(rt, board, side, words, reads, gate)?;
-    Ok(streamed.samples)
+    match stream_loop(rt, board, side, words, reads, gate)? {
+        Ok(streamed) => Ok(streamed.samples),
+        Err(_) => Err(NoMemory),
+    }
 }
 
 /// Runs the loop of a job, and gives its text, after all threads have ended: the filtered samples of

@@ -1,15 +1,14 @@
 // The threads of a loop.
-ghost use Rattle.std.specs.Prelude.{◌≡◌, [], IfOk};
-ghost use Rattle.cm_client.specs.Streamed.{IsFresh, StreamsTo};
+ghost use Rattle.std.specs.Prelude.{◌≡◌, [], IfOk, IfErr, true};
+ghost use Rattle.cm_client.specs.Streamed.{HasAsked, IsFresh, StreamsTo};
 
 use crate::side::FilterSide;
 use cm_base::gate::Gate;
-use cm_base::transfer::NoMemory;
-use cm_client::client::{ClientSide, Reads, Streamed, run_munging_client};
+use cm_client::client::{ClientSide, GaveUp, Reads, Streamed, run_munging_client};
 use cm_client::munging::munge_work;
 use cm_client::paced::PacedBoard;
 use cm_client::words::Words;
-use cm_client::workers::{AllMunged, TrueEnd, with_worker};
+use cm_client::workers::{AllMunged, TrueEnd, Worker, with_worker};
 use cm_ring::munger::Munger;
 use cm_sample::planned::Planned;
 use crossbeam_utils::Backoff;
@@ -32,8 +31,9 @@ pub(crate) struct LoopSide<'a, P: Planned, Q: Planned> {
 
 /// Streams an input through a filter into an output, and gives what comes out of its ring, up to as
 /// many words as the client takes: the input's board and munger and the filter have threads of their own,
-/// the client munges the output's ring itself, and all threads have ended when it returns. It gives
-/// NoMemory, too, where a thread can't be made, and has asked for the stop then.
+/// the client munges the output's ring itself, and all threads have ended when it returns. Where a thread of
+/// the input's ring or the filter's can't be made, the input gives up. Else the output's client may, and the
+/// filter, which sees that stop, hands it on.
 pub(crate) fn stream_loop<
     R: Threads + Wait + Sync,
     P: Planned + Send + Sync,
@@ -47,19 +47,21 @@ pub(crate) fn stream_loop<
     words: Vec<u32>,
     reads: Reads,
     gate: &G,
-) -> Result<Streamed<Q, Vec<u32>>, NoMemory>
+) -> Result<Result<Streamed<Q, Vec<u32>>, GaveUp<Q>>, GaveUp<P>>
     requires fresh { IsFresh side.client.reader }
     requires words { words.items ≡ [] }
-    ensures { IfOk result (λ s. StreamsTo s.samples.items (λ words. words) side.entry.client.reader.ring reads.take s.end s.reader) }
+    ensures streamed { IfOk result (λ r. IfOk r (λ s. StreamsTo s.samples.items (λ words. words) side.entry.client.reader.ring reads.take s.end s.reader)) }
+    ensures output { IfOk result (λ r. IfErr r (λ g. HasAsked side.entry.client.reader g.reader)) }
+    ensures input { IfErr result (λ g. g.reader.part.asked ≡ true) }
 {
     let (_, streamed) = with_worker(
         rt,
         TrueEnd,
         move || board.put_all(rt, Backoff::new(), gate, BOARD),
-        move |started| -> Result<Streamed<Q, Vec<u32>>, NoMemory>
+        move |board| -> Result<Result<Streamed<Q, Vec<u32>>, GaveUp<Q>>, GaveUp<P>>
             requires { IsFresh side.client.reader × (words.items ≡ []) }
-            ensures { IfOk result (λ s. StreamsTo s.samples.items (λ words. words) side.entry.client.reader.ring reads.take s.end s.reader) }
-        { munge_beside(rt, side, words, started, reads, gate) },
+            ensures { IfOk result (λ r. IfOk r (λ s. StreamsTo s.samples.items (λ words. words) side.entry.client.reader.ring reads.take s.end s.reader) × IfErr r (λ g. HasAsked side.entry.client.reader g.reader)) × IfErr result (λ g. g.reader.part.asked ≡ true) }
+        { munge_beside(rt, side, words, board, reads, gate) },
     );
     streamed
 }
@@ -74,31 +76,32 @@ fn munge_beside<
     rt: &R,
     side: LoopSide<'_, P, Q>,
     words: Vec<u32>,
-    started: bool,
+    other: Worker,
     reads: Reads,
     gate: &G,
-) -> Result<Streamed<Q, Vec<u32>>, NoMemory>
+) -> Result<Result<Streamed<Q, Vec<u32>>, GaveUp<Q>>, GaveUp<P>>
     requires fresh { IsFresh side.client.reader }
     requires words { words.items ≡ [] }
-    ensures { IfOk result (λ s. StreamsTo s.samples.items (λ words. words) side.entry.client.reader.ring reads.take s.end s.reader) }
+    ensures streamed { IfOk result (λ r. IfOk r (λ s. StreamsTo s.samples.items (λ words. words) side.entry.client.reader.ring reads.take s.end s.reader)) }
+    ensures output { IfOk result (λ r. IfErr r (λ g. HasAsked side.entry.client.reader g.reader)) }
+    ensures input { IfErr result (λ g. g.reader.part.asked ≡ true) }
 {
     let LoopSide {
         munger,
         filter,
         client,
     } = side;
-    if !started {
-        filter.stop();
-        return Err(NoMemory);
+    if other == Worker::Refused {
+        return Err(filter.give_up());
     }
     let (_, streamed) = with_worker(
         rt,
         AllMunged,
         move || munge_work(rt, munger),
-        move |started| -> Result<Streamed<Q, Vec<u32>>, NoMemory>
+        move |munging| -> Result<Result<Streamed<Q, Vec<u32>>, GaveUp<Q>>, GaveUp<P>>
             requires { IsFresh client.reader × (words.items ≡ []) }
-            ensures { IfOk result (λ s. StreamsTo s.samples.items (λ words. words) client.reader.ring reads.take s.end s.reader) }
-        { filter_beside(rt, filter, client, words, started, reads, gate) },
+            ensures { IfOk result (λ r. IfOk r (λ s. StreamsTo s.samples.items (λ words. words) client.reader.ring reads.take s.end s.reader) × IfErr r (λ g. HasAsked client.reader g.reader)) × IfErr result (λ g. g.reader.part.asked ≡ true) }
+        { filter_beside(rt, filter, client, words, munging, reads, gate) },
     );
     streamed
 }
@@ -114,26 +117,27 @@ fn filter_beside<
     filter: FilterSide<'_, P, Q>,
     client: ClientSide<Q>,
     words: Vec<u32>,
-    started: bool,
+    other: Worker,
     reads: Reads,
     gate: &G,
-) -> Result<Streamed<Q, Vec<u32>>, NoMemory>
+) -> Result<Result<Streamed<Q, Vec<u32>>, GaveUp<Q>>, GaveUp<P>>
     requires fresh { IsFresh client.reader }
     requires words { words.items ≡ [] }
-    ensures { IfOk result (λ s. StreamsTo s.samples.items (λ words. words) client.reader.ring reads.take s.end s.reader) }
+    ensures streamed { IfOk result (λ r. IfOk r (λ s. StreamsTo s.samples.items (λ words. words) client.reader.ring reads.take s.end s.reader)) }
+    ensures output { IfOk result (λ r. IfErr r (λ g. HasAsked client.reader g.reader)) }
+    ensures input { IfErr result (λ g. g.reader.part.asked ≡ true) }
 {
-    if !started {
-        filter.stop();
-        return Err(NoMemory);
+    if other == Worker::Refused {
+        return Err(filter.give_up());
     }
     let (_, streamed) = with_worker(
         rt,
         TrueEnd,
         move || filter.filter_all(rt),
-        move |started| -> Result<Streamed<Q, Vec<u32>>, NoMemory>
+        move |filtering| -> Result<Result<Streamed<Q, Vec<u32>>, GaveUp<Q>>, GaveUp<P>>
             requires { IsFresh client.reader × (words.items ≡ []) }
-            ensures { IfOk result (λ s. StreamsTo s.samples.items (λ words. words) client.reader.ring reads.take s.end s.reader) }
-        { run_munging_client(rt, client, words, started, reads, gate, CLIENT) },
+            ensures { IfOk result (λ r. IfOk r (λ s. StreamsTo s.samples.items (λ words. words) client.reader.ring reads.take s.end s.reader) × IfErr r (λ g. HasAsked client.reader g.reader)) × IfErr result (λ g. g.reader.part.asked ≡ true) }
+        { Ok(run_munging_client(rt, client, words, filtering, reads, gate, CLIENT)) },
     );
     streamed
 }

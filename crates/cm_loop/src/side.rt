@@ -1,7 +1,7 @@
 // What the thread of a loop's filter has.
 ghost use Rattle.std.specs.Prelude.{◌≡◌, true, []};
-ghost use Rattle.cm_client.specs.Samples.{munged_plan};
-ghost use Rattle.cm_client.specs.Streamed.{EndsTruly};
+ghost use Rattle.cm_ring.specs.Samples.{munged_plan};
+ghost use Rattle.cm_client.specs.Streamed.{EndsTruly, HeedsStop};
 ghost use Rattle.cm_loop.specs.Filter.{all_filtered, AreWithin};
 ghost use Rattle.cm_loop.specs.State.{StandsFor};
 ghost use Rattle.cm_ring_core.specs.Lawful.{first_reader, first_writer};
@@ -9,6 +9,7 @@ ghost use Rattle.cm_ring_core.specs.Lawful.{first_reader, first_writer};
 use crate::rule::LoopRule;
 use crate::state::LoopState;
 use crate::work::loop_work;
+use cm_client::client::GaveUp;
 use cm_ring::reader::Reader;
 use cm_ring::writer::{Closed, Writer};
 use cm_sample::planned::Planned;
@@ -58,16 +59,20 @@ impl<'a, P: Planned, Q: Planned> FilterSide<'a, P, Q> {
         }
     }
 
-    /// Asks the input's ring for the stop.
-    pub(crate) fn stop(self) {
+    /// Gives up, and asks the input's ring for the stop.
+    pub(crate) fn give_up(self) -> GaveUp<P>
+        ensures { result.reader.part.asked ≡ true }
+    {
         let FilterSide { mut input, .. } = self;
         input.ask_stop();
+        GaveUp { reader: input }
     }
 
     /// Filters all samples, or ends where the stop of the output's ring was asked for.
     pub(crate) fn filter_all<R: Wait + Sync>(self, rt: &R) -> Closed<Q>
         ensures of { result.ring ≡ self.entry }
         ensures end { EndsTruly result }
+        ensures heeds { HeedsStop result }
     {
         let FilterSide {
             mut input,

@@ -6,6 +6,7 @@ ghost use Rattle.cm_expand.specs.Items.{items_of};
 ghost use Rattle.cm_expand.specs.Taking.{left_of};
 ghost use Rattle.cm_loop.specs.LoopText as spec;
 ghost use Rattle.cm_loop.specs.Parts.{IsCutInTwo, lines_from, lines_of};
+ghost use Rattle.cm_expand.specs.Totals.{length_of};
 ghost use Rattle.cm_text.specs.Blocks as blocks;
 
 use cm_base::transfer::NoMemory;
@@ -106,8 +107,8 @@ pub(crate) fn text_of<R: Threads + Sync>(
     words: &[u32],
     samples: u64,
 ) -> Result<Blocks, NoMemory>
-    requires words { words.now ≡ take (blocks.count_of (output_of job.now)) (blocks.munged_words (output_of job.now) (spec.loop_words job.now)) }
-    requires samples { samples ≡ blocks.count_of (input_of job.now) }
+    requires words { words.now ≡ take (length_of (output_of job.now)) (blocks.munged_words (output_of job.now) (spec.loop_words job.now)) }
+    requires samples { samples ≡ length_of (input_of job.now) }
     ensures { IfOk result (λ text. text ≡ spec.loop_text job.now) }
 {
     let sub = job.output.cmd().sub;

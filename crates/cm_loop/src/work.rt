@@ -1,14 +1,14 @@
 // The filter between two rings.
 ghost use Rattle.std.specs.Prelude.{◌≡◌, ◌+◌, ◌<◌, ◌≤◌, ◌^◌, true, false, [], length, slice_index, take, None, IsTrue};
 ghost use Rattle.cm_client.specs.Progress.{IsSameRing};
-ghost use Rattle.cm_client.specs.Samples.{munged_plan};
-ghost use Rattle.cm_client.specs.Streamed.{EndsTruly};
+ghost use Rattle.cm_ring.specs.Samples.{munged_plan};
+ghost use Rattle.cm_client.specs.Streamed.{EndsTruly, HeedsStop};
 ghost use Rattle.cm_ring.specs.Roles.{IsReading};
 ghost use Rattle.cm_ring_core.specs.Lawful.{first_reader, first_writer};
 ghost use Rattle.cm_ring_core.specs.declared.view.EndKind.TheVariants.{Done};
 ghost use Rattle.cm_loop.specs.Filter.{all_filtered, filtered, AreWithin};
 ghost use Rattle.cm_loop.specs.State.{StandsFor};
-ghost use Rattle.cm_loop.specs.Work.{HasFiltered, IsLoopEnd, IsSameInput, IsSameOutput, IsSameStream};
+ghost use Rattle.cm_loop.specs.Work.{HasFiltered, HasLooked, IsLoopEnd, IsSameInput, IsSameOutput, IsSameStream};
 
 use crate::rule::LoopRule;
 use crate::state::LoopState;
@@ -41,6 +41,7 @@ pub fn loop_work<R: Wait + Sync, P: Planned, Q: Planned>(
     ensures input { IsSameRing input.old input.new }
     ensures end { IsLoopEnd result.end input.new }
     ensures truly { EndsTruly result }
+    ensures heeds { HeedsStop result }
 {
     let backoff = Backoff::new();
     let mut output = output;
@@ -81,9 +82,12 @@ pub fn loop_work<R: Wait + Sync, P: Planned, Q: Planned>(
 fn end_whole<Q: Planned>(output: Writer<Q>) -> Closed<Q>
     requires published { output.part.written ≡ output.part.next }
     requires whole { output.part.written ≡ length output.ring.samples }
+    requires looks { output.part.read_looks ≤ output.part.freed + output.part.stop_looks }
+    requires no_stop { output.part.saw_stop ≡ false }
     ensures of { (result.table ≡ output.table) × (result.ring ≡ output.ring) }
     ensures end { result.end.kind ≡ Done }
     ensures truly { EndsTruly result }
+    ensures heeds { HeedsStop result }
 {
     output.end(EndKind::Done)
 }
@@ -121,6 +125,7 @@ fn move_block<P: Planned, Q: Planned>(
     ensures filtered { HasFiltered rule.now (munged_plan input.old.ring) input.new.part.released output.new.part.next state.new result }
     ensures input { IsSameStream input.old input.new }
     ensures output { IsSameOutput output.old output.new }
+    ensures looked { HasLooked output.old output.new result }
     ensures published { output.new.part.written ≡ output.new.part.next }
 {
     let (taken, waiting) = filter_block(input, output, rule, state, count);
@@ -130,6 +135,7 @@ fn move_block<P: Planned, Q: Planned>(
 }
 
 // Filters mapped samples until an output finds no room, which is given. It gives how many it took.
+#[tactic(auto, using(crate::proofs::Works::looked_on))]
 fn filter_block<P: Planned, Q: Planned>(
     input: &mut Reader<P>,
     output: &mut Writer<Q>,
@@ -145,6 +151,7 @@ fn filter_block<P: Planned, Q: Planned>(
     ensures filtered { HasFiltered rule.now (munged_plan input.old.ring) (input.old.part.released + result.0) output.new.part.next state.new result.1 }
     ensures same { input.new ≡ input.old }
     ensures output { IsSameOutput output.old output.new }
+    ensures looked { HasLooked output.old output.new result.1 }
 {
     for i in 0..count {
         let waiting = filter_word(input, output, rule, state, i);
@@ -171,6 +178,7 @@ fn filter_word<P: Planned, Q: Planned>(
     ensures filtered { HasFiltered rule.now (munged_plan input.old.ring) (input.old.part.released + i + 1) output.new.part.next state.new result }
     ensures same { input.new ≡ input.old }
     ensures output { IsSameOutput output.old output.new }
+    ensures looked { HasLooked output.old output.new result }
 {
     let answer = next_answer(input, rule, state, i);
     match output.put(answer) {
@@ -203,7 +211,7 @@ fn next_answer<P: Planned>(
 }
 
 // A mapped sample.
-#[tactic(auto, using(crate::proofs::Works::length_munged, crate::proofs::Works::munged_there))]
+#[tactic(auto, using(cm_ring::proofs::Pieces::length_munged, cm_ring::proofs::Pieces::munged_there))]
 #[inline(always)]
 fn mapped_word<P: Planned>(input: &mut Reader<P>, i: u32) -> u32
     requires { i < input.old.mapped }

@@ -1,4 +1,5 @@
 pub mod InRow
 pub mod Mungers
+pub mod Pieces
 pub mod Readers
 pub mod Writers

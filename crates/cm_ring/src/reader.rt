@@ -1,15 +1,17 @@
 // The end that reads munged samples in place.
-ghost use Rattle.std.specs.Prelude.{◌≡◌, ◌+◌, ◌-◌, ◌<◌, ◌≤◌, min, length, true, Some, IfSome};
+ghost use Rattle.std.specs.Prelude.{◌≡◌, ◌+◌, ◌-◌, ◌<◌, ◌≤◌, ◌++◌, min, length, drop, true, Some, IfSome};
 ghost use Rattle.std.specs.Arc.{arc_value};
 ghost use Rattle.cm_ring_core.specs.declared.view.End.{End};
 ghost use Rattle.cm_ring_core.specs.Lawful.{first_reader, munged_at, IsFoundEnd};
 ghost use Rattle.cm_ring.specs.Seated.{IsSeatOf};
 ghost use Rattle.cm_ring.specs.Roles.{IsReading};
+ghost use Rattle.cm_ring.specs.Samples.{piece};
 
 use crate::place::{end_from, place_from, word_of};
 use crate::steps::{
     FIRST_CELL, RingSeat, RingTable, ask_stop, load_cell, load_end, load_munged, publish_read,
 };
+use cm_base::prover::shows;
 use cm_ring_core::cell::cell_after;
 use cm_ring_core::view::End;
 use cm_sample::planned::Planned;
@@ -116,6 +118,22 @@ impl<P: Planned> Reader<P> {
     {
         let cell = cell_after(self.cell, i as usize, self.size) + FIRST_CELL;
         load_cell(&self.table.shared, &mut self.seat, cell) as u32
+    }
+
+    /// Copies the first `count` mapped samples to the front of `out`: the munged samples of the plan at their
+    /// places. They stay mapped.
+    #[tactic(auto, using(crate::proofs::Pieces::copied_more))]
+    pub fn copy_words(&mut self, out: &mut [u32], count: u32)
+        requires mapped { count ≤ self.old.mapped }
+        requires room { count ≤ length out.old }
+        ensures copied { out.new ≡ piece self.old.ring self.old.part.released count ++ drop count out.old }
+        ensures same { self.new ≡ self.old }
+    {
+        // This call shows where the places are.
+        shows(&self.mapped());
+        for i in 0..count {
+            out[i as usize] = self.word(i);
+        }
     }
 
     /// Releases the first `k` mapped samples, whose cells the writer may then use again (Comedi:

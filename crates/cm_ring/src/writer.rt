@@ -109,13 +109,15 @@ impl<P: Planned> Writer<P> {
     }
 
     /// Stores the plan's next sample, unpublished. It gives `Full` only where a look at the released
-    /// count in this call found no room (Comedi: `comedi_buf_write_alloc`).
+    /// count in this call found no room (Comedi: `comedi_buf_write_alloc`); any other look finds a sample
+    /// more that was released.
     pub fn put(&mut self, word: u32) -> Result<(), Full>
         requires { (self.old.part.next < length self.old.ring.samples) × (slice_index self.old.ring.samples self.old.part.next ≡ word) }
         ensures same { self.new ≡ record self.old { part = record self.old.part { next = self.new.part.next; freed = self.new.part.freed; at = self.new.part.at; read_looks = self.new.part.read_looks } } }
         ensures stored { IfOk result (λ _. self.new.part.next ≡ self.old.part.next + 1) }
         ensures full { IfErr result (λ f. (f.place ≡ self.old.part.next) × (f.place ≡ f.freed + self.old.ring.size) × (self.new.part ≡ record self.old.part { freed = f.freed; at = f.place; read_looks = self.old.part.read_looks + 1 })) }
         ensures later { self.old.part.freed ≤ self.new.part.freed }
+        ensures looked { IfOk result (λ _. self.new.part.read_looks + self.old.part.freed ≤ self.old.part.read_looks + self.new.part.freed) }
     {
         if self.room() == 0 {
             self.look();

@@ -13,7 +13,8 @@ use Rattle.cm_client.specs.Progress.{IsTaken}
 use Rattle.cm_expand.specs.Plan.{PlanText}
 use Rattle.cm_job.specs.declared.line.Mode.{Mode}
 use Rattle.cm_job.specs.declared.line.Mode.TheVariants.{Paced, Free}
-use Rattle.cm_text.specs.Blocks.{block, ending, count_of, take_count, cut_tail, paced_block, HasOverrun}
+use Rattle.cm_expand.specs.Totals.{length_of}
+use Rattle.cm_text.specs.Blocks.{block, ending, take_count, cut_tail, paced_block, HasOverrun}
 use Rattle.cm_client.specs.RunText.{IsGoBlock}
 use Rattle.cm_run.specs.Ran.{GoRan}
 use Rattle.cm_client.specs.LineRing.{is_paced, ring_of}
@@ -45,25 +46,25 @@ same_tail : (b c : Bool) (x y : Tail) → c ≡ true → cond b (cond c x y) x �
 same_tail true c x y is = ap (λ (d : Bool). cond d x y) is
 same_tail false c x y is = refl
 
-overran : (p : PlanText) (most : Option ℕ) (count : ℕ) → count < count_of p → Hides p most count ⊎ Shows p most count
+overran : (p : PlanText) (most : Option ℕ) (count : ℕ) → count < length_of p → Hides p most count ⊎ Shows p most count
 unfolding Shows Hides
 overran p None count short = inr (refl, refl, short)
 overran p (Some m) count short = elim (cases_lt count m) [
-  | inl below ↦ inr (omega arith, same_tail (ltb m (count_of p)) (ltb count m) (tails.Overrun count) (tails.Taken m) (lt-ltb count m below), omega arith)
+  | inl below ↦ inr (omega arith, same_tail (ltb m (length_of p)) (ltb count m) (tails.Overrun count) (tails.Taken m) (lt-ltb count m below), omega arith)
   | inr above ↦ inl (
     omega arith,
-    ap (λ (b : Bool). cond b (cond (ltb count m) (tails.Overrun count) (tails.Taken m)) (tails.Overrun count)) (lt-ltb m (count_of p) (omega arith))
+    ap (λ (b : Bool). cond b (cond (ltb count m) (tails.Overrun count) (tails.Taken m)) (tails.Overrun count)) (lt-ltb m (length_of p) (omega arith))
         ∙ ap (λ (b : Bool). cond b (tails.Overrun count) (tails.Taken m)) (le-ltb count m above)
-        ∙ sym (ap (λ (b : Bool). cond b (tails.Taken m) (ending p)) (lt-ltb m (count_of p) (omega arith))),
+        ∙ sym (ap (λ (b : Bool). cond b (tails.Taken m) (ending p)) (lt-ltb m (length_of p) (omega arith))),
   )
 ]
 
 -- the block of an end that was found is a paced one, or has overrun where the line is free
-ended : (p : PlanText) (mode : Mode) (most : Option ℕ) (r : ReaderPart) (kind : EndKind) (count : ℕ) → IsFoundEnd (ring_of p mode) r kind count → (kind ≡ Cancelled → IsTaken most count) → up_to count most ≤ count_of p
+ended : (p : PlanText) (mode : Mode) (most : Option ℕ) (r : ReaderPart) (kind : EndKind) (count : ℕ) → IsFoundEnd (ring_of p mode) r kind count → (kind ≡ Cancelled → IsTaken most count) → up_to count most ≤ length_of p
     → (block p (up_to count most) (tail_after p most kind count) ≡ paced_block p most) ⊎ ((is_paced mode ≡ false) × HasOverrun p most (block p (up_to count most) (tail_after p most kind count)))
 unfolding Shows Hides
 ended p mode most r Done count says cancelled within = inl (ap (λ (n : ℕ). block p (up_to n most) (tail_after p most Done count)) (says ∙ length-samples p) ∙ ap (λ (t : Tail). block p (take_count p most) t) (tails_done p most count))
-ended p mode most r Cancelled count says cancelled within = inl (ap (λ (n : ℕ). block p n (tail_after p most Cancelled count)) (count_cancelled most count (count_of p) (cancelled refl) within) ∙ ap (λ (t : Tail). block p (take_count p most) t) (tails_cancelled p most count))
+ended p mode most r Cancelled count says cancelled within = inl (ap (λ (n : ℕ). block p n (tail_after p most Cancelled count)) (count_cancelled most count (length_of p) (cancelled refl) within) ∙ ap (λ (t : Tail). block p (take_count p most) t) (tails_cancelled p most count))
 ended p mode most r Overrun count says cancelled within = let all = length-samples p in let fewer = says.1 in elim (overran p most count (omega arith)) [
   | inl hides ↦ inl (ap (λ (n : ℕ). block p n (tail_after p most Overrun count)) hides.0 ∙ ap (λ (t : Tail). block p (take_count p most) t) hides.1)
   | inr shows ↦ inr (

@@ -5,7 +5,7 @@ use Rattle.std.proofs.lemmas.Bool.Decides.{nat_tests}
 use Rattle.std.specs.Prelude.{nat_lt, ◌==◌, if◌then◌else◌}
 use Rattle.std.specs.List.{All, list_any}
 use Rattle.std.proofs.lemmas.List.Elements.{All-append, All-nil, All-push}
-use Rattle.cm_board.specs.Board.{SubText}
+use Rattle.cm_board.specs.Board.{SubText, is_output}
 use Rattle.cm_signal.specs.Fitting.{FitBoard, HasChannel, HasSub}
 use Rattle.cm_signal.specs.Signals.{IsSoundSignals, SignalsText, is_at}
 use Rattle.cm_signal.specs.SignalsPart.{silent}
@@ -13,7 +13,6 @@ use Rattle.cm_signal.specs.declared.wave.WaveAt.{WaveAt}
 use Rattle.cm_signal.proofs.Grown.{more_waves, silent_sound}
 use Rattle.cm_test.specs.Accepting.{sub_at}
 use Rattle.cm_expand.proofs.Whole.{counted_most}
-use Rattle.cm_expand.specs.Rule.{is_output}
 use Rattle.cm_expand.specs.Totals.{length_of, length_of_all}
 use Rattle.cm_job.specs.Calls.{plan_of}
 use Rattle.cm_job.specs.Job.{IsRunJob}

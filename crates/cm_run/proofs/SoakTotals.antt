@@ -14,7 +14,8 @@ use Rattle.cm_job.specs.Calls.{plan_of}
 use Rattle.cm_job.specs.declared.line.Mode.{Mode}
 use Rattle.cm_job.specs.declared.line.Mode.TheVariants.{Paced}
 use Rattle.cm_job.specs.declared.line.RunLine.{RunLine}
-use Rattle.cm_text.specs.Blocks.{count_of, munged_samples}
+use Rattle.cm_expand.specs.Totals.{length_of}
+use Rattle.cm_text.specs.Blocks.{munged_samples}
 use Rattle.cm_client.specs.LineRing.{ring_of}
 use Rattle.cm_text.proofs.Counts.{length-munged, munged_by_rule}
 use Rattle.cm_run.specs.SoakSums.{AreWhole, HasSummed, IsWhole, line_part, part_at}
@@ -25,10 +26,10 @@ module _ (p : PlanText) (words : List ℕ) (e : End) (r : Reading) (s : HasStrea
   words_whole : words ≡ munged_samples p
   words_whole = (s.whole refl refl).1 ∙ munged_by_rule p (samples_of p) some
 
-  pub count_whole : length words ≡ count_of p
+  pub count_whole : length words ≡ length_of p
   count_whole = ap (λ (l : List ℕ). length l) words_whole ∙ length-munged p
 
-  end_whole : e ≡ record { kind = ends.Done; count = count_of p }
+  end_whole : e ≡ record { kind = ends.Done; count = length_of p }
   end_whole = λ i. record { kind = (s.whole refl refl).0 i; count = (sym s.count ∙ count_whole) i }
 
   reader_whole : IsWhole p r

@@ -6,7 +6,8 @@ use Rattle.cm_signal.specs.Signals.{SignalsText}
 use Rattle.cm_expand.specs.Plan.{PlanText}
 use Rattle.cm_ring_core.specs.declared.view.EndKind.TheVariants as ends
 use Rattle.cm_ring.specs.Roles.{Reading}
-use Rattle.cm_text.specs.Blocks.{count_of, munged_samples}
+use Rattle.cm_expand.specs.Totals.{length_of}
+use Rattle.cm_text.specs.Blocks.{munged_samples}
 use Rattle.cm_client.specs.LineRing.{ring_of}
 use Rattle.cm_job.specs.Calls.{plan_of}
 use Rattle.cm_job.specs.declared.line.Mode.TheVariants.{Paced}
@@ -26,8 +27,8 @@ part_of p = record { count = length (munged_samples p); sum = sum (munged_sample
 -- the reader of a paced ring of a command found the end after all samples, and released them
 pub record IsWhole (p : PlanText) (r : Reading) : Type 0 where
   pub of : r.ring ≡ ring_of p Paced
-  pub found : r.part.found ≡ Some (record { kind = ends.Done; count = count_of p })
-  pub released : r.part.released ≡ count_of p
+  pub found : r.part.found ≡ Some (record { kind = ends.Done; count = length_of p })
+  pub released : r.part.released ≡ length_of p
 
 -- a command's part, with such a reader
 pub record HasSummed (p : PlanText) (part : Part) (r : Reading) : Type 0 where

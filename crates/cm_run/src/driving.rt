@@ -1,6 +1,6 @@
 // Output commands, whose words stand in the job.
 ghost use Rattle.std.specs.Prelude.{◌≡◌, ◌≤◌, ◌++◌, [], true, length, IfOk, None};
-ghost use Rattle.cm_client.specs.Samples.{munged_plan};
+ghost use Rattle.cm_ring.specs.Samples.{munged_plan};
 ghost use Rattle.cm_expand.specs.Items.{items_of};
 ghost use Rattle.cm_expand.specs.PlanView.{plan_text};
 ghost use Rattle.cm_text.specs.Blocks as blocks;
@@ -13,7 +13,7 @@ ghost use Rattle.cm_text.specs.Tails.{tail_text};
 use crate::done::LineDone;
 use cm_base::gate::Gate;
 use cm_base::transfer::NoMemory;
-use cm_client::client::{ClientSide, Reads, Streamed, run_client};
+use cm_client::client::{ClientSide, GaveUp, Reads, Streamed, run_client};
 use cm_client::feeding::feed;
 use cm_client::streaming::BASE;
 use cm_client::workers::{TrueEnd, with_worker};
@@ -83,10 +83,10 @@ fn move_words<R: Threads + Wait + Sync, G: Gate + Sync>(
             requires { IsFeedSide feeder }
             ensures { EndsTruly result }
         { run_feed(rt, feeder) },
-        move |started| -> Result<Streamed<&[u32], Vec<u32>>, NoMemory>
+        move |feeding| -> Result<Streamed<&[u32], Vec<u32>>, GaveUp<&[u32]>>
             requires { IsFresh client.reader × (kept.items ≡ []) }
             ensures { IfOk result (λ s. StreamsTo s.samples.items (λ words. words) client.entry.reader.ring reads.take s.end s.reader) }
-        { run_client(rt, client, kept, started, reads, gate, who) },
+        { run_client(rt, client, kept, feeding, reads, gate, who) },
     );
     let Streamed {
         samples,

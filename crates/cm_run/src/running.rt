@@ -14,7 +14,7 @@ use cm_base::gate::Gate;
 use cm_base::transfer::NoMemory;
 use cm_board::board::BoardDesc;
 use cm_client::claiming::states_of;
-use cm_client::going::Go;
+use cm_client::going::go_of;
 use cm_expand::call::plan_of;
 use cm_job::job::RunJob;
 use cm_job::line::RunLine;
@@ -53,27 +53,11 @@ fn one_line<'a, R: Threads + Wait + Sync, G: Gate + Sync>(
     requires { CanRun board.now signals.now line.now }
     ensures { IfOk result (λ d. LineRan board.now signals.now line.now d.block.items (as_list d.reader)) }
 {
-    let plan = plan_of(board, signals, line);
     match line {
-        RunLine::Go {
-            mode,
-            access,
-            take,
-            cmd,
-            ..
-        } => {
-            let go = Go {
-                plan,
-                cmd,
-                mode: *mode,
-                access: *access,
-                take: *take,
-            };
-            go_line(rt, alloc, go, gate, who)
-        }
+        RunLine::Go { .. } => go_line(rt, alloc, go_of(board, signals, line), gate, who),
         RunLine::Drive { values, cmd, .. } => {
             let drive = Drive {
-                plan,
+                plan: plan_of(board, signals, line),
                 cmd,
                 values: values.as_slice(),
             };
@@ -82,7 +66,7 @@ fn one_line<'a, R: Threads + Wait + Sync, G: Gate + Sync>(
     }
 }
 
-// The same of the line at a place.
+// Streams the line at a place of a job, and makes its block.
 fn line_at<'a, R: Threads + Wait + Sync, G: Gate + Sync>(
     rt: &R,
     alloc: Global,

@@ -6,8 +6,7 @@ use Rattle.std.proofs.lemmas.List.{map-set}
 use Rattle.std.proofs.lemmas.Option.{slice_get-get_or}
 use Rattle.cm_ring_core.specs.declared.view.RingConstants.{RingConstants}
 use Rattle.cm_ring_core.specs.Lawful.{munged_at}
-use Rattle.cm_client.specs.Samples.{munged_plan, first_munged, piece}
-use Rattle.cm_client.proofs.Pieces.{piece_more}
+use Rattle.cm_ring.specs.Samples.{munged_plan, first_munged, piece}
 use Rattle.cm_stream.specs.Appended.{HasAppended, HasAppendedOf, HasReleasedNothing}
 use Rattle.cm_stream.specs.Merging.{fixed, given_words, released_of}
 use Rattle.cm_stream.specs.Stream.{Streaming, IsSameStream}
@@ -43,7 +42,3 @@ released_nothing (Err e) source old a b had same lack = record {
   released = set_alike released_of old source a b had lack;
   fixed = set_alike fixed old source a b had (fixed_same a b same);
 }
-
--- a sample more is pushed
-pub pushed_more : (ring : RingConstants) (place i : ℕ) (had : List ℕ) → place + i < length ring.samples → (had ++ piece ring place i) ++ munged_at ring (place + i) ∷ [] ≡ had ++ piece ring place (i + 1)
-pushed_more ring place i had within = append_assoc had (piece ring place i) (munged_at ring (place + i) ∷ []) ∙ ap (λ (l : List ℕ). had ++ l) (sym (piece_more ring place i within))

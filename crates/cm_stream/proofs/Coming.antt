@@ -3,7 +3,7 @@ use Rattle.std.proofs.Common.{◌≡◌, ℕ, ◌+◌, List, [], ◌∷◌, ◌+
 use Rattle.std.proofs.lemmas.List.{append-nil}
 use Rattle.cm_ring_core.specs.declared.view.RingConstants.{RingConstants}
 use Rattle.cm_stream.specs.Scans.{ScanText, scans}
-use Rattle.cm_client.specs.Samples.{first_munged}
+use Rattle.cm_ring.specs.Samples.{first_munged}
 use Rattle.cm_stream.specs.Polled.{Item, Comes, scans_in, words_in}
 
 pub comes_in_scans : (ring : RingConstants) (n released : ℕ) (items : List Item) (last : Option Item) → Comes ring n released items last

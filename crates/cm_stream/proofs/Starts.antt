@@ -7,7 +7,7 @@ use Rattle.std.proofs.lemmas.List.Elements.{All-from_recursion}
 use Rattle.std.proofs.lemmas.Option.{slice_get_within}
 use Rattle.cm_board.specs.Board.{BoardText}
 use Rattle.cm_client.specs.Progress.{Accepts}
-use Rattle.cm_client.specs.Samples.{first_munged}
+use Rattle.cm_ring.specs.Samples.{first_munged}
 use Rattle.cm_signal.specs.Signals.{SignalsText}
 use Rattle.cm_text.specs.SampleText.{CanReport, LinesText, lines_of, no_lines}
 use Rattle.cm_client.specs.Whole.{line_format}

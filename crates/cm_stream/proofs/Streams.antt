@@ -8,10 +8,9 @@ use Rattle.cm_ring_core.specs.declared.view.End.{End}
 use Rattle.cm_ring_core.specs.declared.view.RingConstants.{RingConstants}
 use Rattle.cm_ring_core.specs.declared.view.ReaderPart.{ReaderPart}
 use Rattle.cm_ring_core.specs.Lawful.{IsFoundEnd}
-use Rattle.cm_sample.specs.Rule.{munged_word}
 use Rattle.cm_ring.specs.Roles.{Reading, IsReading}
-use Rattle.cm_client.specs.Samples.{munged_plan, first_munged, piece}
-use Rattle.cm_client.proofs.Pieces.{length-map_from, length-piece}
+use Rattle.cm_ring.specs.Samples.{munged_plan, first_munged, piece}
+use Rattle.cm_ring.proofs.Pieces.{length_munged, length-piece}
 use Rattle.cm_stream.specs.Scans.{ScanText, scan_text, scans}
 use Rattle.cm_stream.specs.Stream.{Streaming, streaming, IsStream, IsCut, wanted, want_of}
 use Rattle.cm_stream.specs.Step.{IsGiven}
@@ -119,7 +118,7 @@ module _ (s : Streaming) (found : Option End) (want : ℕ) (is : want ≡ want_o
       let ring : RingConstants = s.reader.ring in let from : ℕ = s.reader.part.released in let at = h.places in
       let mk = at.mapped_known in let ke = at.known_end in
       let within : from + want ≤ length ring.samples = omega arith in
-      let size : length (munged_plan ring) ≡ length ring.samples = length-map_from (munged_word ring.rule) 0 ring.samples in
+      let size : length (munged_plan ring) ≡ length ring.samples = length_munged ring in
       let few = wanted_few s.n s.reader.part.released s.reader.part.found in
       let mine : scan.words ≡ piece ring from want = ap (λ (x : ScanText). x.words) is_scan ∙ is_words in
       let more = scans_more (munged_plan ring) s.n from want h.some some (omega arith) whole (omega arith) in

@@ -7,7 +7,7 @@ use Rattle.std.proofs.lemmas.List.{take_more}
 use Rattle.std.proofs.lemmas.Option.{slice_get_within, slice_get-get_or, slice_get_read, get_or_from_slice_get}
 use Rattle.cm_board.specs.Board.{BoardText, SubText}
 use Rattle.cm_test.specs.Accepting.{sub_at}
-use Rattle.cm_client.specs.Samples.{munged_plan}
+use Rattle.cm_ring.specs.Samples.{munged_plan}
 use Rattle.cm_client.proofs.AtEnd.{whole_plan}
 use Rattle.cm_expand.specs.Items.{samples_of}
 use Rattle.cm_expand.specs.Plan.{PlanText}

@@ -1,6 +1,6 @@
 -- Whole scans that a stream appends to a client's words.
 use Rattle.std.specs.Prelude.{◌≡◌, ℕ, ◌+◌, ◌-◌, ◌*◌, ◌/◌, min, List, ◌++◌, map, slice_get, slice_set, Some}
-use Rattle.cm_client.specs.Samples.{piece}
+use Rattle.cm_ring.specs.Samples.{piece}
 use Rattle.cm_stream.specs.Stream.{Streaming, IsSameStream}
 use Rattle.cm_stream.specs.Merging.{fixed, given_words, released_of}
 

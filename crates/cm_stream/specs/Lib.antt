@@ -6,5 +6,7 @@ pub mod Step
 pub mod Stream
 pub mod Opened
 pub mod Watched
+pub mod Told
 pub mod Watching
 pub mod Whole
+pub mod Merges

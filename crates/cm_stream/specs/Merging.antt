@@ -9,7 +9,7 @@ use Rattle.cm_base.specs.declared.transfer.NoMemory.{NoMemory}
 use Rattle.cm_ring_core.specs.declared.view.End.{End}
 use Rattle.cm_ring_core.specs.declared.view.RingConstants.{RingConstants}
 use Rattle.cm_ring_core.specs.Lawful.{IsFoundEnd}
-use Rattle.cm_client.specs.Samples.{munged_plan, first_munged}
+use Rattle.cm_ring.specs.Samples.{munged_plan, first_munged}
 use Rattle.cm_stream.specs.Scans.{ScanText}
 use Rattle.cm_stream.specs.Stream.{Streaming, is_over, IsOver}
 use Rattle.cm_stream.specs.Step.{HasStepped, given_scans}

@@ -4,7 +4,7 @@ use Rattle.futures.specs.declared.task.Poll.{Poll}
 use Rattle.futures.specs.declared.task.Poll.TheVariants.{Ready, Pending}
 use Rattle.cm_base.specs.declared.transfer.NoMemory.{NoMemory}
 use Rattle.cm_ring_core.specs.declared.view.RingConstants.{RingConstants}
-use Rattle.cm_client.specs.Samples.{first_munged, piece}
+use Rattle.cm_ring.specs.Samples.{first_munged, piece}
 use Rattle.cm_stream.specs.Scans.{ScanText, scans}
 use Rattle.cm_stream.specs.Stream.{Streaming}
 use Rattle.cm_stream.specs.declared.step.StreamStep.{StreamStep}

@@ -2,7 +2,7 @@
 use Rattle.std.specs.Prelude.{◌≡◌, ℕ, ◌+◌, ◌-◌, ◌<◌, ◌≤◌, List, [], ◌∷◌, ◌++◌, length, Some, None}
 use Rattle.cm_ring_core.specs.declared.view.End.{End}
 use Rattle.cm_ring.specs.Roles.{Reading}
-use Rattle.cm_client.specs.Samples.{first_munged, piece}
+use Rattle.cm_ring.specs.Samples.{first_munged, piece}
 use Rattle.cm_stream.specs.Scans.{ScanText, scans}
 use Rattle.cm_stream.specs.Stream.{Streaming, wanted, IsOver, IsSameStream}
 use Rattle.cm_stream.specs.declared.step.StreamStep.{StreamStep}

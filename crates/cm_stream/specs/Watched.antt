@@ -1,5 +1,5 @@
 -- What one client reads of many streams.
-use Rattle.std.specs.Prelude.{◌≡◌, ℕ, ◌+◌, ◌<◌, List, length, map, slice_get, slice_index, slice_set, Some}
+use Rattle.std.specs.Prelude.{◌≡◌, ℕ, ◌+◌, ◌<◌, List, length, map, slice_get, slice_index, slice_set, true, Some}
 use Rattle.std.specs.List.{All}
 use Rattle.cm_client.specs.Progress.{Accepts}
 use Rattle.cm_text.specs.SampleText.{CanReport, LinesText, lines_of, with_lines}
@@ -37,6 +37,10 @@ text_format t = t.format
 pub record AreSame (first now : List Streaming) (before after : List LinesText) : Type 0 where
   pub streams : map fixed now ≡ map fixed first
   pub formats : map text_format after ≡ map text_format before
+
+-- each stream has asked its ring's writer to stop
+abbrev pub AreStopped : List Streaming → Type 0
+AreStopped streams = All (λ s. s.reader.part.asked ≡ true) streams
 
 -- all streams have been read to their ends, and what each has given is its whole plan
 pub record HasWatched (first now : List Streaming) (before after : List LinesText) : Type 0 where

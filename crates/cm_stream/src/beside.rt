@@ -1,23 +1,22 @@
 // The threads of the watched lines.
-ghost use Rattle.std.specs.Prelude.{◌≡◌, ◌+◌, ◌<◌, ◌≤◌, ◌^◌, [], length, IfOk, IsErr, MatchOption};
+ghost use Rattle.std.specs.Prelude.{◌≡◌, ◌+◌, ◌<◌, ◌≤◌, ◌^◌, [], length, IfOk, IfErr, MatchOption};
 ghost use Rattle.std.specs.List.{All};
 ghost use Rattle.std.specs.Thread.{IsSync};
 ghost use Rattle.cm_client.specs.Idle.{IsIdle};
-ghost use Rattle.cm_stream.specs.Watched.{AreRead, HasWatched};
+ghost use Rattle.cm_stream.specs.Watched.{AreRead, AreStopped, HasWatched};
 ghost use Rattle.cm_client.specs.Streamed.{EndsTruly};
 
-use crate::client::{Watched, read_scans};
+use crate::client::{Watched, give_up, read_scans};
 use crate::events::WatchEvents;
 use crate::side::BoardSide;
 use cm_base::gate::Gate;
 use cm_base::prover::shows;
-use cm_base::transfer::NoMemory;
 use cm_client::claiming::{another_seat, claim_waiting};
 use cm_client::munging::munge_waiting;
 use cm_client::paced::PacedBoard;
 use cm_client::waiting::Relay;
 use cm_client::words::Words;
-use cm_client::workers::{AllMunged, TrueEnd, with_worker};
+use cm_client::workers::{AllMunged, TrueEnd, Worker, with_worker};
 use cm_ring::munger::Munger;
 use cm_ring::writer::Closed;
 use cm_sample::planned::Planned;
@@ -65,8 +64,8 @@ fn last_side<P: Planned, W: Words>(
 }
 
 /// Starts a board's thread and a munger's for each side, and reads all streams to their ends in this
-/// one. All threads have ended when it returns. It gives NoMemory, too, where a thread can't be made,
-/// and has asked every ring for the stop then.
+/// one. All threads have ended when it returns. Where a thread can't be made, and where memory runs out, it
+/// gives up, and has asked every ring for the stop.
 #[cycle(sides)]
 pub(crate) fn watch_sides<
     'a,
@@ -83,14 +82,15 @@ pub(crate) fn watch_sides<
     client: Watched<'a, P>,
     events: &WatchEvents,
     gate: &G,
-) -> Result<Watched<'a, P>, NoMemory>
+) -> Result<Watched<'a, P>, Watched<'a, P>>
     requires idle { IsIdle owners.now seat }
     requires sides { All (λ side. side.sub < length owners.now.channels) sides.items }
     requires few { length sides.items < 2 ^ 32 }
     requires events { length sides.items ≤ length events.now.lines.items }
     requires streams { length client.merge.streams ≤ length events.now.lines.items }
     requires read { AreRead client.merge.streams client.texts.items }
-    ensures { IfOk result (λ w. HasWatched client.entry.merge.streams w.merge.streams client.entry.texts.items w.texts.items) }
+    ensures watched { IfOk result (λ w. HasWatched client.entry.merge.streams w.merge.streams client.entry.texts.items w.texts.items) }
+    ensures gave_up { IfErr result (λ w. AreStopped w.merge.streams) }
 {
     let Some(side) = last_side(owners, &mut sides) else {
         return read_scans(rt, alloc, client, events, gate);
@@ -106,12 +106,12 @@ pub(crate) fn watch_sides<
             requires { IsIdle owners.now theirs × (sub < length owners.now.channels) }
             ensures { EndsTruly result }
         { board_thread(rt, owners, theirs, sub, board, waiting, gate, who) },
-        move |started| -> Result<Watched<'_, P>, NoMemory>
+        move |putting| -> Result<Watched<'_, P>, Watched<'_, P>>
             requires { IsSync R.row × IsSync G.row × IsIdle owners.now seat × All (λ side. side.sub < length owners.now.channels) sides.items × (length sides.items < 2 ^ 32) × (length sides.items < length events.now.lines.items) × (length client.merge.streams ≤ length events.now.lines.items) × AreRead client.merge.streams client.texts.items }
-            ensures { IfOk result (λ w. HasWatched client.entry.merge.streams w.merge.streams client.entry.texts.items w.texts.items) }
+            ensures { IfOk result (λ w. HasWatched client.entry.merge.streams w.merge.streams client.entry.texts.items w.texts.items) × IfErr result (λ w. AreStopped w.merge.streams) }
         {
             munge_beside(
-                rt, alloc, owners, seat, sides, munger, started, client, events, gate,
+                rt, alloc, owners, seat, sides, munger, putting, client, events, gate,
             )
         },
     );
@@ -133,49 +133,37 @@ fn munge_beside<
     seat: OwnerSeat,
     sides: Vec<BoardSide<P, W>>,
     munger: Munger<P>,
-    started: bool,
+    other: Worker,
     client: Watched<'a, P>,
     events: &WatchEvents,
     gate: &G,
-) -> Result<Watched<'a, P>, NoMemory>
+) -> Result<Watched<'a, P>, Watched<'a, P>>
     requires idle { IsIdle owners.now seat }
     requires sides { All (λ side. side.sub < length owners.now.channels) sides.items }
     requires few { length sides.items < 2 ^ 32 }
     requires events { length sides.items < length events.now.lines.items }
     requires streams { length client.merge.streams ≤ length events.now.lines.items }
     requires read { AreRead client.merge.streams client.texts.items }
-    ensures { IfOk result (λ w. HasWatched client.entry.merge.streams w.merge.streams client.entry.texts.items w.texts.items) }
+    ensures watched { IfOk result (λ w. HasWatched client.entry.merge.streams w.merge.streams client.entry.texts.items w.texts.items) }
+    ensures gave_up { IfErr result (λ w. AreStopped w.merge.streams) }
 {
-    if !started {
-        return stopped(client, events);
+    if other == Worker::Refused {
+        return Err(give_up(client, events));
     }
     let waiting = events.munger(sides.len());
     let (_, watched) = with_worker(
         rt,
         AllMunged,
         move || munge_waiting(rt, munger, waiting),
-        move |started| -> Result<Watched<'_, P>, NoMemory>
+        move |munging| -> Result<Watched<'_, P>, Watched<'_, P>>
             requires { IsSync R.row × IsSync G.row × IsIdle owners.now seat × All (λ side. side.sub < length owners.now.channels) sides.items × (length sides.items < 2 ^ 32) × (length sides.items ≤ length events.now.lines.items) × (length client.merge.streams ≤ length events.now.lines.items) × AreRead client.merge.streams client.texts.items }
-            ensures { IfOk result (λ w. HasWatched client.entry.merge.streams w.merge.streams client.entry.texts.items w.texts.items) }
+            ensures { IfOk result (λ w. HasWatched client.entry.merge.streams w.merge.streams client.entry.texts.items w.texts.items) × IfErr result (λ w. AreStopped w.merge.streams) }
         {
-            if !started {
-                return stopped(client, events);
+            if munging == Worker::Refused {
+                return Err(give_up(client, events));
             }
             watch_sides(rt, alloc, owners, seat, sides, client, events, gate)
         },
     );
     watched
-}
-
-// Asks every ring for the stop, since a thread can't be made.
-fn stopped<'a, P: Planned>(
-    client: Watched<'a, P>,
-    events: &WatchEvents,
-) -> Result<Watched<'a, P>, NoMemory>
-    ensures { IsErr result }
-{
-    let mut client = client;
-    client.merge.stop_all();
-    events.wake_boards();
-    Err(NoMemory)
 }

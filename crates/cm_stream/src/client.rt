@@ -1,6 +1,7 @@
 // The one client of all watched lines.
-ghost use Rattle.std.specs.Prelude.{◌≡◌, ◌<◌, ◌≤◌, length, IfOk};
-ghost use Rattle.cm_stream.specs.Watched.{AreRead, AreSame, CanPut, HasPut, HasWatched};
+ghost use Rattle.std.specs.Prelude.{◌≡◌, ◌<◌, ◌≤◌, length, map, IfOk, IfErr};
+ghost use Rattle.cm_stream.specs.Merging.{released_of};
+ghost use Rattle.cm_stream.specs.Watched.{AreRead, AreSame, AreStopped, CanPut, HasPut, HasWatched};
 
 use crate::events::WatchEvents;
 use crate::merge::{Merge, MergeStep};
@@ -40,15 +41,15 @@ fn put_more<P: Planned, G: Gate>(
     gate: &G,
 ) -> Result<(), NoMemory>
     requires source { source < length merge.old.streams }
-    requires watcher { source < watcher.old }
+    requires told { watcher.old.told ≡ map released_of merge.old.streams }
     requires read { AreRead merge.old.streams texts.old }
-    ensures watcher { watcher.new ≡ watcher.old }
+    ensures told { IfOk result (λ _. watcher.new.told ≡ map released_of merge.new.streams) }
     ensures read { IfOk result (λ _. AreRead merge.new.streams texts.new) }
     ensures same { IfOk result (λ _. AreSame merge.old.streams merge.new.streams texts.old texts.new) }
 {
     room.clear();
     let scans = merge.append_scans(source, room, PIECE)?;
-    watcher.release(source, room.len());
+    watcher.release(source, merge.released(source));
     put_lines(texts, source, room)?;
     pass_each(gate, source, scans);
     Ok(())
@@ -75,17 +76,17 @@ fn read_all<R: Wait + Sync, P: Planned, G: Gate>(
     ensures { IfOk result (λ _. HasWatched merge.old.streams merge.new.streams texts.old texts.new) }
 {
     let mut room = Vec::new(alloc);
-    let mut watcher = Watcher::new(alloc, events)?;
+    let mut watcher = Watcher::new(alloc, events, merge.all_released(alloc)?)?;
     for _ in rt.forever() {
         match merge.step() {
             MergeStep::Given(source, scan) => {
-                watcher.release(source, scan.words.len());
+                watcher.release(source, merge.released(source));
                 put_lines(texts, source, &scan.words)?;
                 gate.pass(source, 4);
                 put_more(merge, texts, &mut room, &mut watcher, source, gate)?;
             }
             MergeStep::Ended => return Ok(()),
-            MergeStep::Waiting => watcher.wait(rt),
+            MergeStep::Waiting => watcher.wait(rt, merge),
             MergeStep::NoMemory(_) => return Err(NoMemory),
         }
     }
@@ -93,17 +94,18 @@ fn read_all<R: Wait + Sync, P: Planned, G: Gate>(
 }
 
 /// Reads all streams to their ends, in turn: a scan of one, and those that stand after it. The lines of
-/// the samples are made as they come. Where memory runs out, it asks every ring for the stop.
+/// the samples are made as they come. Where memory runs out, it gives up.
 pub(crate) fn read_scans<'a, R: Wait + Sync, P: Planned, G: Gate>(
     rt: &R,
     alloc: Global,
     client: Watched<'a, P>,
     events: &WatchEvents,
     gate: &G,
-) -> Result<Watched<'a, P>, NoMemory>
+) -> Result<Watched<'a, P>, Watched<'a, P>>
     requires events { length client.merge.streams ≤ length events.now.lines.items }
     requires read { AreRead client.merge.streams client.texts.items }
-    ensures { IfOk result (λ w. HasWatched client.entry.merge.streams w.merge.streams client.entry.texts.items w.texts.items) }
+    ensures watched { IfOk result (λ w. HasWatched client.entry.merge.streams w.merge.streams client.entry.texts.items w.texts.items) }
+    ensures gave_up { IfErr result (λ w. AreStopped w.merge.streams) }
 {
     let Watched {
         mut texts,
@@ -111,10 +113,18 @@ pub(crate) fn read_scans<'a, R: Wait + Sync, P: Planned, G: Gate>(
     } = client;
     match read_all(rt, alloc, &mut merge, &mut texts, events, gate) {
         Ok(()) => Ok(Watched { texts, merge }),
-        Err(NoMemory) => {
-            merge.stop_all();
-            events.wake_boards();
-            Err(NoMemory)
-        }
+        Err(NoMemory) => Err(give_up(Watched { texts, merge }, events)),
     }
+}
+
+/// Gives up, and asks every ring for the stop.
+pub(crate) fn give_up<'a, P: Planned>(
+    mut client: Watched<'a, P>,
+    events: &WatchEvents,
+) -> Watched<'a, P>
+    ensures { AreStopped result.merge.streams }
+{
+    client.merge.stop_all();
+    events.wake_boards();
+    client
 }

@@ -2,7 +2,7 @@
 ghost use Rattle.std.specs.Prelude.{◌≡◌, true, Some, IfOk, OnErr};
 ghost use Rattle.cm_ring_core.specs.declared.view.EndKind.TheVariants.{Cancelled};
 ghost use Rattle.cm_ring_core.specs.Lawful.{IsFoundEnd};
-ghost use Rattle.cm_client.specs.Samples.{first_munged};
+ghost use Rattle.cm_ring.specs.Samples.{first_munged};
 ghost use Rattle.cm_stream.specs.Scans.{scans};
 ghost use Rattle.cm_stream.specs.Stream.{IsSameStream};
 

@@ -3,9 +3,10 @@ ghost use Rattle.std.specs.Prelude.{◌≡◌, ◌<◌, ◌^◌, length, map, If
 ghost use Rattle.std.specs.List.{All};
 ghost use Rattle.cm_stream.specs.Appended.{HasAppendedOf, HasReleasedNothing};
 ghost use Rattle.cm_stream.specs.Stream.{asked_stream};
-ghost use Rattle.cm_stream.specs.Merging.{merging, first_after, last_after, HasGoneRound, HasMerged, IsEndOf, IsFresh};
+ghost use Rattle.cm_stream.specs.Merging.{merging, first_after, last_after, released_of, HasGoneRound, HasMerged, IsEndOf, IsFresh};
+ghost use Rattle.cm_stream.specs.Told.{IsReleasedOf};
 
-use crate::round::{append_of, ask_all, round};
+use crate::round::{append_of, ask_all, released_of_each, round};
 use crate::scan::Scan;
 use crate::stream::ScanStream;
 use cm_base::transfer::NoMemory;
@@ -107,6 +108,22 @@ impl<P: Planned> Merge<P> {
         ensures last { self.new.last ≡ self.old.last }
     {
         append_of(&mut self.streams, s as usize, words, most)
+    }
+
+    /// How many samples a source has released.
+    pub fn released(&self, s: u32) -> u64
+        requires { s < length self.now.streams }
+        ensures { IsReleasedOf self.now.streams s result }
+    {
+        let stream = &self.streams[s as usize];
+        stream.released()
+    }
+
+    /// How many samples each source has released.
+    pub fn all_released(&self, alloc: Global) -> Result<Vec<u64>, NoMemory>
+        ensures { IfOk result (λ counts. counts.items ≡ map released_of self.now.streams) }
+    {
+        Ok(released_of_each(alloc, &self.streams)?)
     }
 
     /// Asks every ring for the stop. It takes no memory.

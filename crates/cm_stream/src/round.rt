@@ -2,13 +2,14 @@
 ghost use Rattle.std.specs.Prelude.{◌≡◌, ◌<◌, length, map, IfOk, OnErr};
 ghost use Rattle.cm_stream.specs.Appended.{HasAppendedOf, HasReleasedNothing};
 ghost use Rattle.cm_stream.specs.Stream.{asked_stream};
-ghost use Rattle.cm_stream.specs.Merging.{source_after, HasTurned, HasGoneRound};
+ghost use Rattle.cm_stream.specs.Merging.{released_of, source_after, HasTurned, HasGoneRound};
 
 use crate::merge::MergeStep;
 use crate::step::StreamStep;
 use crate::stream::ScanStream;
 use cm_base::transfer::NoMemory;
 use cm_sample::planned::Planned;
+use std::alloc::{AllocError, Global};
 
 // The turn of one source: none where it is over.
 fn turn<P: Planned>(streams: &mut [ScanStream<P>], source: usize) -> Option<StreamStep>
@@ -70,6 +71,21 @@ pub(crate) fn append_of<P: Planned>(
 {
     let stream = &mut streams[source];
     stream.append_scans(words, most)
+}
+
+// How many samples each stream has released.
+pub(crate) fn released_of_each<P: Planned>(
+    alloc: Global,
+    streams: &[ScanStream<P>],
+) -> Result<Vec<u64>, AllocError>
+    ensures { IfOk result (λ counts. counts.items ≡ map released_of streams.now) }
+{
+    let mut counts = Vec::new(alloc);
+    for i in 0..streams.len() {
+        let stream = &streams[i];
+        counts.push(stream.released())?;
+    }
+    Ok(counts)
 }
 
 // Asks each ring for the stop.

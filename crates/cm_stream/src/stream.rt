@@ -2,7 +2,7 @@
 ghost use Rattle.std.specs.Prelude.{◌≡◌, ◌+◌, ◌-◌, ◌*◌, ◌/◌, ◌<◌, ◌≤◌, ◌++◌, min, length, IfOk, IfSome, IfNone, IsTrue, OnErr, true, Some, None};
 ghost use Rattle.cm_ring_core.specs.declared.view.End.{End};
 ghost use Rattle.cm_ring_core.specs.Lawful.{IsFoundEnd};
-ghost use Rattle.cm_client.specs.Samples.{piece};
+ghost use Rattle.cm_ring.specs.Samples.{piece};
 ghost use Rattle.cm_stream.specs.Appended.{HasAppended};
 ghost use Rattle.cm_stream.specs.Stream.{want_of, asked_stream, is_over, IsOver, IsSameStream};
 ghost use Rattle.cm_stream.specs.Step.{IsGiven, HasStepped};
@@ -18,7 +18,6 @@ use std::alloc::{AllocError, Global};
 use std::marker::Model;
 
 // Appends the first samples that are mapped.
-#[tactic(auto, using(crate::proofs::Appends::pushed_more))]
 fn append_mapped<P: Planned>(
     reader: &mut Reader<P>,
     words: &mut Vec<u32>,
@@ -29,9 +28,9 @@ fn append_mapped<P: Planned>(
     ensures same { reader.new ≡ reader.old }
     ensures words { IfOk result (λ _. words.new.items ≡ words.old.items ++ piece reader.old.ring reader.old.part.released count) }
 {
-    for i in 0..count {
-        words.push(reader.word(i))?;
-    }
+    let had = words.len();
+    words.resize(had + count as usize, 0)?;
+    reader.copy_words(&mut words[had..], count);
     Ok(())
 }
 
@@ -224,6 +223,13 @@ impl<P: Planned> ScanStream<P> {
         ensures above { IfSome result (λ e. self.now.reader.part.released ≤ e.count) }
     {
         self.found
+    }
+
+    // How many samples are released.
+    pub(crate) fn released(&self) -> u64
+        ensures { result ≡ self.now.reader.part.released }
+    {
+        self.reader.released()
     }
 
     // Whether an end was found and all samples up to its count are released.

@@ -1,57 +1,86 @@
 // How the client of watched lines waits.
+ghost use Rattle.std.specs.Prelude.{◌≡◌, ◌<◌, ◌≤◌, length, map, slice_set, IfOk};
+ghost use Rattle.cm_stream.specs.Merging.{released_of};
+ghost use Rattle.cm_stream.specs.Told.{rung};
 
 use crate::events::WatchEvents;
+use crate::merge::Merge;
+use cm_base::prover::shows;
 use cm_base::transfer::NoMemory;
 use cm_client::waiting::{Alarm, Sleeper};
+use cm_sample::planned::Planned;
 use std::alloc::Global;
 use std::marker::Model;
 use std::sync::Wait;
 
-/// A client that sleeps until samples of any line have come, and wakes the boards of lines whose cells
-/// it has made free. Contracts see of it the number of lines.
+/// A client that sleeps until samples of any line have come, and lets the boards of lines know whose cells
+/// it has made free. Contracts see of it how many released samples of each line its board was let know of,
+/// and the boards' alarms.
 #[derive(Drop)]
 pub struct Watcher<'a> {
     sleeper: Sleeper<'a>,
     boards: Vec<Alarm<'a>>,
+    told: Vec<u64>,
 }
 
 impl<'a> Model for Watcher<'a> {
-    ghost use Rattle.std.specs.Prelude.{ℕ, length};
+    ghost use Rattle.std.specs.Prelude.{◌≤◌, length};
+    ghost use Rattle.cm_stream.specs.Told.{WatcherText};
 
-    ghost Value = { ℕ };
+    ghost Value = { WatcherText };
 
-    ghost view = { λ w. length w.boards.items };
+    ghost view = { λ w. record { told = w.told.items; boards = w.boards.items } };
+
+    ghost invariant = { λ w. length w.told.items ≤ length w.boards.items };
 }
 
 impl<'a> Watcher<'a> {
-    ghost use Rattle.std.specs.Prelude.{◌≡◌, ◌<◌, length, IfOk};
-
-    /// Before the first sample.
-    pub fn new(alloc: Global, events: &'a WatchEvents) -> Result<Watcher<'a>, NoMemory>
-        ensures { IfOk result (λ w. w ≡ length events.now.lines.items) }
+    /// A client of lines of each of which so many samples are released.
+    pub fn new(
+        alloc: Global,
+        events: &'a WatchEvents,
+        released: Vec<u64>,
+    ) -> Result<Watcher<'a>, NoMemory>
+        requires { length released.items ≤ length events.now.lines.items }
+        ensures { IfOk result (λ w. w.told ≡ released.items) }
     {
         Ok(Watcher {
             sleeper: events.client(),
             boards: events.boards(alloc)?,
+            told: released,
         })
     }
 
-    /// So many samples of a line were released.
-    pub fn release(&mut self, line: u32, count: usize)
-        requires { line < self.old }
-        ensures { self.new ≡ self.old }
+    /// So many samples of a line are released.
+    pub fn release(&mut self, line: u32, released: u64)
+        requires { line < length self.old.told }
+        ensures { self.new.told ≡ slice_set self.old.told line released }
     {
         self.sleeper.go_on();
-        self.boards[line as usize].add(u32::try_from(count).unwrap_or(u32::MAX));
+        let line = line as usize;
+        let count = released.saturating_sub(self.told[line]);
+        self.told[line] = released;
+        self.boards[line].add(u32::try_from(count).unwrap_or(u32::MAX));
     }
 
-    /// No line has a scan: it sees to it that no board waits for it, and waits.
-    pub fn wait<R: Wait>(&mut self, rt: &R)
-        ensures { self.new ≡ self.old }
+    /// No line has a scan, and each board was let know of all that is released: it sees to it that none waits
+    /// for it, and waits.
+    pub fn wait<R: Wait, P: Planned>(&mut self, rt: &R, merge: &Merge<P>)
+        requires told { self.old.told ≡ map released_of merge.now.streams }
+        ensures { self.new ≡ record self.old { boards = map rung self.old.boards } }
     {
-        for board in self.boards.iter_mut() {
-            board.wake_for_rest();
-        }
+        shows(merge);
+        wake_all(&mut self.boards);
         self.sleeper.wait(rt);
+    }
+}
+
+// Wakes each board for all samples that it wasn't woken for.
+fn wake_all(boards: &mut [Alarm<'_>])
+    ensures { boards.new ≡ map rung boards.old }
+{
+    for i in 0..boards.len() {
+        let board = &mut boards[i];
+        board.wake_for_rest();
     }
 }

@@ -68,5 +68,5 @@ fn watch_lines<'a, R: Threads + Wait + Sync, G: Gate + Sync>(
     let merge = Merge::new(alloc, streams)?;
     let client = Watched { texts, merge };
     let events = WatchEvents::new(events);
-    watch_sides(rt, alloc, &owners, seat, sides, client, &events, gate)
+    watch_sides(rt, alloc, &owners, seat, sides, client, &events, gate).or(Err(NoMemory))
 }

@@ -13,8 +13,7 @@ use crate::soak::sum::Sum;
 use cm_base::gate::Gate;
 use cm_base::transfer::NoMemory;
 use cm_board::board::BoardDesc;
-use cm_client::going::{Go, stream_go};
-use cm_expand::call::plan_of;
+use cm_client::going::{Go, go_of, stream_go};
 use cm_expand::plan::Plan;
 use cm_job::job::RunJob;
 use cm_job::line::{Mode, RunLine};
@@ -65,29 +64,13 @@ fn one_line<'a, R: Threads + Wait + Sync, G: Gate + Sync>(
     requires soaks { spec.IsSoakLine line.now }
     ensures { IfOk result (λ d. spec.HasSummed (calls.plan_of board.now signals.now line.now) d.part d.reader) }
 {
-    let plan = plan_of(board, signals, line);
     match line {
-        RunLine::Go {
-            mode,
-            access,
-            take,
-            cmd,
-            ..
-        } => {
-            let go = Go {
-                plan,
-                cmd,
-                mode: *mode,
-                access: *access,
-                take: *take,
-            };
-            soak_go(rt, alloc, go, gate, who)
-        }
+        RunLine::Go { .. } => soak_go(rt, alloc, go_of(board, signals, line), gate, who),
         RunLine::Drive { .. } => unreachable!(),
     }
 }
 
-// The same of the line at a place.
+// Streams the line at a place of a job, and sums what its client reads.
 fn line_at<'a, R: Threads + Wait + Sync, G: Gate + Sync>(
     rt: &R,
     alloc: Global,

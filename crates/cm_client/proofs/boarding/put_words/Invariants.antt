@@ -1,7 +1,8 @@
-use Rattle.std.proofs.Common.{◌≡◌, ◌+◌, ◌≤◌, ◌<◌, length}
+use Rattle.std.proofs.Common.{◌≡◌, ◌+◌, ◌≤◌, ◌<◌, length, false}
+use Rattle.cm_client.specs.Handing.{in_64_bits}
 use Rattle.cm_client.proofs.boarding.put_words.Given as goal
 
--- all words that were given are put, and all but the fresh ones are published
+-- all words that were given are put, and all but the fresh ones are published; no stop was seen
 abbrev pub invariant-loop : goal.invariant-loop
 invariant-loop g l = record {
   table : l.writer.table ≡ l.initial.writer.table;
@@ -12,4 +13,9 @@ invariant-loop g l = record {
   few : l.fresh < 256;
   within : g.W.Words.place l.words ≤ length (g.W.Words.all l.words);
   some_cell : 0 < l.size;
+  looks : l.writer.part.read_looks ≤ l.writer.part.freed + l.writer.part.stop_looks;
+  no_stop : l.writer.part.saw_stop ≡ false;
+  handed : l.handover ≡ in_64_bits l.writer.part.written;
+  most : l.paced ≡ false → l.most ≡ 1;
+  each : l.paced ≡ false → l.fresh ≡ 0;
 }

@@ -1,8 +1,10 @@
 use Rattle.std.proofs.Common.{◌≡◌}
+use Rattle.cm_client.specs.Handing.{in_64_bits}
 use Rattle.cm_client.proofs.munging.munge_waiting.Given as goal
 
 abbrev pub invariant-loop : goal.invariant-loop
 invariant-loop g l = record {
   table : l.munger.table ≡ l.initial.munger.table;
   ring : l.munger.ring ≡ l.initial.munger.ring;
+  handed : l.handover ≡ in_64_bits l.munger.part.munged;
 }

@@ -1,6 +1,7 @@
 use Rattle.std.proofs.Common.{◌≡◌, ◌≤◌, MatchOption}
 use Rattle.std.specs.Bool.{⊤}
 use Rattle.cm_client.specs.Progress.{HasAll, IsSameRing}
+use Rattle.cm_client.specs.Handing.{in_64_bits}
 use Rattle.cm_client.proofs.reading.read_up_to.Given as goal
 
 abbrev pub invariant-loop : goal.invariant-loop
@@ -10,4 +11,5 @@ invariant-loop g l = record {
   most : MatchOption l.most ⊤ (λ m. l.reader.part.released ≤ m);
   asked : l.reader.part.asked ≡ l.initial.reader.part.asked;
   of : IsSameRing l.initial.reader l.reader;
+  handed : l.handover ≡ in_64_bits l.reader.part.released;
 }

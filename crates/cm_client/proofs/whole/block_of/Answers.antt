@@ -15,5 +15,5 @@ returns c =
     let have = c.requires.whole in
     let go = c.go_of.result in
     subst (λ (l : List ℕ). IfOk c.with_end.result (λ v. v.items ≡ l))
-    (block_is c.args.board.now c.args.signals.now c.args.line.now have.words c.args.end have.whole (plan_text go.plan) go.take c.args.lines c.go_of.ensures.plan c.go_of.ensures.all have.lines)
+    (block_is c.args.board.now c.args.signals.now c.args.line.now have.words c.args.end have.whole (plan_text go.plan) go.take c.args.lines c.go_of.ensures.plan (c.go_of.ensures.all have.whole.takes) have.lines)
     c.with_end.ensures

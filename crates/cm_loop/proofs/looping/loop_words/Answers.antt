@@ -1,4 +1,5 @@
-use Rattle.std.proofs.Common.{ℕ, ◌≤◌, length, sym, ap, ◌∙◌, subst, arith}
+use Rattle.std.proofs.Common.{◌≡◌, ℕ, ◌≤◌, length, Result, Ok, sym, ap, ◌∙◌, subst, arith}
+use Rattle.std.specs.Prelude.{IfOk}
 use Rattle.cm_board.specs.Board.{IsSoundSub}
 use Rattle.cm_expand.specs.Board.{BoardState}
 use Rattle.cm_expand.specs.Fit.{IsExpansion}
@@ -8,13 +9,17 @@ use Rattle.cm_expand.specs.PlanView.{plan_text, plan_words}
 use Rattle.cm_loop.specs.Filter.{FilterText}
 use Rattle.cm_job.specs.LoopJob.{LoopJobText, input_of, output_of}
 use Rattle.cm_ring_core.specs.declared.view.RingConstants.{RingConstants}
-use Rattle.cm_text.specs.Blocks.{count_of}
 use Rattle.cm_text.proofs.Counts.{plan_samples}
 use Rattle.cm_loop.specs.LoopText.{take_of}
 use Rattle.cm_loop.proofs.Filters.{are_within, length-items}
 use Rattle.cm_loop.proofs.Loops.{filtered_ring, length-loop_words, loop_out, looped_is, ring_samples, within_ring}
 use Rattle.cm_loop.proofs.Plans.{few_of, rule_there, sound_rule}
 use Rattle.cm_loop.proofs.looping.loop_words.Goals as goal
+use Rattle.cm_expand.specs.Totals.{length_of}
+
+-- what holds of a result, if it is Ok, holds of its value
+kept : {X E : Type 0} (P : X → Type 0) (r : Result X E) (x : X) → r ≡ Ok x → IfOk r P → P x
+kept {X = X} {E = E} P r x e h = let Q : Result X E → Type 0 = λ q. IfOk q P in subst Q e h
 
 pub new-looped-requires-clause-length : goal.new-looped-requires-clause-length
 new-looped-requires-clause-length g c =
@@ -64,8 +69,8 @@ new-requires-3-clause-plan g c =
 pub count_of-outputs-requires : goal.count_of-outputs-requires
 count_of-outputs-requires g c = few_of (plan_text c.output_plan-output.result) (output_of c.args.job.now) c.output_plan-output.ensures.plan c.output_plan-output.ensures.job.output.few
 
-pub returns : goal.returns
-returns g c =
+pub returns-in-Ok : goal.returns-in-Ok
+returns-in-Ok g c =
     let job = c.args.job.now in
     let plan = c.input_plan-input.ensures.plan in
     let out = c.output_plan-output.ensures.plan in
@@ -76,7 +81,7 @@ returns g c =
     let words = c.new-looped.ensures ∙ looped_is job (plan_words c.input_plan-input.result) c.in_ok-munge.munge c.args.filter.now (plan_samples c.input_plan-input.result ∙ ap samples_of plan) munge c.requires.filter some in
     let ring = c.in_ok-writer.ensures.one.3 ∙ c.in_ok-writer.ensures.ring in
     let samples = c.requires.samples in
-    let outputs = c.count_of-outputs.ensures ∙ ap count_of out in
-    let s = c.in_ok-streamed.ensures in
-    s.are ∙ loop_out job c.in_ok-writer.out_reader.ring _ s.words c.in_ok-streamed.streamed.end _ some_out (ap (λ (x : RingConstants). x.paced) ring) (ap (λ (x : RingConstants). x.rule) ring ∙ rule) (ap (λ (x : RingConstants). x.samples) ring ∙ words)
+    let outputs = c.count_of-outputs.ensures ∙ ap length_of out in
+    let s = kept _ c.in_ok-streamed.field-0 c.in-Ok.streamed c.in-Ok.is c.in_ok-streamed.ensures.streamed in
+    s.are ∙ loop_out job c.in_ok-writer.out_reader.ring _ s.words c.in-Ok.streamed.end _ some_out (ap (λ (x : RingConstants). x.paced) ring) (ap (λ (x : RingConstants). x.rule) ring ∙ rule) (ap (λ (x : RingConstants). x.samples) ring ∙ words)
     (c.reads_of-reads.ensures ∙ λ j. take_of (samples j) (outputs j)) s.streamed

@@ -1,4 +1,4 @@
-use Rattle.cm_client.specs.Samples.{munged_plan}
+use Rattle.cm_ring.specs.Samples.{munged_plan}
 use Rattle.cm_loop.proofs.Works.{put_there}
 use Rattle.cm_loop.proofs.work.filter_word.Goals as goal
 

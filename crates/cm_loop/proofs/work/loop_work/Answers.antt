@@ -1,8 +1,9 @@
 use Rattle.std.proofs.Common.{◌≡◌, length, ap, ◌∙◌, arith}
 use Rattle.cm_ring_core.specs.declared.view.RingConstants.{RingConstants}
 use Rattle.cm_ring.specs.Roles.{Writing}
-use Rattle.cm_client.specs.Samples.{munged_plan}
-use Rattle.cm_loop.proofs.Works.{length_munged, waiting_there, all_put}
+use Rattle.cm_ring.specs.Samples.{munged_plan}
+use Rattle.cm_ring.proofs.Pieces.{length_munged}
+use Rattle.cm_loop.proofs.Works.{waiting_there, all_put}
 use Rattle.cm_loop.proofs.work.loop_work.Goals as goal
 
 pub put-requires : goal.put-requires

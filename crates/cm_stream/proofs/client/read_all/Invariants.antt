@@ -1,4 +1,5 @@
-use Rattle.std.proofs.Common.{◌≡◌, length}
+use Rattle.std.proofs.Common.{◌≡◌, map}
+use Rattle.cm_stream.specs.Merging.{released_of}
 use Rattle.cm_stream.specs.Watched.{AreRead, AreSame}
 use Rattle.cm_stream.proofs.client.read_all.Given as goal
 
@@ -6,6 +7,6 @@ use Rattle.cm_stream.proofs.client.read_all.Given as goal
 abbrev pub invariant-loop : goal.invariant-loop
 invariant-loop g l = record {
   read : AreRead l.merge.streams l.texts;
-  watcher : l.watcher ≡ length l.events.lines.items;
+  told : l.watcher.told ≡ map released_of l.merge.streams;
   same : AreSame l.initial.merge.streams l.merge.streams l.initial.texts l.texts;
 }

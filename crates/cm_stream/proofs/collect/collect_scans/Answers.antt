@@ -1,5 +1,5 @@
 use Rattle.std.proofs.Common.{refl, sym, ◌∙◌}
-use Rattle.cm_client.specs.Samples.{munged_plan}
+use Rattle.cm_ring.specs.Samples.{munged_plan}
 use Rattle.cm_stream.proofs.Cuts.{scans_none}
 use Rattle.cm_stream.proofs.collect.collect_scans.Goals as goal
 

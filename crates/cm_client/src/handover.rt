@@ -1,0 +1,121 @@
+// What a worker of a ring hands on to the next one.
+
+use crate::waiting::Waiting;
+use cm_base::prover::shows;
+use cm_ring::munger::Munger;
+use cm_ring::reader::Reader;
+use cm_ring::writer::{Closed, Writer};
+use cm_sample::planned::Planned;
+use std::marker::Model;
+use std::sync::Wait;
+
+/// An end of a ring, by what it has shown to the others.
+pub trait RingEnd {
+    ghost use Rattle.std.specs.Prelude.{ℕ};
+
+    /// How many samples, or cells that are free again, it has shown.
+    ghost shown: { Self → ℕ };
+
+    /// How many more it has finished.
+    ghost kept_back: { Self → ℕ };
+
+    /// Whether it has shown that it has ended, or that the writer is to end.
+    ghost ended: { Self → Type 0 };
+}
+
+impl<P: Planned> RingEnd for Writer<P> {
+    ghost use Rattle.std.specs.Prelude.{◌-◌};
+
+    ghost shown = { λ w. w.part.written };
+
+    ghost kept_back = { λ w. w.part.next - w.part.written };
+
+    ghost ended = { λ _. ⊥ };
+}
+
+impl<P: Planned> RingEnd for Closed<P> {
+    ghost use Rattle.std.specs.Prelude.{◌-◌};
+
+    ghost shown = { λ c. c.part.written };
+
+    ghost kept_back = { λ c. c.part.next - c.part.written };
+
+    ghost ended = { λ _. Unit {0} };
+}
+
+impl<P: Planned> RingEnd for Munger<P> {
+    ghost use Rattle.cm_client.specs.Streamed.{HasMungedAll};
+
+    ghost shown = { λ m. m.part.munged };
+
+    ghost kept_back = { λ _. 0 };
+
+    ghost ended = { HasMungedAll };
+}
+
+impl<P: Planned> RingEnd for Reader<P> {
+    ghost use Rattle.cm_client.specs.Handing.{IsOver};
+
+    ghost shown = { λ r. r.part.released };
+
+    ghost kept_back = { λ _. 0 };
+
+    ghost ended = { IsOver };
+}
+
+/// How a worker waits, with how many samples, or cells, it has handed on to the next one, which is what
+/// contracts see of it. The worker hands on what its end of the ring has shown, waits only where that is all,
+/// and has to end it: a `Handover` isn't let go.
+pub struct Handover<W: Waiting> {
+    way: W,
+    handed: u64,
+}
+
+impl<W: Waiting> Model for Handover<W> {
+    ghost use Rattle.std.specs.Prelude.{ℕ};
+
+    ghost Value = { ℕ };
+
+    ghost view = { λ h. h.handed };
+}
+
+impl<W: Waiting> Handover<W> {
+    ghost use Rattle.std.specs.Prelude.{◌≡◌, ◌+◌};
+    ghost use Rattle.cm_client.specs.Handing.{in_64_bits};
+
+    /// Of a worker whose end has shown so many.
+    pub fn new(way: W, handed: u64) -> Handover<W>
+        ensures { result ≡ handed }
+    {
+        Handover { way, handed }
+    }
+
+    /// Hands on so many more, which the end has shown.
+    pub fn hand_on<E: RingEnd>(&mut self, by: &E, count: u32)
+        requires shown { in_64_bits (E.shown by.now) ≡ in_64_bits (self.old + count) }
+        ensures { self.new ≡ in_64_bits (E.shown by.now) }
+    {
+        shows(by);
+        self.handed = self.handed.saturating_add(u64::from(count));
+        self.way.hand_on(count);
+    }
+
+    /// The worker has found nothing to do: it waits, or looks once more.
+    pub fn wait<R: Wait, E: RingEnd>(&mut self, rt: &R, by: &E)
+        requires shown { E.kept_back by.now ≡ 0 }
+        requires handed { self.old ≡ in_64_bits (E.shown by.now) }
+        ensures { self.new ≡ self.old }
+    {
+        shows(by);
+        self.way.wait(rt);
+    }
+
+    /// The worker has ended, and its end of the ring has shown it.
+    pub fn end<E: RingEnd>(self, by: &E)
+        requires { E.ended by.now }
+    {
+        shows(by);
+        let Handover { mut way, handed: _ } = self;
+        way.end();
+    }
+}
