@@ -1,26 +1,23 @@
 -- What a line does with the subdevices of a session.
-use Rattle.std.proofs.Common.{◌≡◌, ℕ, ◌<◌, ◌≤◌, Bool, true, false, List, [], ◌∷◌, ◌++◌, length, get_or, set, Option, Some, None, Result, Ok, Err, OnOk, refl, sym, ap, ap₂, ◌∙◌, subst, append_assoc}
+use Rattle.std.proofs.Common.{◌≡◌, ℕ, ◌<◌, ◌≤◌, Bool, true, false, List, [], ◌∷◌, ◌++◌, length, get_or, set, Option, Some, None, Result, Ok, Err, OnOk, refl, sym, ap, ap₂, ◌∙◌, arith, subst, append_assoc}
 use Rattle.std.specs.Prelude.{◌||◌, ◌&&◌, not}
 use Rattle.std.proofs.lemmas.List.{get_or_default, set-get_or}
-use Rattle.cm_board.specs.Board.{SubText, is_unused, no_sub, takes_commands}
+use Rattle.cm_board.specs.Board.{is_unused, no_sub, takes_commands}
 use Rattle.cm_cmd.specs.Command.{CmdText}
-use Rattle.cm_signal.specs.Signals.{SignalsText}
 use Rattle.cm_sub.specs.Checks.{first_refusal, refuse}
 use Rattle.cm_sub.specs.Files.{FilesText, reach_checks}
 use Rattle.cm_sub.specs.declared.errno.Errno.{Errno}
 use Rattle.cm_sub.specs.declared.errno.Errno.TheVariants.{Io}
 use Rattle.cm_signal.specs.Setting.{Setting}
-use Rattle.cm_test.specs.Accepting.{sub_at}
 use Rattle.cm_session.specs.declared.op.Op.{Op}
 use Rattle.cm_session.specs.declared.op.Op.TheVariants as ops
 use Rattle.cm_session.specs.declared.op.SessionLine.{SessionLine}
-use Rattle.cm_replay.specs.Answers.{Refused, Reply}
+use Rattle.cm_replay.specs.Answers.{Answer, Refused, Reply}
 use Rattle.cm_replay.specs.Forms.{form, kind_checks, named_sub}
 use Rattle.cm_replay.specs.Ready.{CanMove}
-use Rattle.cm_replay.specs.Replies.{CanAct, CanStep, IsWhole, Leads, Replies, here_at, seat_reply, tried_by, unless_kept}
+use Rattle.cm_replay.specs.Replies.{CanAct, CanStep, IsWhole, LeadsTelling, StandsAt, Tells, here_at, seat_reply, tried_by, unless_kept}
 use Rattle.cm_replay.specs.Session.{Outcome, act_on, here, unless_refused, with_reply}
 use Rattle.cm_replay.specs.State.{Device, Here, State, device_at, idle_device}
-use Rattle.cm_replay.specs.Texts.{answer_text}
 use Rattle.cm_replay.specs.declared.at.At.{At}
 
 -- where the first checks pass, the rest decides
@@ -44,12 +41,12 @@ act_on-seat op h state reached same there =
     ∙ either (first_refusal (kind_checks op h ++ (form op h).checks)) h state (form op h).reply same there
 
 -- what the code finds is what the line sees
-pub same-here : (s : Setting) (line : SessionLine) (state : State) (i : ℕ) (x : SubText) (signals : SignalsText) (d : Device) → i ≡ named_sub line.op → x ≡ get_or s.board.subs i x → signals ≡ s.signals → d ≡ get_or state.devices i d →
-    i < length s.board.subs → i < length state.devices → record { time = line.time; file = line.file; index = i; sub = x; signals = signals; files = state.files; device = d } ≡ here s line state
-same-here s line state i x signals d same its_sub its_signals its_device within there =
-    let sub : x ≡ sub_at s.board (named_sub line.op) = its_sub ∙ get_or_default s.board.subs i x no_sub within ∙ ap (sub_at s.board) same in
-    let device : d ≡ device_at state.devices (named_sub line.op) = its_device ∙ get_or_default state.devices i d (idle_device no_sub) there ∙ ap (device_at state.devices) same in
-    λ k. record { time = line.time; file = line.file; index = same k; sub = sub k; signals = its_signals k; files = state.files; device = device k }
+pub same-here : (s : Setting) (line : SessionLine) (state : State) (at : At) (d : Device) → StandsAt s line.time line.file (named_sub line.op) at → length state.devices ≡ length s.board.subs →
+    d ≡ get_or state.devices (named_sub line.op) d → here_at at state.files d ≡ here s line state
+same-here s line state at d stands places is =
+    let there : named_sub line.op < length state.devices = omega (arith, stands.within, places) in
+    let device : d ≡ device_at state.devices (named_sub line.op) = is ∙ get_or_default state.devices (named_sub line.op) d (idle_device no_sub) there in
+    λ k. record { time = stands.time k; file = stands.file k; index = stands.index k; sub = stands.sub k; signals = stands.signals k; files = state.files; device = device k }
 
 -- a line that reaches its subdevice can act on it
 pub can-act : (s : Setting) (line : SessionLine) (tried : Option CmdText) (state : State) (at : At) (device : Device) → CanStep s line tried state → here_at at state.files device ≡ here s line state →
@@ -66,10 +63,10 @@ can-act s line tried state at device can same reached =
     }
 
 -- what its subdevice replies is what the line leads to
-pub acted : {E : Type 0} (s : Setting) (line : SessionLine) (state : State) (i : ℕ) (h : Here) (result : Result (Unit {0}) E) (files : FilesText) (device : Device) (old new : List ℕ) → h ≡ here s line state → h.index ≡ i → first_refusal (reach_checks line.file i state.files) ≡ None →
-    OnOk result (Replies (seat_reply line.op h) files device old new) → OnOk result (Leads (act_on line.op (here s line state) state) (record { files = files; devices = set state.devices i device }) old new)
-acted s line state i h (Err e) files device old new same index reached replies = tt
-acted s line state i h (Ok u) files device old new same index reached replies =
+pub acted : {E : Type 0} (said : Answer → List ℕ) (s : Setting) (line : SessionLine) (state : State) (i : ℕ) (h : Here) (result : Result (Unit {0}) E) (files : FilesText) (device : Device) (old new : List ℕ) → h ≡ here s line state → h.index ≡ i → first_refusal (reach_checks line.file i state.files) ≡ None →
+    OnOk result (Tells said (seat_reply line.op h) files device old new) → OnOk result (LeadsTelling said (act_on line.op (here s line state) state) (record { files = files; devices = set state.devices i device }) old new)
+acted said s line state i h (Err e) files device old new same index reached replies = tt
+acted said s line state i h (Ok u) files device old new same index reached replies =
     let n = here s line state in
     let at : n.index ≡ i = sym (ap (λ (x : Here). x.index) same) ∙ index in
     let led : act_on line.op n state ≡ with_reply n.index state (seat_reply line.op n) =
@@ -80,7 +77,7 @@ acted s line state i h (Ok u) files device old new same index reached replies =
         files = (replies.its_files ∙ ap (λ (r : Reply). r.files) reply ∙ sym (ap (λ (t : Outcome). t.state.files) led)) k;
         devices = (ap₂ (λ j (d : Device). set state.devices j d) (sym at) (replies.its_device ∙ ap (λ (r : Reply). r.device) reply) ∙ sym (ap (λ (t : Outcome). t.state.devices) led)) k;
       };
-      reported = replies.reported ∙ ap (λ (r : Reply). old ++ answer_text r.answer) reply ∙ sym (ap (λ (t : Outcome). old ++ answer_text t.answer) led);
+      reported = replies.reported ∙ ap (λ (r : Reply). old ++ said r.answer) reply ∙ sym (ap (λ (t : Outcome). old ++ said t.answer) led);
     }
 
 takes-if : (unused takes : Bool) → first_refusal (refuse Io (unused || (true && not takes)) ∷ []) ≡ None → takes ≡ true

@@ -7,7 +7,7 @@ use Rattle.cm_expand.specs.Taking.{come}
 use Rattle.cm_expand.specs.declared.conv.Conv.{Conv}
 use Rattle.cm_expand.proofs.Come.{come-first, come-later_first, come-le}
 use Rattle.cm_fifo.specs.Handed.{last_time, time_or}
-use Rattle.cm_replay.specs.Asking.{await_time, deciding, is_served, last_after, quiet_after, quiet_time}
+use Rattle.cm_replay.specs.Awaiting.{await_time, deciding, is_served, last_after, quiet_after, quiet_time}
 use Rattle.cm_replay.specs.Running.{Running}
 use Rattle.cm_replay.specs.ToCome.{ToCome}
 use Rattle.cm_replay.specs.declared.ending.End.{End}

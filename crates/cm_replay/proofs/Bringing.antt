@@ -147,7 +147,7 @@ filled-in_step s ring board time planned in_step some = (
     n = moving ring board.conversions time
 
     after : come time board.conversions ≡ arrived s time - ring.w
-    after = ap (come time) left ∙ come-drop time ring.w s.arrivals planned.order some
+    after = ap (come time) left ∙ come-drop time ring.w s.arrivals planned.timely.order some
 
     words : raw_words (take n board.conversions) ≡ raw_words (take n (drop ring.w s.conversions))
     words = ap (λ cs. raw_words (take n cs)) left ∙ same-words s.arrivals s.conversions ring.w n planned.words (omega (arith, after, some, few))

@@ -53,6 +53,7 @@ collected-command c command input time ring board some moved left end = record {
   planned = command.planned;
   out = command.out;
   served = subst (λ b. IsServed b (its_schedule c) ring board) (sym (command.out ∙ input)) (collected-in_step c command input time ring board some moved left).0;
+  lines = command.lines;
   looks = command.looks;
 }
 
@@ -74,7 +75,7 @@ running-collected c command input time ring board some moved left end shown =
     let none : (if c.out then ring.held else []) ≡ (if c.out then c.ring.held else []) = cond-false c.out ring.held [] (command.out ∙ input) ∙ sym (cond-false c.out c.ring.held [] (command.out ∙ input)) in
     let its_end : end ≡ end_by s (c.ring.r + s.size) time =
     shown ∙ ap (λ (b : ToCome). end_shown b (Overrun ring.w) ring.w s.horizon time) step.0.ahead
-    ∙ end_shown-right s (Overrun ring.w) (c.ring.r + s.size) ring.w time command.planned.order command.planned.timely step.1
+    ∙ end_shown-right s (Overrun ring.w) (c.ring.r + s.size) ring.w time command.planned.timely.order command.planned.timely step.1
     (λ over. ap Overrun (omega (arith, step.1)) ∙ sym (missed-input s (c.ring.r + s.size) input)) in
     λ i. record { schedule = s; r = same_r i; ra = same_ra i; w = step.1 i; a = same_a i; words = none i; end = its_end i }
 

@@ -1,7 +1,7 @@
 -- A session line by line.
-use Rattle.std.proofs.Common.{◌≡◌, ℕ, zero, suc, ◌+◌, ◌<◌, ◌≤◌, List, [], ◌∷◌, length, get_or, map, drop, refl, sym, ap, ◌∙◌, subst, arith, add-one, drop-cons, Option, Some, None}
+use Rattle.std.proofs.Common.{◌≡◌, ℕ, zero, suc, ◌+◌, ◌<◌, ◌≤◌, List, [], ◌∷◌, length, get_or, map, drop, refl, sym, ap, ◌∙◌, subst, arith, Option, Some, None}
 use Rattle.std.specs.List.{All}
-use Rattle.std.proofs.lemmas.List.{drop_all, length-map, length-replicate}
+use Rattle.std.proofs.lemmas.List.{drop_all, drop_more, length-map, length-replicate}
 use Rattle.cm_base.specs.Transfer.{IsUnderWay}
 use Rattle.cm_base.proofs.UnderWay.{under_way-more}
 use Rattle.cm_cmd.specs.Command.{CmdText}
@@ -20,10 +20,9 @@ use Rattle.cm_replay.proofs.Counts.{length-brought, step-claims, step-devices}
 use Rattle.cm_replay.proofs.Readiness.{ready-at}
 use Rattle.cm_replay.proofs.Wholes.{whole-brought, whole-step}
 
--- what is left is the next line and those after it
-next-line : (lines : List SessionLine) (i : ℕ) (line : SessionLine) → i < length lines → line ≡ get_or lines i line → drop i lines ≡ line ∷ drop (i + 1) lines
-next-line lines i line within is =
-    drop-cons lines i line within ∙ ap (λ (x : SessionLine). x ∷ drop (suc i) lines) (sym is) ∙ ap (λ (n : ℕ). line ∷ drop n lines) (sym (add-one i))
+-- what is left is the next item and those after it
+pub left-next : {X : Type 0} (xs : List X) (i : ℕ) (x : X) → i < length xs → x ≡ get_or xs i x → drop i xs ≡ x ∷ drop (i + 1) xs
+left-next xs i x within is = drop_more xs i x within ∙ ap (λ y. y ∷ drop (i + 1) xs) (sym is)
 
 -- each line has its limits
 limits-at : (horizon time : ℕ) (lines : List SessionLine) (i : ℕ) (line : SessionLine) → InOrder horizon time lines → i < length lines → line ≡ get_or lines i line → IsLimited horizon line
@@ -39,7 +38,7 @@ trial-at f (x ∷ lines) (suc i) line t within = trial-at f lines i line t (omeg
 
 -- and the session is ready for it
 line-ready : (s : Setting) (lines : List SessionLine) (i : ℕ) (line : SessionLine) (state : State) → i < length lines → line ≡ get_or lines i line → StaysReady s state (drop i lines) → StaysReady s state (line ∷ drop (i + 1) lines)
-line-ready s lines i line state within is ready = subst (StaysReady s state) (next-line lines i line within is) ready
+line-ready s lines i line state within is ready = subst (StaysReady s state) (left-next lines i line within is) ready
 
 -- where each line is reached, it can be done
 pub can-step : (s : Setting) (lines : List SessionLine) (tried : List (Option CmdText)) (first : List Device) (state : State) (i : ℕ) (line : SessionLine) (t : Option CmdText) → CanReplay s lines tried first → AreMany s.board state.files state.devices →
@@ -68,7 +67,7 @@ pub line-answered : (s : Setting) (a b : Option (List ℕ)) (lines : List Sessio
 line-answered s a b lines i line state new text more whole within is made way =
     subst (λ (n : State). IsUnderWay a b more (texts_from s n (drop (i + 1) lines)) whole) (sym made.after)
     (under_way-more a b text more (step_text (step s line state)) (texts_from s (step s line state).state (drop (i + 1) lines)) whole made.reported
-    (subst (λ (ls : List SessionLine). IsUnderWay a b text (texts_from s state ls) whole) (next-line lines i line within is) way))
+    (subst (λ (ls : List SessionLine). IsUnderWay a b text (texts_from s state ls) whole) (left-next lines i line within is) way))
 
 -- after the last line nothing is left to answer
 pub all-answered : (s : Setting) (state : State) (lines : List SessionLine) (i : ℕ) → length lines ≤ i → texts_from s state (drop i lines) ≡ []

@@ -2,9 +2,8 @@
 use Rattle.std.proofs.Common.{◌≡◌, ℕ, ◌<◌, ◌≤◌, Bool, true, false, List, refl, sym, ap, ◌∙◌, inl, inr, arith, subst, Option, Some, None}
 use Rattle.std.specs.Prelude.{not, ◌==◌}
 use Rattle.std.proofs.lemmas.Bool.{cases_Bool, eqb-true}
-use Rattle.cm_board.specs.Board.{SubText}
+use Rattle.cm_board.specs.Board.{SubText, is_output}
 use Rattle.cm_cmd.specs.Command.{CmdText}
-use Rattle.cm_expand.specs.Rule.{is_output}
 use Rattle.cm_insn.specs.Insn.{Done}
 use Rattle.cm_signal.specs.Signals.{SignalsText}
 use Rattle.cm_sub.specs.Checks.{first_refusal}

@@ -15,8 +15,7 @@ use Rattle.cm_replay.specs.Replies.{Replies, checked, unless_kept}
 use Rattle.cm_replay.specs.Law.{Spot}
 use Rattle.cm_replay.specs.Ready.{CanMove}
 use Rattle.cm_replay.specs.Running.{Running, is_out}
-use Rattle.cm_board.specs.Board.{SubText}
-use Rattle.cm_expand.specs.Rule.{is_output}
+use Rattle.cm_board.specs.Board.{SubText, is_output}
 use Rattle.cm_replay.specs.State.{Device, Here}
 use Rattle.cm_replay.specs.Texts.{answer_text}
 use Rattle.cm_replay.proofs.Checks.{passes, passes-both}

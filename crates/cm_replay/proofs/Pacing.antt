@@ -45,13 +45,14 @@ put-command c command output ring board moves end = record {
   planned = command.planned;
   out = command.out;
   served = subst (λ b. IsServed b (its_schedule c) ring board) (sym (command.out ∙ output)) (put-paced (its_schedule c) c.ring ring c.board board (paced c command output) moves);
+  lines = command.lines;
   looks = command.looks;
 }
 
 put-place : (c : Inside) → IsCommand c → is_out (its_schedule c) ≡ true → (time : ℕ) → c.ring.r ≤ arrived (its_schedule c) time → c.ring.r + going c.ring c.board.conversions time ≡ put_by (running_of c) time
 put-place c command output time some =
     let step = paced c command output in
-    let after : come time c.board.conversions ≡ arrived (its_schedule c) time - c.ring.r = ap (λ (b : ToCome). come time b.conversions) step.ahead ∙ come-drop time c.ring.r (its_schedule c).arrivals command.planned.order some in
+    let after : come time c.board.conversions ≡ arrived (its_schedule c) time - c.ring.r = ap (λ (b : ToCome). come time b.conversions) step.ahead ∙ come-drop time c.ring.r (its_schedule c).arrivals command.planned.timely.order some in
     omega (arith, after, some, step.r_w)
 
 pub running-put : (c : Inside) → IsCommand c → is_out (its_schedule c) ≡ true → (time : ℕ) (ring : Ring) (board : ToCome) → c.ring.r ≤ arrived (its_schedule c) time → Moves c.ring ring c.board board →
@@ -70,7 +71,7 @@ running-put c command output time ring board some moves moved end shown =
     let ahead : board ≡ left_after (put_by (running_of c) time) s = (put-paced s c.ring ring c.board board (paced c command output) moves).ahead ∙ ap (λ n. left_after n s) same_r in
     let its_end : end ≡ end_by s c.ring.w time =
     shown ∙ ap₂ (λ (b : ToCome) k. end_shown b (Underrun ring.w) k s.horizon time) ahead same_r
-    ∙ end_shown-right s (Underrun ring.w) c.ring.w (put_by (running_of c) time) time command.planned.order command.planned.timely refl
+    ∙ end_shown-right s (Underrun ring.w) c.ring.w (put_by (running_of c) time) time command.planned.timely.order command.planned.timely refl
     (λ over. ap Underrun same_w ∙ sym (missed-output s c.ring.w output)) in
     λ i. record { schedule = s; r = same_r i; ra = same_ra i; w = same_w i; a = same_a i; words = left i; end = its_end i }
 

@@ -2,7 +2,7 @@
 use Rattle.std.proofs.Common.{◌≡◌, ℕ, ◌+◌, ◌-◌, ◌≤◌, Bool, true, false, List, [], length, min, take, drop, Some, refl, sym, ap, ◌∙◌, inl, inr, arith, length-take}
 use Rattle.std.proofs.lemmas.Bool.{cases_lt}
 use Rattle.std.proofs.lemmas.List.{drop-take, drop_all, take-take, take_all}
-use Rattle.cm_replay.specs.Asking.{peeked}
+use Rattle.cm_replay.specs.Reading.{peeked}
 use Rattle.cm_replay.specs.CommandView.{IsCommand, its_schedule, running_of}
 use Rattle.cm_replay.specs.Running.{is_out, samples}
 use Rattle.cm_replay.specs.declared.command.Command.TheInside.{Inside}

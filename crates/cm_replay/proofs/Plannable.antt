@@ -64,6 +64,7 @@ pub timely : (p : PlanText) → IsSoundPlan p → IsTimely (schedule_of p)
 timely p sound =
     let is = reaching-is p p.sub.fifo sound in
     record {
+      order = is.order;
       early = λ time late. omega (arith, is.come_before time, early p time (start_of p) sound refl late);
       cut = is.by;
       within = is.within;

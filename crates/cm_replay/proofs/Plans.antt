@@ -17,7 +17,6 @@ planned-schedule p sound =
     let many = items_counted p in
     let reached = reaching-is p p.sub.fifo sound in
     record {
-      order = reached.order;
       timely = timely p sound;
       words = reached.are.words;
       few = omega (arith, many, length-times_of p sound);

@@ -17,7 +17,8 @@ use Rattle.cm_signal.specs.Setting.{Setting}
 use Rattle.cm_session.specs.declared.op.Op.{Op}
 use Rattle.cm_session.specs.declared.op.Op.TheVariants as ops
 use Rattle.cm_session.specs.declared.op.SessionLine.{SessionLine}
-use Rattle.cm_text.specs.Format.{Format, entry_at}
+use Rattle.cm_expand.specs.Rule.{entry_at}
+use Rattle.cm_text.specs.Format.{Format}
 use Rattle.cm_text.specs.Outputs.{Output}
 use Rattle.cm_replay.specs.Answers.{Answer, Begun, Data, Ended, Filled, Fine, Holds, Idle, Looked, Mapped, Marked, Refused, Rejected, Released, Taken, Triggered, Written}
 use Rattle.cm_replay.specs.Session.{step}
@@ -61,7 +62,7 @@ abbrev level : SubText → ℕ → ℕ → ℤ
 level sub entry word = micro_of (range_of sub (chan entry) (range entry)) (maxdata_of sub (chan entry)) word
 
 abbrev sample : Format → ℕ → ℕ → List ℤ
-sample f place word = pos (place % length f.list) ∷ (if f.raw then pos word else level f.sub (entry_at f place) word) ∷ []
+sample f place word = pos (place % length f.list) ∷ (if f.raw then pos word else level f.sub (entry_at f.list place) word) ∷ []
 
 abbrev samples : Format → ℕ → List ℕ → List ℤ
 samples f place [] = []

@@ -3,16 +3,17 @@ use Rattle.std.proofs.Common.{◌≡◌, ℕ, Bool, true, false, List, [], ◌�
 use Rattle.std.specs.Prelude.{is_some, not, if◌then◌else◌}
 use Rattle.std.proofs.lemmas.Fmt.{decimal_digit}
 use Rattle.std.proofs.lemmas.Result.{on_ok_weaker}
-use Rattle.cm_board.specs.Board.{IsSoundSub}
+use Rattle.cm_board.specs.Board.{IsSoundSub, is_output}
 use Rattle.cm_expand.specs.Plan.{PlanText}
 use Rattle.cm_expand.specs.PlanView.{plan_text}
-use Rattle.cm_expand.specs.Rule.{is_output, munged_at}
+use Rattle.cm_expand.specs.Rule.{munged_at}
 use Rattle.cm_expand.specs.declared.plan.Plan.{Plan}
 use Rattle.cm_signal.specs.Signals as signals
 use Rattle.cm_sub.specs.Checks.{first_refusal, refuse}
 use Rattle.cm_sub.specs.Claims.{cancel_checks}
 use Rattle.cm_sub.specs.declared.errno.Errno.TheVariants.{Again, Inval}
 use Rattle.cm_session.specs.declared.op.Op.TheVariants as ops
+use Rattle.cm_text.specs.Format.{format_of}
 use Rattle.cm_replay.specs.Calling.{takes_number, trigger_on, trigger_reply, waits}
 use Rattle.cm_replay.specs.CommandView.{IsCommand, its_schedule, running_of}
 use Rattle.cm_replay.specs.Forms.{form}
@@ -41,6 +42,7 @@ trigger-command c command plan board time none given planned all = record {
   out = command.out ∙ sym (ap (λ (p : PlanText). is_output p.sub.kind) given);
   served = served-anew c.out (its_schedule c) (schedule_of (plan_text plan)) c.ring c.board board command.served (ap (λ (b : Bool). if b then c.ring.r else c.ring.w) command.out ∙ none)
       (ap (λ (p : PlanText). munged_at p.sub p.cmd) given) (ap (λ (p : PlanText). p.sub.buffer) given) all;
+  lines = command.lines ∙ sym (ap (λ (p : PlanText). format_of p) given);
   looks = tt;
 }
 

@@ -2,8 +2,7 @@
 use Rattle.std.proofs.Common.{◌≡◌, ℕ, zero, suc, ◌+◌, ◌<◌, ◌≤◌, List, [], ◌∷◌, ◌++◌, length, get_or, take, codes, refl, sym, ap, ap₂, ◌∙◌, arith, append_assoc, append-nil}
 use Rattle.std.proofs.lemmas.List.{length-take-le}
 use Rattle.std.specs.Fmt.{decimal}
-use Rattle.cm_replay.specs.Asking.{codes_text}
-use Rattle.cm_replay.specs.Texts.{words_text}
+use Rattle.cm_replay.specs.Texts.{codes_text, words_text}
 
 -- one more word stands after the others
 pub words_text-next : (xs : List ℕ) (i : ℕ) → i < length xs → words_text (take (i + 1) xs) ≡ words_text (take i xs) ++ (codes " " ++ decimal (get_or xs i 0))

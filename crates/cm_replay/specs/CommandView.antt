@@ -61,4 +61,5 @@ pub record IsCommand (c : Inside) : Type 0 where
   pub planned : IsSchedule (its_schedule c)
   pub out : c.out ≡ is_out (its_schedule c)
   pub served : IsServed c.out (its_schedule c) c.ring c.board
+  pub lines : c.lines ≡ (its_schedule c).format
   pub looks : LooksOver (its_schedule c) c.ahead

@@ -13,7 +13,7 @@ use Rattle.cm_text.specs.Outputs.{Output}
 use Rattle.cm_replay.specs.Answers.{Answer, Begun, Ended, Filled, Looked, Released, Taken, Written}
 use Rattle.cm_replay.specs.Forms.{named_sub}
 use Rattle.cm_replay.specs.Job.{JobText, IsJob, setting_of}
-use Rattle.cm_replay.specs.Running.{Running, arrived, due, is_out, munge_in, outputs, put_by, samples}
+use Rattle.cm_replay.specs.Running.{Running, arrived, brought, due, is_out, munge_in, outputs, put_by, samples}
 use Rattle.cm_replay.specs.Schedules.{schedule_of, triggered}
 use Rattle.cm_replay.specs.Session.{brought_all, step}
 use Rattle.cm_replay.specs.State.{State, at_start, device_at}
@@ -143,6 +143,14 @@ GoesWell s histories state (line ∷ rest) =
     × ((i : ℕ) → PutsOut i line.time (histories i) (device_at state.devices i).running)
     × Continues (step s line state).answer (histories (named_sub line.op)) (running_at line state)
     × GoesWell s (remembered_at histories (named_sub line.op) (step s line state).answer) (step s line state).state rest
+
+-- a command that was brought to a time stays as it is when it is brought there once more
+abbrev pub BringingLaw : Type 0
+BringingLaw = (time : ℕ) (c : Running) → brought time (brought time c) ≡ brought time c
+
+-- and nothing is put out then
+abbrev pub NothingIsLeft : Type 0
+NothingIsLeft = (sub time : ℕ) (c : Running) → due sub time (brought time c) ≡ []
 
 -- what a job and its board keep
 pub record IsSoundJob (job : JobText) : Type 0 where

@@ -1,5 +1,4 @@
 pub mod Answers
-pub mod Asking
 pub mod Awaiting
 pub mod Calling
 pub mod ComingView
@@ -15,14 +14,11 @@ pub mod JobView
 pub mod Law
 pub mod LookAheadView
 pub mod Planned
-pub mod Playing
-pub mod PlayingView
 pub mod Putting
 pub mod Reading
 pub mod Ready
 pub mod Refusals
 pub mod Replies
-pub mod Reporting
 pub mod Running
 pub mod Schedules
 pub mod SeatView

@@ -1,15 +1,13 @@
 -- What the code asks of the schedule of a command.
 use Rattle.std.specs.Prelude.{◌≡◌, ℕ, ◌<◌, ◌≤◌, ◌^◌, false, length, slice_index, take}
 use Rattle.cm_expand.specs.Taking.{raw_words}
-use Rattle.cm_expand.specs.Taking.{NeverFalls}
 use Rattle.cm_text.specs.Format.{IsFormat, IsSample}
 use Rattle.cm_replay.specs.Running.{Schedule, is_out, samples}
 use Rattle.cm_replay.specs.Timely.{IsTimely}
 
--- what reaches the buffer does so in order, up to the horizon, with the raw words of the first conversions; the buffer can be opened, and
--- each sample of an input can be reported
+-- what reaches the buffer is timely, with the raw words of the first conversions; the buffer can be opened, and each sample of an input
+-- can be reported
 pub record IsSchedule (s : Schedule) : Type 0 where
-  pub order : NeverFalls s.arrivals
   pub timely : IsTimely s
   pub words : raw_words s.arrivals ≡ take (length s.arrivals) (raw_words s.conversions)
   pub few : length s.conversions ≤ 2 ^ 60

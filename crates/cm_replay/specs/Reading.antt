@@ -1,5 +1,5 @@
 -- What the lines do that read from a command's buffer, each where no check refuses it.
-use Rattle.std.specs.Prelude.{ℕ, ◌+◌, ◌-◌, min, ◌||◌, nat_eq, take, drop, slice_index, Option, Some, None, if◌then◌else◌}
+use Rattle.std.specs.Prelude.{ℕ, ◌+◌, ◌-◌, min, ◌||◌, nat_eq, List, [], take, drop, slice_index, Option, Some, None, if◌then◌else◌}
 use Rattle.cm_replay.specs.Answers.{Answer, Holds, Idle, Looked, Mapped, Released, Reply, Taken, goes_on, kept, unless_ended}
 use Rattle.cm_replay.specs.Running.{Running, is_out, samples}
 use Rattle.cm_replay.specs.State.{Here}
@@ -43,6 +43,11 @@ map_reply n h (Some c) = unless_ended h (reported_end c) (goes_on h (map_on n c)
 abbrev pub mapped : Option Running → ℕ
 mapped None = 0
 mapped (Some c) = c.ra - c.r
+
+-- up to `n` of the mapped samples, from the one `from` places after the first on
+abbrev pub peeked : ℕ → ℕ → Option Running → List ℕ
+peeked from n None = []
+peeked from n (Some c) = take n (drop from (take (c.ra - c.r) (drop c.r (samples c.schedule))))
 
 -- `look`: the mapped sample `i`
 abbrev pub look_reply : ℕ → Here → Option Running → Reply

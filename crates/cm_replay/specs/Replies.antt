@@ -1,5 +1,5 @@
 -- What the code makes of a line, against what its definition says.
-use Rattle.std.specs.Prelude.{◌≡◌, ℕ, ◌≤◌, Bool, true, false, ◌&&◌, ◌==◌, List, ◌++◌, length, map, Option, Some, None, if◌then◌else◌}
+use Rattle.std.specs.Prelude.{◌≡◌, ℕ, ◌<◌, ◌≤◌, Bool, true, false, ◌&&◌, ◌==◌, List, ◌++◌, length, map, Option, Some, None, if◌then◌else◌}
 use Rattle.cm_board.specs.Board.{BoardText, SubText, takes_commands}
 use Rattle.cm_cmd.specs.Command.{CmdText}
 use Rattle.cm_signal.specs.Setting.{Setting}
@@ -15,7 +15,7 @@ use Rattle.cm_test.specs.Questions.{tested}
 use Rattle.cm_insn.specs.declared.insn.Instr.{Instr}
 use Rattle.cm_sub.specs.Claims.{use_checks}
 use Rattle.cm_replay.specs.Calling.{insn_here, insn_reply}
-use Rattle.cm_replay.specs.Answers.{Refused, Reply, kept}
+use Rattle.cm_replay.specs.Answers.{Answer, Refused, Reply, kept}
 use Rattle.cm_replay.specs.Forms.{Form, form, kind_checks, named_sub}
 use Rattle.cm_replay.specs.Law.{IsSoundJob, Spot, served}
 use Rattle.cm_replay.specs.Ready.{AllCanMove, CanMove}
@@ -41,11 +41,24 @@ here_at at files device = record {
 abbrev pub IsReached : At → FilesText → Type 0
 IsReached at files = first_refusal (reach_checks at.file at.index files) ≡ None
 
--- the files and the subdevice are the reply's, and its answer is appended to the text
-pub record Replies (reply : Reply) (files : FilesText) (device : Device) (old new : List ℕ) : Type 0 where
+-- a file acts here at a time, on the subdevice of this number
+pub record StandsAt (s : Setting) (t f i : ℕ) (at : At) : Type 0 where
+  pub time : at.time ≡ t
+  pub file : at.file ≡ f
+  pub index : at.index ≡ i
+  pub within : i < length s.board.subs
+  pub sub : at.sub.now ≡ sub_at s.board i
+  pub signals : at.signals.now ≡ s.signals
+
+-- the files and the subdevice are the reply's, and what is said for its answer is appended to the text
+pub record Tells (said : Answer → List ℕ) (reply : Reply) (files : FilesText) (device : Device) (old new : List ℕ) : Type 0 where
   pub its_files : files ≡ reply.files
   pub its_device : device ≡ reply.device
-  pub reported : new ≡ old ++ answer_text reply.answer
+  pub reported : new ≡ old ++ said reply.answer
+
+-- the same with the text of the answer itself
+abbrev pub Replies : Reply → FilesText → Device → List ℕ → List ℕ → Type 0
+Replies reply files device old new = Tells answer_text reply files device old new
 
 -- a reply where nothing refuses the line
 abbrev pub unless_kept : Option Errno → Here → Reply → Reply
@@ -77,10 +90,14 @@ IsWhole sub device = length device.state.values ≡ sub.channels
 abbrev pub insn_form : Bool → Instr → List ℕ → Here → Form
 insn_form shown what words h = record { checks = use_checks h.file (claim_of h); reply = insn_reply shown h (insn_here h what.code what.entry words) }
 
--- the files and the subdevices are those of an outcome, and its answer is appended to the text
-pub record Leads (meant : Outcome) (state : State) (old new : List ℕ) : Type 0 where
+-- the files and the subdevices are those of an outcome, and what is said for its answer is appended to the text
+pub record LeadsTelling (said : Answer → List ℕ) (meant : Outcome) (state : State) (old new : List ℕ) : Type 0 where
   pub after : state ≡ meant.state
-  pub reported : new ≡ old ++ answer_text meant.answer
+  pub reported : new ≡ old ++ said meant.answer
+
+-- the same with the text of the answer itself
+abbrev pub Leads : Outcome → State → List ℕ → List ℕ → Type 0
+Leads meant state old new = LeadsTelling answer_text meant state old new
 
 -- the same with what is put out before the answer
 pub record Steps (meant : Step) (state : State) (old new : List ℕ) : Type 0 where

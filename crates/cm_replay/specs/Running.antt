@@ -3,7 +3,8 @@ use Rattle.std.specs.Prelude.{ℕ, ◌+◌, ◌-◌, min, Bool, true, ◌&&◌, 
 use Rattle.std.specs.Prelude.{List, [], ◌∷◌, length, take, drop, Option, Some, None, if◌then◌else◌}
 use Rattle.cm_expand.specs.Plan.{PlanText}
 use Rattle.cm_expand.specs.declared.conv.Conv.{Conv}
-use Rattle.cm_expand.specs.Rule.{is_output, munged_at}
+use Rattle.cm_board.specs.Board.{is_output}
+use Rattle.cm_expand.specs.Rule.{munged_at}
 use Rattle.cm_expand.specs.Taking.{come}
 use Rattle.cm_text.specs.Format.{Format}
 use Rattle.cm_text.specs.Outputs.{Output}

@@ -1,9 +1,8 @@
 -- The state of a session, and what a line sees of it.
 use Rattle.std.specs.Prelude.{ℕ, Bool, List, length, map, get_or, Option, None}
-use Rattle.cm_board.specs.Board.{SubText, no_sub}
+use Rattle.cm_board.specs.Board.{SubText, is_output, no_sub}
 use Rattle.cm_cmd.specs.Command.{CmdText}
 use Rattle.cm_expand.specs.Plan.{PlanText}
-use Rattle.cm_expand.specs.Rule.{is_output}
 use Rattle.cm_signal.specs.Setting.{Setting}
 use Rattle.cm_signal.specs.Signals.{SignalsText}
 use Rattle.cm_sub.specs.Claims.{is_other}

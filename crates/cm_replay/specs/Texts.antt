@@ -31,6 +31,10 @@ abbrev pub words_text : List ℕ → List ℕ
 words_text [] = []
 words_text (word ∷ words) = codes " " ++ decimal word ++ words_text words
 
+-- samples in codes, after their count
+abbrev pub codes_text : List ℕ → List ℕ
+codes_text words = codes "ok " ++ decimal (length words) ++ words_text words ++ codes "\n"
+
 -- the text of an answer
 abbrev pub answer_text : Answer → List ℕ
 answer_text Fine = codes "ok\n"
@@ -49,6 +53,11 @@ answer_text Idle = codes "ok 0 idle\n"
 answer_text (Ended e) = end_text e
 answer_text (Rejected step cmd) = codes "err 11 " ++ decimal step ++ codes " " ++ command_text cmd ++ codes "\n"
 answer_text (Refused error) = codes "err " ++ decimal (number_of error) ++ codes "\n"
+
+-- the same with the samples of a read in codes
+abbrev pub codes_answer : Answer → List ℕ
+codes_answer (Taken f place words) = codes_text words
+codes_answer answer = answer_text answer
 
 -- what a step writes: what was put out stands before the answer
 abbrev pub step_text : Step → List ℕ

@@ -4,7 +4,7 @@ use Rattle.std.specs.Prelude.{List, [], ◌∷◌, ◌++◌, length, take, Optio
 use Rattle.cm_board.specs.Board.{SubText, maxdata_of}
 use Rattle.cm_cmd.specs.Entry.{chan}
 use Rattle.cm_sample.specs.Rule.{map_from}
-use Rattle.cm_text.specs.Format.{entry_at}
+use Rattle.cm_expand.specs.Rule.{entry_at}
 use Rattle.cm_replay.specs.Answers.{Filled, Idle, Marked, Reply, Written, goes_on, kept, unless_ended}
 use Rattle.cm_replay.specs.Reading.{reported_end}
 use Rattle.cm_replay.specs.Running.{Running, munge_in}
@@ -18,7 +18,7 @@ unmarked (Some c) = c.a - c.w
 -- the greatest word of a place: that of its channel, and the subdevice's own where no command runs
 abbrev pub most_at : SubText → Option Running → ℕ → ℕ
 most_at sub None place = sub.maxdata
-most_at sub (Some c) place = maxdata_of sub (chan (entry_at c.schedule.format place))
+most_at sub (Some c) place = maxdata_of sub (chan (entry_at c.schedule.format.list place))
 
 -- the place of the next word that a client gives
 abbrev pub next_place : Option Running → ℕ

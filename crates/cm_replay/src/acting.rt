@@ -1,7 +1,6 @@
 // What a line of a session does.
-ghost use Rattle.std.specs.Prelude.{◌≡◌, ◌≤◌, ◌^◌, ◌||◌, ◌&&◌, not, List, None, true, OnOk};
+ghost use Rattle.std.specs.Prelude.{◌≡◌, ◌≤◌, ◌^◌, List, None, true, OnOk};
 ghost use Rattle.std.specs.List.{All};
-ghost use Rattle.cm_board.specs.Board.{is_unused, takes_commands};
 ghost use Rattle.cm_insn.specs.Insn.{time_words};
 ghost use Rattle.cm_replay.specs.Answers.{Data, Fine};
 ghost use Rattle.cm_replay.specs.Forms.{form, is_of_command, kind_checks, named_sub};
@@ -25,7 +24,6 @@ use crate::trying::BoxedAccepted;
 use crate::writing::{fill, mark, write};
 use cm_base::prover::shows;
 use cm_base::transfer::NoMemory;
-use cm_board::board::Kind;
 use cm_session::op::{Op, SessionLine};
 use cm_signal::setting::Setting;
 use cm_sub::errno::Errno;
@@ -45,15 +43,6 @@ fn is_of_command(op: &Op) -> bool
             | Op::InsnBits { .. }
             | Op::InsnConfig { .. }
     )
-}
-
-// Whether the subdevice can't do what a line asks: it is unused, or takes no commands where the line
-// is one of a command.
-fn is_unfit(at: &At<'_>, op: &Op) -> bool
-    ensures { result ≡ (is_unused at.now.sub.now.kind || (is_of_command op.now && not (takes_commands at.now.sub.now))) }
-{
-    let sub = at.sub;
-    matches!(sub.kind, Kind::Unused) || (is_of_command(op) && !sub.takes_commands())
 }
 
 // Does an instruction on its subdevice. No other line comes here.
@@ -130,7 +119,7 @@ fn act_seat<'a>(
     requires names { names_sub op.now ≡ true }
     ensures { OnOk result (Replies (seat_reply op.now (here_at at.now files.old seat.old)) files.new seat.new text.old.items text.new.items) }
 {
-    if is_unfit(at, op) {
+    if at.is_unfit(is_of_command(op)) {
         put_refused(text, Errno::Io)
     } else {
         run(alloc, at, op, tried, files, seat, text)
@@ -152,16 +141,9 @@ fn act_on<'a>(
     ensures { OnOk result (Leads (session.act_on line.now.op (session.here setting.now line.now (record { files = files.old; devices = seats.old.items })) (record { files = files.old; devices = seats.old.items })) (record { files = files.new; devices = seats.new.items }) text.old.items text.new.items) }
 {
     let index = named_sub(&line.op);
-    if let Err(error) = files.check(line.file, index) {
-        return put_refused(text, error);
-    }
-    let board = setting.board;
-    let at = At {
-        time: line.time,
-        file: line.file,
-        index,
-        sub: &board.subs[index as usize],
-        signals: setting.signals,
+    let at = match At::reach(setting, files, line.time, line.file, index) {
+        Err(error) => return put_refused(text, error),
+        Ok(at) => at,
     };
     act_seat(
         alloc,
@@ -253,7 +235,7 @@ fn act<'a>(
 }
 
 /// Brings all commands to a line's time, and does what the line asks.
-pub(crate) fn step<'a>(
+pub fn step<'a>(
     alloc: Global,
     setting: &Setting<'a>,
     line: &SessionLine,

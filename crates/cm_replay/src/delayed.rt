@@ -1,9 +1,10 @@
 // The conversions of a command whose board has a FIFO.
-ghost use Rattle.std.specs.Prelude.{◌≡◌, ℕ, ◌≤◌, min, length, take, drop, Option, IfOk};
-ghost use Rattle.cm_expand.specs.Taking.{NeverFalls, come, raw_words};
+ghost use Rattle.std.specs.Prelude.{◌≡◌, ℕ, ◌≤◌, Option, IfOk};
+ghost use Rattle.cm_expand.specs.Taking.{NeverFalls};
 ghost use Rattle.cm_fifo.specs.State.{IsLater, next_of};
 ghost use Rattle.cm_replay.specs.DelayedView.{to_hand_over};
 
+use crate::handing::HandsOver;
 use cm_base::prover::shows;
 use cm_base::transfer::NoMemory;
 use cm_board::board::Fifo;
@@ -35,11 +36,9 @@ impl<'a> Model for Delayed<'a> {
 }
 
 impl<'a> Delayed<'a> {
-    ghost use Rattle.std.specs.Prelude.{◌≡◌, ◌≤◌, [], None, slice_get, option_map};
     ghost use Rattle.cm_expand.specs.PlanView.{plan_text};
     ghost use Rattle.cm_fifo.specs.Handed.{handed_of};
     ghost use Rattle.cm_replay.specs.DelayedView.{all_handed};
-    ghost use Rattle.cm_replay.specs.ToCome.{GivesBy};
 
     /// Before the first conversion.
     pub fn new(alloc: Global, plan: Plan<'a>, fifo: Fifo) -> Result<Delayed<'a>, NoMemory>
@@ -54,13 +53,12 @@ impl<'a> Delayed<'a> {
             edge: plan.stop_edge(),
         })
     }
+}
 
-    /// When the next conversion is handed over.
-    pub fn next_time(&mut self) -> Option<u64>
-        ensures value { result ≡ option_map (λ conv. conv.time) (slice_get self.old.conversions 0) }
-        ensures order { NeverFalls self.old.conversions }
-        ensures after { self.new ≡ self.old }
-    {
+impl<'a> HandsOver for Delayed<'a> {
+    ghost ahead = { λ board. board };
+
+    fn next_time(&mut self) -> Option<u64> {
         if self.board.ready() > 0 {
             Some(self.at)
         } else {
@@ -68,11 +66,7 @@ impl<'a> Delayed<'a> {
         }
     }
 
-    /// Gives the next conversion where it is handed over by a time, and steps after it.
-    pub fn next_by(&mut self, time: u64) -> Option<Conv>
-        ensures conversions { GivesBy time result self.old.conversions self.new.conversions }
-        ensures after { self.new ≡ record self.old { conversions = self.new.conversions } }
-    {
+    fn next_by(&mut self, time: u64) -> Option<Conv> {
         go_on(&mut self.board, &mut self.at, time);
         if self.board.ready() == 0 {
             return None;
@@ -87,15 +81,7 @@ impl<'a> Delayed<'a> {
         })
     }
 
-    /// Gives the raw words of the next conversions that are handed over by a time, as many as `out`
-    /// can hold, and steps after them. Reports how many. What `out` has after them may be anything.
-    pub fn take_by(&mut self, time: u64, out: &mut [u32]) -> usize
-        ensures order { NeverFalls self.old.conversions }
-        ensures count { result ≡ min (length out.old) (come time self.old.conversions) }
-        ensures words { take result out.new ≡ raw_words (take result self.old.conversions) }
-        ensures size { length out.new ≡ length out.old }
-        ensures after { self.new ≡ record self.old { conversions = drop result self.old.conversions } }
-    {
+    fn take_by(&mut self, time: u64, out: &mut [u32]) -> usize {
         // This read shows what such a board stands for.
         shows(&self.board);
         let mut count = 0;
@@ -109,18 +95,11 @@ impl<'a> Delayed<'a> {
         count
     }
 
-    /// The edge that stops the command, where one stops it.
-    pub fn stop_edge(&self) -> Option<u64>
-        ensures { result ≡ self.now.edge }
-    {
+    fn stop_edge(&self) -> Option<u64> {
         self.edge
     }
 
-    /// When a conversion is lost, where one is: after all that is handed over.
-    pub fn lost_at(&self) -> Option<u64>
-        requires { self.now.conversions ≡ [] }
-        ensures { result ≡ self.now.lost_at }
-    {
+    fn lost_at(&self) -> Option<u64> {
         // This call shows what each board with a FIFO keeps.
         self.board.ready();
         if self.board.is_over() {
@@ -130,13 +109,7 @@ impl<'a> Delayed<'a> {
         }
     }
 
-    /// Whether the expansion, all of which was handed over, has all conversions that the command is
-    /// to make until it stops.
-    pub fn is_complete(&self) -> bool
-        requires spent { self.now.conversions ≡ [] }
-        requires whole { self.now.lost_at ≡ None }
-        ensures { result ≡ self.now.complete }
-    {
+    fn is_complete(&self) -> bool {
         // This call shows what each board with a FIFO keeps.
         self.board.ready();
         self.board.is_complete()

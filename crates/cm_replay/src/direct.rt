@@ -1,7 +1,8 @@
 // The conversions of a command whose board hands each over when it is made.
-ghost use Rattle.std.specs.Prelude.{◌≡◌, min, length, take, drop, IfOk};
-ghost use Rattle.cm_expand.specs.Taking.{NeverFalls, come, raw_words};
+ghost use Rattle.std.specs.Prelude.{◌≡◌, IfOk};
+ghost use Rattle.cm_expand.specs.Taking.{NeverFalls};
 
+use crate::handing::HandsOver;
 use cm_base::prover::shows;
 use cm_base::transfer::NoMemory;
 use cm_expand::board::Board;
@@ -30,11 +31,9 @@ impl<'a> Model for Direct<'a> {
 }
 
 impl<'a> Direct<'a> {
-    ghost use Rattle.std.specs.Prelude.{◌≡◌, [], None, slice_get, option_map};
     ghost use Rattle.cm_expand.specs.Items.{items_of};
     ghost use Rattle.cm_expand.specs.PlanView.{plan_text};
     ghost use Rattle.cm_replay.specs.DirectView.{all_of};
-    ghost use Rattle.cm_replay.specs.ToCome.{GivesBy};
 
     /// Before the first conversion.
     pub fn new(alloc: Global, plan: Plan<'a>) -> Result<Direct<'a>, NoMemory>
@@ -46,62 +45,39 @@ impl<'a> Direct<'a> {
             edge: plan.stop_edge(),
         })
     }
+}
 
-    /// When the next conversion comes.
+impl<'a> HandsOver for Direct<'a> {
+    ghost ahead = { λ board. board };
+
     #[inline(always)]
-    pub fn next_time(&self) -> Option<u64>
-        ensures value { result ≡ option_map (λ conv. conv.time) (slice_get self.now.conversions 0) }
-        ensures order { NeverFalls self.now.conversions }
-    {
+    fn next_time(&mut self) -> Option<u64> {
         self.board.next_time()
     }
 
-    /// Gives the next conversion where it has come by a time, and steps after it.
-    pub fn next_by(&mut self, time: u64) -> Option<Conv>
-        ensures conversions { GivesBy time result self.old.conversions self.new.conversions }
-        ensures after { self.new ≡ record self.old { conversions = self.new.conversions } }
-    {
-        match self.next_time() {
+    fn next_by(&mut self, time: u64) -> Option<Conv> {
+        match self.board.next_time() {
             Some(next) if next <= time => self.board.next(),
             _ => None,
         }
     }
 
-    /// Gives the raw words of the next conversions that have come by a time, as many as `out` can
-    /// hold, and steps after them. Reports how many. What `out` has after them may be anything.
     #[inline(always)]
-    pub fn take_by(&mut self, time: u64, out: &mut [u32]) -> usize
-        ensures order { NeverFalls self.old.conversions }
-        ensures count { result ≡ min (length out.old) (come time self.old.conversions) }
-        ensures words { take result out.new ≡ raw_words (take result self.old.conversions) }
-        ensures size { length out.new ≡ length out.old }
-        ensures after { self.new ≡ record self.old { conversions = drop result self.old.conversions } }
-    {
+    fn take_by(&mut self, time: u64, out: &mut [u32]) -> usize {
         self.board.take_by(time, out)
     }
 
-    /// The edge that stops the command, where one stops it.
-    pub fn stop_edge(&self) -> Option<u64>
-        ensures { result ≡ self.now.edge }
-    {
+    fn stop_edge(&self) -> Option<u64> {
         self.edge
     }
 
-    /// When a conversion is lost: never, on such a board.
-    pub fn lost_at(&self) -> Option<u64>
-        ensures { result ≡ self.now.lost_at }
-    {
+    fn lost_at(&self) -> Option<u64> {
         // This read shows what such a board stands for.
         shows(&self.board);
         None
     }
 
-    /// Whether the expansion, all of which was given, has all conversions that the command is to make
-    /// until it stops.
-    pub fn is_complete(&self) -> bool
-        requires { self.now.conversions ≡ [] }
-        ensures { result ≡ self.now.complete }
-    {
+    fn is_complete(&self) -> bool {
         self.board.complete()
     }
 }

@@ -1,6 +1,5 @@
 // What holds of the definitions alone.
-ghost use Rattle.cm_replay.specs.Awaiting.{AwaitLaw};
-ghost use Rattle.cm_replay.specs.Law.{PrefixLaw, SessionLaw};
+ghost use Rattle.cm_replay.specs.Law.{BringingLaw, NothingIsLeft, PrefixLaw, SessionLaw};
 ghost use Rattle.cm_replay.specs.Refusals.{ForeignLaw, RefusalLaw, TiedLaw};
 
 /// At every line of a session each command is lawful, what was put out are the client's words, each
@@ -32,8 +31,9 @@ pub fn busy_is_having_a_command()
     ensures { TiedLaw }
 {}
 
-/// What is awaited of a command isn't there before the time that is reported, and is there at that
-/// time, or the command has ended by then, or the signals end.
-pub fn an_await_ends_as_soon_as_it_can()
-    ensures { AwaitLaw }
+/// A command that was brought to a time is as it was when it is brought there once more, and puts
+/// nothing out.
+pub fn bringing_twice_is_bringing_once()
+    ensures same { BringingLaw }
+    ensures silent { NothingIsLeft }
 {}

@@ -2,8 +2,6 @@
 #![tactic(auto)]
 
 pub mod acting;
-pub mod asked;
-pub mod asking;
 pub mod at;
 pub mod calling;
 pub mod closing;
@@ -14,13 +12,13 @@ pub mod delayed;
 pub mod direct;
 pub mod ending;
 pub mod filling;
+pub mod handing;
 pub mod instructing;
 pub mod job;
 pub mod law;
 pub mod locking;
 pub mod look_ahead;
 pub mod passing;
-pub mod playing;
 pub mod putting;
 pub mod reading;
 pub mod replay;

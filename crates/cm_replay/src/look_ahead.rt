@@ -1,9 +1,10 @@
 // A look ahead at when what is planned for a command comes.
 ghost use Rattle.std.specs.Prelude.{◌≡◌, [], length, take, drop};
 ghost use Rattle.cm_expand.specs.Taking.{come};
-ghost use Rattle.cm_replay.specs.Asking.{last_after, quiet_after};
+ghost use Rattle.cm_replay.specs.Awaiting.{last_after, quiet_after};
 
 use crate::coming::Coming;
+use crate::handing::HandsOver;
 use cm_base::transfer::NoMemory;
 use cm_expand::plan::Plan;
 use std::alloc::Global;
@@ -35,7 +36,7 @@ impl<'a> LookAhead<'a> {
     ghost use Rattle.std.specs.Prelude.{◌≡◌, ◌≤◌, min, slice_get, IfOk, OnOk};
     ghost use Rattle.cm_expand.specs.PlanView.{plan_text};
     ghost use Rattle.cm_fifo.specs.Handed.{time_or};
-    ghost use Rattle.cm_replay.specs.Asking.{quiet_time};
+    ghost use Rattle.cm_replay.specs.Awaiting.{quiet_time};
     ghost use Rattle.cm_replay.specs.Planned.{IsSchedule};
     ghost use Rattle.cm_replay.specs.Schedules.{schedule_of};
 

@@ -23,11 +23,7 @@ fn bring(seat: &mut Seat<'_>, index: u32, time: u64, text: &mut Vec<u8>) -> Resu
 
 /// Brings the command of each subdevice to a time, in rising order of subdevice, and appends the
 /// lines of what is put out.
-pub(crate) fn bring_all(
-    seats: &mut Vec<Seat<'_>>,
-    time: u64,
-    text: &mut Vec<u8>,
-) -> Result<(), NoMemory>
+pub fn bring_all(seats: &mut Vec<Seat<'_>>, time: u64, text: &mut Vec<u8>) -> Result<(), NoMemory>
     requires ready { All (HasCome time) seats.old.items }
     requires few { length seats.old.items ≤ 16 }
     ensures after { OnOk result (seats.new.items ≡ map (brought_device time) seats.old.items) }

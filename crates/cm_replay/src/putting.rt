@@ -5,6 +5,7 @@ ghost use Rattle.cm_replay.specs.Putting.{Moves, emptied, going, less, without};
 ghost use Rattle.cm_replay.specs.Running.{outputs};
 
 use crate::coming::Coming;
+use crate::handing::HandsOver;
 use cm_base::transfer::NoMemory;
 use cm_expand::conv::Conv;
 use cm_ring_core::local::LocalRing;

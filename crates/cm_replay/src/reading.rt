@@ -1,14 +1,13 @@
 // The lines that read from the buffer of a subdevice's command.
 ghost use Rattle.std.specs.Prelude.{◌≡◌, ◌<◌, ◌≤◌, ◌∷◌, [], length, IfSome, OnOk};
 ghost use Rattle.std.specs.Result.{result_err};
-ghost use Rattle.cm_expand.specs.Rule as kind;
+ghost use Rattle.cm_board.specs.Board.{is_output};
 ghost use Rattle.cm_replay.specs.Answers.{Ended, idle};
 ghost use Rattle.cm_replay.specs.Forms.{form};
 ghost use Rattle.cm_replay.specs.Reading as spec;
 ghost use Rattle.cm_replay.specs.Ready.{CanMove};
-ghost use Rattle.cm_replay.specs.Replies.{IsReached, Replies, checked, here_at, spot_of};
-ghost use Rattle.cm_replay.specs.Reporting.{Reports};
-ghost use Rattle.cm_replay.specs.declared.asked.Question.TheVariants.{Codes};
+ghost use Rattle.cm_replay.specs.Replies.{IsReached, Replies, Tells, checked, here_at, spot_of};
+ghost use Rattle.cm_replay.specs.Texts.{codes_answer};
 ghost use Rattle.cm_session.specs.declared.op.Op.TheVariants as ops;
 ghost use Rattle.cm_sub.specs.Checks.{first_refusal, refuse};
 ghost use Rattle.cm_sub.specs.Claims.{is_other};
@@ -19,17 +18,16 @@ use crate::ending::End;
 use crate::seat::Seat;
 use crate::text::{put_count, put_end, put_fine, put_idle, put_refused};
 use cm_base::transfer::NoMemory;
-use cm_expand::rule::is_output;
 use cm_sub::errno::Errno;
 use cm_sub::files::Files;
 
 // What a line is refused that reads, where its own test holds.
 fn refuses(at: &At<'_>, files: &Files, test: bool) -> Result<(), Errno>
     requires { at.now.index < length files.now.claims }
-    ensures { result_err result ≡ first_refusal (refuse Errno.Inval (kind.is_output at.now.sub.now.kind) ∷ refuse Errno.Access (is_other at.now.file (claim_at files.now at.now.index).runner) ∷ refuse Errno.Inval test ∷ []) }
+    ensures { result_err result ≡ first_refusal (refuse Errno.Inval (is_output at.now.sub.now.kind) ∷ refuse Errno.Access (is_other at.now.file (claim_at files.now at.now.index).runner) ∷ refuse Errno.Inval test ∷ []) }
 {
     let sub = at.sub;
-    if is_output(sub.kind) {
+    if sub.kind.is_output() {
         return Err(Errno::Inval);
     }
     if at.is_foreign(files) {
@@ -97,7 +95,7 @@ pub(crate) fn read(
 }
 
 /// The same in codes: the first samples, up to `n`, or the end where nothing is left.
-pub(crate) fn read_codes(
+pub fn read_codes(
     at: &At<'_>,
     n: u32,
     files: &mut Files,
@@ -106,7 +104,7 @@ pub(crate) fn read_codes(
 ) -> Result<(), NoMemory>
     requires within { at.now.index < length files.old.claims }
     requires ready { CanMove (spot_of at.now) at.now.index at.now.time seat.old.running }
-    ensures { OnOk result (Reports (Codes n) (here_at at.now files.old seat.old) (checked (form (ops.Read at.now.index n) (here_at at.now files.old seat.old)) (here_at at.now files.old seat.old)) files.new seat.new text.old.items text.new.items) }
+    ensures { OnOk result (Tells codes_answer (checked (form (ops.Read at.now.index n) (here_at at.now files.old seat.old)) (here_at at.now files.old seat.old)) files.new seat.new text.old.items text.new.items) }
 {
     let count = mapped(seat);
     if let Err(error) = refuses(at, files, count != 0) {

@@ -77,7 +77,7 @@ fn replay_lines<'a, K: Sink>(
 }
 
 /// The subdevices of a board as they are at the start of a session.
-pub(crate) fn seats_of<'a>(alloc: Global, board: &BoardDesc) -> Result<Vec<Seat<'a>>, NoMemory>
+pub fn seats_of<'a>(alloc: Global, board: &BoardDesc) -> Result<Vec<Seat<'a>>, NoMemory>
     ensures seats { IfOk result (λ seats. seats.items ≡ map idle_device board.now.subs) }
     ensures subs { IfOk result (λ seats. All IsSoundSub board.now.subs) }
 {

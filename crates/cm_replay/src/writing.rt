@@ -1,7 +1,7 @@
 // The lines that write into the buffer of a subdevice's command.
 ghost use Rattle.std.specs.Prelude.{◌≡◌, ◌+◌, ◌<◌, ◌≤◌, ◌^◌, ◌∷◌, [], not, length, IfSome, OnOk};
 ghost use Rattle.std.specs.Result.{result_err};
-ghost use Rattle.cm_expand.specs.Rule as kind;
+ghost use Rattle.cm_board.specs.Board.{is_output};
 ghost use Rattle.cm_replay.specs.Forms.{form};
 ghost use Rattle.cm_replay.specs.Ready.{CanMove};
 ghost use Rattle.cm_replay.specs.Replies.{Replies, checked, here_at, spot_of};
@@ -16,17 +16,16 @@ use crate::reading::report_end;
 use crate::seat::Seat;
 use crate::text::{put_count, put_idle, put_refused};
 use cm_base::transfer::NoMemory;
-use cm_expand::rule::is_output;
 use cm_sub::errno::Errno;
 use cm_sub::files::Files;
 
 // What a line is refused that writes, where its own tests hold, the second after the first.
 fn refuses(at: &At<'_>, files: &Files, first: bool, second: bool) -> Result<(), Errno>
     requires { at.now.index < length files.now.claims }
-    ensures { result_err result ≡ first_refusal (refuse Errno.Inval (not (kind.is_output at.now.sub.now.kind)) ∷ refuse Errno.Access (is_other at.now.file (claim_at files.now at.now.index).runner) ∷ refuse Errno.Inval first ∷ refuse Errno.Inval second ∷ []) }
+    ensures { result_err result ≡ first_refusal (refuse Errno.Inval (not (is_output at.now.sub.now.kind)) ∷ refuse Errno.Access (is_other at.now.file (claim_at files.now at.now.index).runner) ∷ refuse Errno.Inval first ∷ refuse Errno.Inval second ∷ []) }
 {
     let sub = at.sub;
-    if !is_output(sub.kind) {
+    if !sub.kind.is_output() {
         return Err(Errno::Inval);
     }
     if at.is_foreign(files) {

@@ -1,7 +1,7 @@
 use Rattle.std.proofs.Common.{sym, ap, ap₂, ◌∙◌, arith, List}
 use Rattle.cm_expand.specs.Taking.{come}
 use Rattle.cm_expand.specs.declared.conv.Conv.{Conv}
-use Rattle.cm_replay.specs.Asking.{last_after}
+use Rattle.cm_replay.specs.Awaiting.{last_after}
 use Rattle.cm_replay.specs.ToCome.{ToCome}
 use Rattle.cm_replay.proofs.Awaited.{passed-all, passed-more}
 use Rattle.cm_replay.proofs.look_ahead.pass.Goals as goal

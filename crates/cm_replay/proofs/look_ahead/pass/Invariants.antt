@@ -1,5 +1,5 @@
 use Rattle.std.proofs.Common.{◌≡◌, ◌-◌, ◌≤◌, take, drop}
-use Rattle.cm_replay.specs.Asking.{last_after}
+use Rattle.cm_replay.specs.Awaiting.{last_after}
 use Rattle.cm_replay.proofs.look_ahead.pass.Given as goal
 
 -- the first conversions were passed

@@ -1,6 +1,7 @@
 use Rattle.std.proofs.Common.{◌≡◌, ◌-◌, ◌++◌, min, Some, OnOk, ap, ◌∙◌, arith, subst}
-use Rattle.cm_replay.specs.Asking.{codes_text, peeked}
+use Rattle.cm_replay.specs.Reading.{peeked}
 use Rattle.cm_replay.specs.Running.{Running}
+use Rattle.cm_replay.specs.Texts.{codes_text}
 use Rattle.cm_replay.proofs.Peeks.{mapped-held, peeked-words}
 use Rattle.cm_replay.proofs.command.Command.peek.Goals as goal
 

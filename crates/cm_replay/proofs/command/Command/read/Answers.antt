@@ -1,12 +1,12 @@
-use Rattle.std.proofs.Common.{◌≡◌, ◌+◌, ◌<◌, ◌-◌, ◌++◌, false, OnOk, codes, length, take, get_or, sym, ap, ◌∙◌, arith, subst}
+use Rattle.std.proofs.Common.{◌≡◌, ◌+◌, ◌<◌, ◌-◌, ◌++◌, false, OnOk, codes, length, take, get_or, sym, ap, ap₂, ◌∙◌, arith, subst}
 use Rattle.std.specs.Fmt.{decimal}
 use Rattle.cm_ring_core.specs.Local.{Ring}
-use Rattle.cm_text.specs.Format.{IsSample, sample_lines}
+use Rattle.cm_text.specs.Format.{Format, IsSample, sample_lines}
 use Rattle.cm_replay.specs.CommandView.{its_schedule}
 use Rattle.cm_replay.specs.Texts.{answer_text}
 use Rattle.cm_replay.specs.Reading.{taken}
 use Rattle.cm_replay.specs.Running.{Running, is_out}
-use Rattle.cm_replay.proofs.Commands.{codes-ring, in_step, length-ring, read-answer}
+use Rattle.cm_replay.proofs.Commands.{codes-ring, in_step, length-ring, places_left, read-answer}
 use Rattle.cm_replay.proofs.command.Command.read.Goals as goal
 
 pub put_taken-reported-requires-clause-held : goal.put_taken-reported-requires-clause-held
@@ -20,8 +20,14 @@ put_taken-reported-requires-clause-codes c = λ i below.
     let input : is_out (its_schedule c.self.inside) ≡ false = subst (λ (r : Running). is_out r.schedule ≡ false) (sym c.self.view_is) c.requires.input in
     let step = in_step c.self.inside c.self.invariant input in
     let within : i < c.self.inside.ring.w - c.self.inside.ring.r = omega (arith, c.read_alloc-granted.ensures.granted, step.level.m_w, subst (λ (r : Running). r.ra ≡ r.r) (sym c.self.view_is) c.requires.unmapped) in
-    subst (λ (ring : Ring). IsSample (its_schedule c.self.inside).format (ring.r + i) (get_or ring.held i 0)) (sym c.read_alloc-granted.ensures.after)
-    (codes-ring c.self.inside c.self.invariant input i within)
+    subst (λ (ring : Ring). IsSample c.self.inside.lines (ring.r + i) (get_or ring.held i 0)) (sym c.read_alloc-granted.ensures.after)
+    (subst (λ (f : Format). IsSample f (c.self.inside.ring.r + i) (get_or c.self.inside.ring.held i 0)) (sym c.self.invariant.lines) (codes-ring c.self.inside c.self.invariant input i within))
+
+pub put_taken-reported-requires-clause-small : goal.put_taken-reported-requires-clause-small
+put_taken-reported-requires-clause-small c =
+    let input : is_out (its_schedule c.self.inside) ≡ false = subst (λ (r : Running). is_out r.schedule ≡ false) (sym c.self.view_is) c.requires.input in
+    let step = in_step c.self.inside c.self.invariant input in
+    omega (arith, step.r_ra, step.ra_w, step.level.w_a, places_left c.self.inside c.self.invariant input, ap (λ (ring : Ring). ring.r) c.read_alloc-granted.ensures.after)
 
 pub returns-clause-answer : goal.returns-clause-answer
 returns-clause-answer c =
@@ -29,7 +35,7 @@ returns-clause-answer c =
     let after = c.read_alloc-granted.ensures.after in
     let granted = c.read_alloc-granted.result in
     subst (λ answer. OnOk c.put_taken-reported.result (c.put_taken-reported.new.text.items ≡ c.args.text.now.items ++ answer))
-    (ap (λ (ring : Ring). codes "ok " ++ decimal granted ++ codes "\n" ++ sample_lines (its_schedule c.self.inside).format ring.r (take granted ring.held)) after
+    (ap₂ (λ (f : Format) (ring : Ring). codes "ok " ++ decimal granted ++ codes "\n" ++ sample_lines f ring.r (take granted ring.held)) c.self.invariant.lines after
     ∙ read-answer c.self.inside c.self.invariant input (subst (λ (r : Running). r.ra ≡ r.r) (sym c.self.view_is) c.requires.unmapped) c.args.n granted c.read_alloc-granted.ensures.granted
     ∙ ap (λ (r : Running). answer_text (taken c.args.n r)) c.self.view_is)
-    c.put_taken-reported.ensures
+    c.put_taken-reported.ensures.text

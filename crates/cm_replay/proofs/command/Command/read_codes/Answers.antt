@@ -1,8 +1,9 @@
 use Rattle.std.proofs.Common.{◌≡◌, ◌++◌, false, OnOk, length, take, sym, ap, ◌∙◌, arith, subst}
 use Rattle.cm_ring_core.specs.Local.{Ring}
-use Rattle.cm_replay.specs.Asking.{codes_text, taken_codes}
 use Rattle.cm_replay.specs.CommandView.{its_schedule}
+use Rattle.cm_replay.specs.Reading.{taken}
 use Rattle.cm_replay.specs.Running.{Running, is_out}
+use Rattle.cm_replay.specs.Texts.{codes_answer, codes_text}
 use Rattle.cm_replay.proofs.Commands.{in_step, length-ring, read-words}
 use Rattle.cm_replay.proofs.command.Command.read_codes.Goals as goal
 
@@ -19,5 +20,5 @@ returns-clause-answer c =
     subst (λ text. OnOk c.put_codes-reported.result (c.put_codes-reported.new.text.items ≡ c.args.text.now.items ++ text))
     (ap (λ (ring : Ring). codes_text (take granted ring.held)) c.read_alloc-granted.ensures.after
     ∙ ap codes_text (read-words c.self.inside c.self.invariant input (subst (λ (r : Running). r.ra ≡ r.r) (sym c.self.view_is) c.requires.unmapped) c.args.n granted c.read_alloc-granted.ensures.granted)
-    ∙ ap (taken_codes c.args.n) c.self.view_is)
+    ∙ ap (λ (r : Running). codes_answer (taken c.args.n r)) c.self.view_is)
     c.put_codes-reported.ensures

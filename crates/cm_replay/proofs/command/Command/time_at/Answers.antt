@@ -9,5 +9,6 @@ invariant_of-self c =
       planned = is.planned;
       out = is.out;
       served = is.served;
+      lines = is.lines;
       looks = c.in_ok-time.ensures.same ∙ c.in_ok-ahead.ensures.ahead ∙ sym (ap (λ (r : Running). r.schedule) (c.self.view_is ∙ c.take_ahead.ensures.same));
     }

@@ -11,7 +11,7 @@ use Rattle.cm_replay.proofs.command.Command.trigger.Goals as goal
 pub new-requires : goal.new-requires
 new-requires c =
     (trigger-planned c.triggered-plan.result (subst IsSoundSub (c.sub.view_is ∙ c.sub-sub.ensures) c.sub.invariant)
-    (subst signals.IsSoundSignals (c.signals.view_is ∙ c.signals-signals.ensures) c.signals.invariant)).order
+    (subst signals.IsSoundSignals (c.signals.view_is ∙ c.signals-signals.ensures) c.signals.invariant)).timely.order
 
 pub invariant_of-self : goal.invariant_of-self
 invariant_of-self c =

@@ -3,7 +3,7 @@ use Rattle.std.specs.Prelude.{slice_get, option_map}
 use Rattle.cm_expand.specs.Taking.{come}
 use Rattle.cm_expand.specs.declared.conv.Conv.{Conv}
 use Rattle.cm_fifo.specs.Handed.{last_time, time_or}
-use Rattle.cm_replay.specs.Asking.{last_after, quiet_after, quiet_time}
+use Rattle.cm_replay.specs.Awaiting.{last_after, quiet_after, quiet_time}
 use Rattle.cm_replay.specs.LookAheadView.{Look, look_of}
 use Rattle.cm_replay.specs.ToCome.{ToCome, left_after}
 use Rattle.cm_replay.proofs.Awaited.{last-passed, left-come, quiet-same, time-gone, time-there}

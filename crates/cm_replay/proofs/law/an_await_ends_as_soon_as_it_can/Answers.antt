@@ -1,5 +1,0 @@
-use Rattle.cm_replay.proofs.Soonest.{await_law}
-use Rattle.cm_replay.proofs.law.an_await_ends_as_soon_as_it_can.Goals as goal
-
-pub returns : goal.returns
-returns c = await_law
