@@ -5,7 +5,7 @@ use Rattle.cm_base.specs.Reading.{at_line}
 use Rattle.cm_base.specs.declared.faults.Fault.{Fault}
 use Rattle.cm_base.specs.declared.faults.Refused.{Refused}
 use Rattle.cm_replay.specs.Declined.{refused_text}
-use Rattle.cm_replay.specs.Playing.{Play}
+use Rattle.cm_serve.specs.Playing.{Play}
 use Rattle.cm_serve.specs.Dialogue.{replied, replied_if, reply, reply_of, unchanged}
 use Rattle.cm_serve.specs.Lines.{said_by}
 use Rattle.cm_serve.specs.declared.said.Said.{Said}

@@ -12,11 +12,12 @@ use Rattle.cm_cmd.specs.PrintedReads.{HasText}
 use Rattle.cm_session.specs.Forms.{number_words, place_of, sub_words}
 use Rattle.cm_session.specs.Limits.{HasLimits, IsLimited}
 use Rattle.cm_session.specs.SessionPart.{line_after, line_words}
-use Rattle.cm_replay.specs.Asking.{asked_op, line_of}
-use Rattle.cm_replay.specs.declared.asked.Asked.{Asked}
-use Rattle.cm_replay.specs.declared.asked.Question.{Question}
-use Rattle.cm_replay.specs.declared.asked.Question.TheVariants.{Await, Info, Codes, Peek}
-use Rattle.cm_serve.specs.Lines.{QuestionForm, counted, next_line, plain, questions, ranged, ranged_words, said_by, timed, worded}
+use Rattle.cm_serve.specs.Asking.{asked_op, line_of}
+use Rattle.cm_serve.specs.declared.asked.Asked.{Asked}
+use Rattle.cm_serve.specs.declared.asked.Fetch.{Fetch}
+use Rattle.cm_serve.specs.declared.asked.Question.{Question}
+use Rattle.cm_serve.specs.declared.asked.Question.TheVariants.{Await, Info, Codes, Peek}
+use Rattle.cm_serve.specs.Lines.{QuestionForm, asked_after, asked_by, counted, fetching, next_line, plain, questions, ranged, ranged_words, said_by, timed, worded}
 use Rattle.cm_serve.specs.Reading.{IsFit}
 use Rattle.cm_serve.specs.declared.said.Said.TheVariants as says
 use Rattle.cm_serve.proofs.Limited.{Each, command_said, line_limited, listed_has, number_most, number_timed, place_timed, sub_timed, then_any, then_has}
@@ -34,32 +35,40 @@ after_has {X} P before time x h = by (nat_le before time) refl
     by true e = h (leb-true before time e)
     by false e = tt
 
--- what is asked has the limits of the line that it is in other words
-abbrev pub IsAskable : ℕ → Asked → Type 0
-IsAskable horizon asked = IsLimited horizon (line_of asked)
-
 -- the forms of questions, with the limits on what stands after their subdevices
-module _ (horizon : ℕ) (time : List ℕ) (words : List (List ℕ)) where
-  plain-limited : (question : Question) → ((sub : ℕ) → HasLimits (asked_op sub question)) → IfOk (plain question horizon time words) (IsAskable horizon)
-  plain-limited question limits = then_has (λ w. w.0.time ≤ horizon) _ (sub_words horizon time words) _ (sub_timed _ horizon time (number_most 0 horizon time) words) (λ w within. (within, limits w.1))
+module _ (before horizon : ℕ) (time : List ℕ) (words : List (List ℕ)) where
+  asked_fits : (asked : Asked) → IsLimited horizon (line_of asked) → IfOk (asked_after before asked) (IsFit horizon before)
+  asked_fits asked limits = after_has (IsFit horizon before) before asked.time (says.Question asked) (λ after. (after, limits))
 
-  counted-limited : (make : ℕ → Question) → ((sub n : ℕ) → n ≤ 65536 → HasLimits (asked_op sub (make n))) → IfOk (counted make horizon time words) (IsAskable horizon)
-  counted-limited make limits =
+  plain-fits : (question : Question) → ((sub : ℕ) → HasLimits (asked_op sub question)) → IfOk (plain question before horizon time words) (IsFit horizon before)
+  plain-fits question limits =
+      then_has (λ w. w.0.time ≤ horizon) _ (sub_words horizon time words) _ (sub_timed _ horizon time (number_most 0 horizon time) words)
+      (λ w within. asked_fits (asked_by w.0 w.1 question) (within, limits w.1))
+
+  counted-fits : (make : ℕ → Question) → ((sub n : ℕ) → n ≤ 65536 → HasLimits (asked_op sub (make n))) → IfOk (counted make before horizon time words) (IsFit horizon before)
+  counted-fits make limits =
       then_has (λ w. (w.0.time ≤ horizon) × (w.2 ≤ 65536)) _ (number_words 65536 horizon time words) _ (number_timed _ horizon time (number_most 0 horizon time) 65536 words)
-      (λ w within. (within.0, limits w.1 w.2 within.1))
+      (λ w within. asked_fits (asked_by w.0 w.1 (make w.2)) (within.0, limits w.1 w.2 within.1))
 
-  ranged_within : IfOk (ranged_words horizon time words) (λ w. w.0.time ≤ horizon)
+  ranged_within : IfOk (ranged_words horizon time words) (λ w. (w.0.time ≤ horizon) × (w.3 ≤ 65536))
   ranged_within =
       then_any _ (four_words words) _ (λ w. then_has (λ at. at.0.time ≤ horizon) _ (place_of horizon time w.0 w.1) _ (place_timed _ horizon time (number_most 0 horizon time) w.0 w.1)
-      (λ at within. then_any _ (number_in 0 65536 w.2) _ (λ from. then_any _ (number_in 0 65536 w.3) _ (λ n. within))))
+      (λ at within. then_any _ (number_in 0 65536 w.2) _ (λ from. then_has (λ n. n ≤ 65536) _ (number_in 0 65536 w.3) _ (number_most 0 65536 w.3) (λ n few. (within, few)))))
 
-  ranged-limited : (make : ℕ → ℕ → Question) → ((sub from n : ℕ) → HasLimits (asked_op sub (make from n))) → IfOk (ranged make horizon time words) (IsAskable horizon)
-  ranged-limited make limits = then_has (λ w. w.0.time ≤ horizon) _ (ranged_words horizon time words) _ ranged_within (λ w within. (within, limits w.1 w.2 w.3))
+  ranged-fits : (make : ℕ → ℕ → Question) → ((sub from n : ℕ) → HasLimits (asked_op sub (make from n))) → IfOk (ranged make before horizon time words) (IsFit horizon before)
+  ranged-fits make limits =
+      then_has (λ w. (w.0.time ≤ horizon) × (w.3 ≤ 65536)) _ (ranged_words horizon time words) _ ranged_within
+      (λ w within. asked_fits (asked_by w.0 w.1 (make w.2 w.3)) (within.0, limits w.1 w.2 w.3))
 
-  questions-limited : Each (λ (form : QuestionForm). IfOk (form horizon time words) (IsAskable horizon)) questions
-  questions-limited = (
-    counted-limited Await (λ sub n few. tt),
-    (plain-limited Info (λ sub. tt), (counted-limited Codes (λ sub n few. few), (ranged-limited Peek (λ sub from n. tt), tt))),
+  fetch-fits : IfOk (fetching before horizon time words) (IsFit horizon before)
+  fetch-fits =
+      then_has (λ w. (w.0.time ≤ horizon) × (w.3 ≤ 65536)) _ (ranged_words horizon time words) _ ranged_within
+      (λ w within. let fetch : Fetch = record { time = w.0.time; file = w.0.file; sub = w.1; wanted = w.2; n = w.3 } in after_has (IsFit horizon before) before w.0.time (says.Fetch fetch) (λ after. (after, within)))
+
+  questions-fit : Each (λ (form : QuestionForm). IfOk (form before horizon time words) (IsFit horizon before)) questions
+  questions-fit = (
+    counted-fits Await (λ sub n few. tt),
+    (plain-fits Info (λ sub. tt), (counted-fits Codes (λ sub n few. few), (ranged-fits Peek (λ sub from n. tt), (fetch-fits, tt)))),
   )
 
 -- a line of the session
@@ -71,17 +80,16 @@ next_fits horizon before line =
     (λ next fits. fits)
 
 -- or a question
-timed_fits : (horizon before : ℕ) (line : LineText) (time : List ℕ) (words : List (List ℕ)) (form : Option QuestionForm) → IfSome form (λ f. IfOk (f horizon time words) (IsAskable horizon)) →
+timed_fits : (horizon before : ℕ) (line : LineText) (time : List ℕ) (words : List (List ℕ)) (form : Option QuestionForm) → IfSome form (λ f. IfOk (f before horizon time words) (IsFit horizon before)) →
     IfOk (timed horizon before line time words form) (IsFit horizon before)
 timed_fits horizon before line time words None is = next_fits horizon before line
-timed_fits horizon before line time words (Some form) is =
-    then_has (IsAskable horizon) _ (form horizon time words) _ is (λ asked limits. after_has _ before asked.time (says.Question asked) (λ after. (after, limits)))
+timed_fits horizon before line time words (Some form) is = is
 
 worded_fits : (horizon before : ℕ) (line : LineText) (words : List (List ℕ)) → IfOk (worded horizon before line words) (IsFit horizon before)
 worded_fits horizon before line [] = tt
 worded_fits horizon before line (time ∷ []) = tt
 worded_fits horizon before line (time ∷ key ∷ words) =
-    timed_fits horizon before line time words (listed questions key) (listed_has (λ (form : QuestionForm). IfOk (form horizon time words) (IsAskable horizon)) questions key (questions-limited horizon time words))
+    timed_fits horizon before line time words (listed questions key) (listed_has (λ (form : QuestionForm). IfOk (form before horizon time words) (IsFit horizon before)) questions key (questions-fit before horizon time words))
 
 -- or what has no time
 pub said_fits : (horizon before : ℕ) (line : LineText) → IfOk (said_by horizon before line) (IsFit horizon before)

@@ -2,14 +2,14 @@
 use Rattle.std.proofs.Common.{◌≡◌, ℕ, suc, ◌+◌, Bool, true, false, cond, not, ◌||◌, ◌==◌, List, [], ◌∷◌, ◌++◌, length, take, drop, refl, ap, sym, ◌∙◌, append_assoc, arith, add-one}
 use Rattle.std.specs.List.{All, list_any, position_or_len}
 use Rattle.std.proofs.lemmas.Bool.Decides.{nat_tests}
-use Rattle.std.proofs.lemmas.List.Elements.{All-head, All-tail, All-push}
+use Rattle.std.proofs.lemmas.List.Elements.{All-head, All-nil, All-tail, All-push}
 use Rattle.cm_serve.specs.Heading.{Follows, IsHead, StartsLater, head_of, starts_session}
 
 -- where the first place of a test is, by its first element
-first_here : {X : Type 0} (p : X → Bool) (x : X) (xs : List X) → p x ≡ true → position_or_len p (x ∷ xs) ≡ 0
+pub first_here : {X : Type 0} (p : X → Bool) (x : X) (xs : List X) → p x ≡ true → position_or_len p (x ∷ xs) ≡ 0
 first_here p x xs h = ap (λ (b : Bool). cond (not b) (1 + position_or_len p xs) 0) h
 
-first_later : {X : Type 0} (p : X → Bool) (x : X) (xs : List X) → p x ≡ false → position_or_len p (x ∷ xs) ≡ suc (position_or_len p xs)
+pub first_later : {X : Type 0} (p : X → Bool) (x : X) (xs : List X) → p x ≡ false → position_or_len p (x ∷ xs) ≡ suc (position_or_len p xs)
 first_later p x xs h = ap (λ (b : Bool). cond (not b) (1 + position_or_len p xs) 0) h ∙ omega arith
 
 here : {X : Type 0} (x : X) (xs : List X) → not (length (x ∷ xs) == 0) ≡ true
@@ -63,3 +63,20 @@ head-more lines line later = by (starts_session line) refl
     by : (b : Bool) → starts_session line ≡ b → IsHead (lines ++ line ∷ [])
     by true e = first_after starts_session lines line [] later e
     by false e = later-head (lines ++ line ∷ []) (All-push (λ line. starts_session line ≡ false) lines line later e)
+
+-- lines of a head are of the head that goes on, whatever is said after them
+pub head-prefix : (lines more : List (List ℕ)) → IsHead lines → (rest : List (List ℕ)) × (head_of (lines ++ more) ≡ lines ++ rest)
+head-prefix [] more head = (head_of more, refl)
+head-prefix (line ∷ lines) more head = by (λ h. head-prefix lines more h) (starts_session line) refl
+  where
+    tails : (x : List ℕ) (xs : List (List ℕ)) (y : List ℕ) (ys : List (List ℕ)) → x ∷ xs ≡ y ∷ ys → ys ≡ xs
+    tails x xs y ys e = cc
+
+    by : (IsHead lines → (rest : List (List ℕ)) × (head_of (lines ++ more) ≡ lines ++ rest)) → (b : Bool) → starts_session line ≡ b → (rest : List (List ℕ)) × (head_of ((line ∷ lines) ++ more) ≡ (line ∷ lines) ++ rest)
+    by later true e =
+        let alone : (xs : List (List ℕ)) → head_of (line ∷ xs) ≡ line ∷ [] = λ xs. first_after starts_session [] line xs (All-nil (λ y. starts_session y ≡ false)) e in
+        let none : lines ≡ [] = tails line [] line lines (sym (alone lines) ∙ head) in
+        ([], alone (lines ++ more) ∙ ap (λ (ls : List (List ℕ)). line ∷ (ls ++ [])) (sym none))
+    by later false e =
+        let further = later (tails line lines line (head_of lines) (sym head ∙ take_later starts_session line lines e)) in
+        (further.0, take_later starts_session line (lines ++ more) e ∙ ap (λ (ls : List (List ℕ)). line ∷ ls) further.1)

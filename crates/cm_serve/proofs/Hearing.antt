@@ -1,26 +1,43 @@
 -- What was heard of the part of a dialogue before its session.
-use Rattle.std.proofs.Common.{◌≡◌, ℕ, ◌+◌, ◌≤◌, Bool, true, false, List, [], ◌∷◌, ◌++◌, length, map, codes, Option, Result, Ok, Err, refl, ap, sym, ◌∙◌, subst, arith, append-nil, length-append}
+use Rattle.std.proofs.Common.{◌≡◌, ℕ, ◌+◌, ◌<◌, ◌≤◌, inl, inr, Bool, true, false, List, [], ◌∷◌, ◌++◌, length, map, codes, Option, Result, Ok, Err, refl, ap, sym, ◌∙◌, subst, arith, append-nil, length-append}
 use Rattle.std.proofs.lemmas.Grind.{flat_map-append}
 use Rattle.std.proofs.lemmas.List.{map-append}
 use Rattle.std.proofs.lemmas.List.Elements.{All-nil, All-push}
 use Rattle.cm_serve.specs.Heading.{HasHead, StartsLater, starts_session, text_of}
-use Rattle.std.specs.Result.{IsErr}
+use Rattle.std.specs.List.{All}
+use Rattle.std.specs.Result.{IsErrAnd}
+use Rattle.cm_serve.specs.Stops.{heard_stop}
+use Rattle.cm_serve.specs.Ahead.{AreAhead, BeginsLong, Came, IsLine}
+use Rattle.cm_base.specs.declared.transfer.ReadError.{ReadError}
+use Rattle.cm_base.specs.declared.transfer.ReadError.TheVariants as hears
 use Rattle.cm_serve.specs.Turns.{Turn, Answer, Line, Heard, Says}
 use Rattle.cm_serve.specs.declared.heading.Head.{Head}
 use Rattle.cm_serve.specs.declared.stop.TalkStop.{TalkStop}
+use Rattle.cm_serve.specs.declared.stop.TalkStop.TheVariants.{TooLong}
+use Rattle.cm_serve.proofs.Coming.{came-ahead, came-more, came-none, others}
 use Rattle.cm_serve.proofs.Heads.{head-more, later-head}
 use Rattle.cm_serve.proofs.Saying.{says-more, says-nothing, says-same}
 
 -- lines that don't start the session were heard, and are the text
-pub record IsHeard (old now : Option (List Turn)) (text : List ℕ) (count : ℕ) : Type 0 where
+pub record IsHeard (ahead left : Option (List (List ℕ))) (old now : Option (List Turn)) (text : List ℕ) (count : ℕ) : Type 0 where
   pub lines : List (List ℕ)
+  pub came : Came ahead left lines
+  pub single : All IsLine lines
   pub says : Says old now (map Line lines)
   pub text_is : text ≡ text_of lines
   pub count_is : count ≡ length lines
   pub later : StartsLater lines
 
-pub heard-start : (old : Option (List Turn)) (text : List ℕ) → text ≡ [] → IsHeard old old text 0
-heard-start old text e = record { lines = []; says = says-nothing old; text_is = e; count_is = refl; later = All-nil (λ line. starts_session line ≡ false) }
+pub heard-start : (ahead : Option (List (List ℕ))) (old : Option (List Turn)) (text : List ℕ) → text ≡ [] → IsHeard ahead ahead old old text 0
+heard-start ahead old text e = record {
+  lines = [];
+  came = came-none ahead;
+  single = All-nil IsLine;
+  says = says-nothing old;
+  text_is = e;
+  count_is = refl;
+  later = All-nil (λ line. starts_session line ≡ false);
+}
 
 -- a line more was heard
 says_line : (old now new : Option (List Turn)) (lines : List (List ℕ)) (line : List ℕ) → Says old now (map Line lines) → Says now new (Line line ∷ []) → Says old new (map Line (lines ++ line ∷ []))
@@ -37,10 +54,12 @@ pub text_grows : (text new line : List ℕ) → new ≡ text ++ (line ++ codes "
 text_grows text new line e = omega (arith, ap length e, length-append text (line ++ codes "\n"), length-append line (codes "\n"))
 
 -- and it doesn't start the session
-pub heard-more : (old now new : Option (List Turn)) (text more : List ℕ) (count : ℕ) (line : List ℕ) (starts : Bool) → starts ≡ starts_session line → starts ≡ false →
-    Says now new (Line line ∷ []) → more ≡ text ++ (line ++ codes "\n") → IsHeard old now text count → IsHeard old new more (count + 1)
-heard-more old now new text more count line starts is later says e h = record {
+pub heard-more : (ahead left after : Option (List (List ℕ))) (old now new : Option (List Turn)) (text more : List ℕ) (count : ℕ) (line : List ℕ) (starts : Bool) → starts ≡ starts_session line → starts ≡ false →
+    Came left after (line ∷ []) → IsLine line → Says now new (Line line ∷ []) → more ≡ text ++ (line ++ codes "\n") → IsHeard ahead left old now text count → IsHeard ahead after old new more (count + 1)
+heard-more ahead left after old now new text more count line starts is later came one says e h = record {
   lines = h.lines ++ line ∷ [];
+  came = came-more ahead left after h.lines (line ∷ []) h.came came;
+  single = All-push IsLine h.lines line h.single one;
   says = says_line old now new h.lines line h.says says;
   text_is = text_more text more h.lines line h.text_is e;
   count_is = omega (arith, h.count_is, length-append h.lines (line ∷ []));
@@ -48,30 +67,67 @@ heard-more old now new text more count line starts is later says e h = record {
 }
 
 -- it starts the session
-pub heard-ends : (old now new : Option (List Turn)) (text more : List ℕ) (count : ℕ) (line : List ℕ) (starts : Bool) → starts ≡ starts_session line → starts ≡ true →
-    Says now new (Line line ∷ []) → more ≡ text ++ (line ++ codes "\n") → IsHeard old now text count →
-    HasHead (Ok (record { count = count + 1; goes_on = true })) old new more
-heard-ends old now new text more count line starts is ends says e h = (
-  h.lines ++ line ∷ [],
-  says_line old now new h.lines line h.says says,
-  text_more text more h.lines line h.text_is e,
-  omega (arith, h.count_is, length-append h.lines (line ∷ [])),
-  (h.lines, line, refl, h.later, sym is ∙ ends),
-)
+pub heard-ends : (ahead left after : Option (List (List ℕ))) (old now new : Option (List Turn)) (text more : List ℕ) (count : ℕ) (line : List ℕ) (starts : Bool) → starts ≡ starts_session line → starts ≡ true →
+    Came left after (line ∷ []) → IsLine line → Says now new (Line line ∷ []) → more ≡ text ++ (line ++ codes "\n") → IsHeard ahead left old now text count →
+    HasHead (Ok (record { count = count + 1; goes_on = true })) ahead after old new more
+heard-ends ahead left after old now new text more count line starts is ends came one says e h = record {
+  lines = h.lines ++ line ∷ [];
+  single = All-push IsLine h.lines line h.single one;
+  says = says_line old now new h.lines line h.says says;
+  text_is = text_more text more h.lines line h.text_is e;
+  count_is = omega (arith, h.count_is, length-append h.lines (line ∷ []));
+  follows = (h.lines, line, refl, h.later, sym is ∙ ends);
+  came = λ t. came-more ahead left after h.lines (line ∷ []) h.came came;
+  ends = λ f. cc;
+}
 
 -- the input ended
-pub heard-all : (old now new : Option (List Turn)) (text : List ℕ) (count : ℕ) → new ≡ now → IsHeard old now text count → HasHead (Ok (record { count = count; goes_on = false })) old new text
-heard-all old now new text count e h = (h.lines, e ∙ h.says, h.text_is, h.count_is, h.later)
+pub heard-all : (ahead left after : Option (List (List ℕ))) (old now new : Option (List Turn)) (text : List ℕ) (count : ℕ) → AreAhead [] left → new ≡ now → IsHeard ahead left old now text count →
+    HasHead (Ok (record { count = count; goes_on = false })) ahead after old new text
+heard-all ahead left after old now new text count ends e h = record {
+  lines = h.lines;
+  single = h.single;
+  says = e ∙ h.says;
+  text_is = h.text_is;
+  count_is = h.count_is;
+  follows = h.later;
+  came = λ t. cc;
+  ends = λ f. subst (λ (lines : List (List ℕ)). AreAhead lines ahead) (append-nil h.lines) (came-ahead ahead left h.lines [] h.came ends);
+}
 
--- no further line was heard
-pub heard-stopped : (old now new : Option (List Turn)) (text after : List ℕ) (count : ℕ) (r : Result Head TalkStop) → IsErr r → new ≡ now → IsHeard old now text count → HasHead r old new after
-heard-stopped old now new text after count (Ok head) is e h = cc
-heard-stopped old now new text after count (Err stop) is e h = (h.lines, e ∙ h.says, later-head h.lines h.later)
+-- no further line was heard, as there may be one that is too long
+pub heard-stopped : (ahead left after : Option (List (List ℕ))) (old now new : Option (List Turn)) (text rest : List ℕ) (count : ℕ) (r : Result Head TalkStop) (stop : ReadError) → IsErrAnd r (λ e. e ≡ heard_stop stop) →
+    (stop ≡ hears.TooLong → (lines : List (List ℕ)) × AreAhead lines left × BeginsLong lines) → new ≡ now → IsHeard ahead left old now text count → HasHead r ahead after old new rest
+heard-stopped ahead left after old now new text rest count (Ok head) stop is long e h = absurd is
+heard-stopped ahead left after old now new text rest count (Err cause) stop is long e h = by stop is long
+  where
+    stopped : (more : List (List ℕ)) → AreAhead more left → (cause ≡ TooLong → BeginsLong more) → HasHead (Err cause) ahead after old new rest
+    stopped more is_ahead begins = record {
+      heard = h.lines;
+      more = more;
+      ahead_is = came-ahead ahead left h.lines more h.came is_ahead;
+      says = e ∙ h.says;
+      head = later-head h.lines h.later;
+      long = λ same. inr (h.later, begins same);
+    }
 
--- a line was heard, and no more was done with it
-pub heard-cut : (old now new : Option (List Turn)) (text after : List ℕ) (count : ℕ) (line : List ℕ) (r : Result Head TalkStop) → IsErr r → Says now new (Line line ∷ []) → IsHeard old now text count → HasHead r old new after
-heard-cut old now new text after count line (Ok head) is says h = cc
-heard-cut old now new text after count line (Err stop) is says h = (h.lines ++ line ∷ [], says_line old now new h.lines line h.says says, head-more h.lines line h.later)
+    by : (stop : ReadError) → cause ≡ heard_stop stop → (stop ≡ hears.TooLong → (lines : List (List ℕ)) × AreAhead lines left × BeginsLong lines) → HasHead (Err cause) ahead after old new rest
+    by hears.NoMemory is long = stopped (others left).0 (others left).1 (λ same. cc)
+    by hears.ReadFault is long = stopped (others left).0 (others left).1 (λ same. cc)
+    by hears.TooLong is long = let next = long refl in stopped next.0 next.1 (λ same. next.2)
+
+-- a line was heard, and no more was done with it, as the text may be too long with it
+pub heard-cut : (ahead left new_left after : Option (List (List ℕ))) (old now new : Option (List Turn)) (text rest : List ℕ) (count : ℕ) (line : List ℕ) (r : Result Head TalkStop) (stop : TalkStop) → IsErrAnd r (λ e. e ≡ stop) →
+    (stop ≡ TooLong → 1048576 < length (text ++ (line ++ codes "\n"))) → Came left new_left (line ∷ []) → Says now new (Line line ∷ []) → IsHeard ahead left old now text count → HasHead r ahead after old new rest
+heard-cut ahead left new_left after old now new text rest count line (Ok head) stop is long came says h = absurd is
+heard-cut ahead left new_left after old now new text rest count line (Err cause) stop is long came says h = record {
+  heard = h.lines ++ line ∷ [];
+  more = (others new_left).0;
+  ahead_is = came-ahead ahead new_left (h.lines ++ line ∷ []) (others new_left).0 (came-more ahead left new_left h.lines (line ∷ []) h.came came) (others new_left).1;
+  says = says_line old now new h.lines line h.says says;
+  head = head-more h.lines line h.later;
+  long = λ same. inl (subst (λ (t : List ℕ). 1048576 < length t) (text_more text (text ++ (line ++ codes "\n")) h.lines line h.text_is refl) (long (sym is ∙ same)));
+}
 
 -- what was heard, where a line was
 pub heard_line : (b : Bool) (old new : Option (List Turn)) (line : List ℕ) → b ≡ true → Heard (Ok b) old new line → Says old new (Line line ∷ [])

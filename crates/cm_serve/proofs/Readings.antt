@@ -8,8 +8,8 @@ use Rattle.cm_base.specs.Words.{listed}
 use Rattle.cm_base.specs.declared.faults.ReadStop.{ReadStop}
 use Rattle.cm_base.specs.declared.faults.Refused.{Refused}
 use Rattle.cm_base.proofs.Each.{stops-along}
-use Rattle.cm_replay.specs.declared.asked.Question.TheVariants.{Await, Info, Codes, Peek}
-use Rattle.cm_serve.specs.Lines.{QuestionForm, counted, next_line, plain, questions, ranged, timed}
+use Rattle.cm_serve.specs.declared.asked.Question.TheVariants.{Await, Info, Codes, Peek}
+use Rattle.cm_serve.specs.Lines.{QuestionForm, counted, fetching, next_line, plain, questions, ranged, timed}
 
 -- what a reader gives is what another text says that says the same
 pub gives-along : {X Y : Type 0} (view : X → Y) (r : Result X ReadStop) (a b : Result Y Refused) → a ≡ b → Gives view r b → Gives view r a
@@ -21,12 +21,14 @@ not_here : (key word : List ℕ) (form : QuestionForm) (rest : Option QuestionFo
 not_here key word form rest e = ap (λ (b : Bool). cond b (Some form) rest) (sym e)
 
 -- a key that asks no question
-pub asks_nothing : (key : List ℕ) → false ≡ bytes_eq key (codes "await") → false ≡ bytes_eq key (codes "info") → false ≡ bytes_eq key (codes "codes") → false ≡ bytes_eq key (codes "peek") → listed questions key ≡ None
-asks_nothing key a b c d =
-    not_here key (codes "await") (counted Await) (listed ((codes "info", plain Info) ∷ (codes "codes", counted Codes) ∷ (codes "peek", ranged Peek) ∷ []) key) a
-    ∙ not_here key (codes "info") (plain Info) (listed ((codes "codes", counted Codes) ∷ (codes "peek", ranged Peek) ∷ []) key) b
-    ∙ not_here key (codes "codes") (counted Codes) (listed ((codes "peek", ranged Peek) ∷ []) key) c
-    ∙ not_here key (codes "peek") (ranged Peek) None d
+pub asks_nothing : (key : List ℕ) → false ≡ bytes_eq key (codes "await") → false ≡ bytes_eq key (codes "info") → false ≡ bytes_eq key (codes "codes") → false ≡ bytes_eq key (codes "peek") →
+    false ≡ bytes_eq key (codes "fetch") → listed questions key ≡ None
+asks_nothing key a b c d e =
+    not_here key (codes "await") (counted Await) (listed ((codes "info", plain Info) ∷ (codes "codes", counted Codes) ∷ (codes "peek", ranged Peek) ∷ (codes "fetch", fetching) ∷ []) key) a
+    ∙ not_here key (codes "info") (plain Info) (listed ((codes "codes", counted Codes) ∷ (codes "peek", ranged Peek) ∷ (codes "fetch", fetching) ∷ []) key) b
+    ∙ not_here key (codes "codes") (counted Codes) (listed ((codes "peek", ranged Peek) ∷ (codes "fetch", fetching) ∷ []) key) c
+    ∙ not_here key (codes "peek") (ranged Peek) (listed ((codes "fetch", fetching) ∷ []) key) d
+    ∙ not_here key (codes "fetch") fetching None e
 
 -- the words of such a line are a line of the session
 pub timed_next : (number other horizon before : ℕ) (line : LineText) (time : List ℕ) (words : List (List ℕ)) (key : List ℕ) → number ≡ other → listed questions key ≡ None →

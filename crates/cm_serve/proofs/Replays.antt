@@ -1,5 +1,6 @@
 -- A dialogue whose lines are those of a session.
 use Rattle.std.proofs.Common.{◌≡◌, ℕ, ◌≤◌, Bool, true, false, cond, List, [], ◌∷◌, ◌++◌, codes, flat_map, length, None, Result, Ok, Err, refl, ap, sym, ◌∙◌, arith, append_assoc, append-nil}
+use Rattle.std.specs.List.{All}
 use Rattle.std.specs.Str.{bytes_eq}
 use Rattle.std.proofs.lemmas.Slice.Eq.{bytes_eq-Decides}
 use Rattle.std.proofs.lemmas.List.Elements.{All-head, All-tail}
@@ -13,14 +14,16 @@ use Rattle.cm_base.proofs.Values.{at_line_ok}
 use Rattle.cm_session.specs.SessionPart.{after_time, keyed, last_time, line_after, line_words, lines_by}
 use Rattle.cm_session.specs.declared.op.SessionLine.{SessionLine}
 use Rattle.cm_session.proofs.After.{last-after}
-use Rattle.cm_replay.specs.Playing.{Play, first_play, line_text, played}
+use Rattle.cm_serve.specs.Playing.{Play, first_play, line_text, played}
 use Rattle.cm_replay.specs.State.{at_start}
 use Rattle.cm_replay.specs.Texts.{texts_from}
+use Rattle.cm_serve.specs.Ahead.{IsLine}
 use Rattle.cm_serve.specs.Dialogue.{Reply, dialogue, next_number, replied, replied_if, reply, reply_of}
-use Rattle.cm_serve.specs.Law.{AnswersAsReplay, AreSingle, answers}
+use Rattle.cm_serve.specs.Law.{AnswersAsReplay, answers}
 use Rattle.cm_serve.specs.Lines.{questions, said_by}
 use Rattle.cm_serve.specs.declared.said.Said.{Said}
 use Rattle.cm_serve.specs.declared.said.Said.TheVariants as says
+use Rattle.cm_serve.proofs.FirstLine.{one-counts}
 use Rattle.cm_serve.proofs.Limited.{untimed}
 
 -- two tests of a word
@@ -39,7 +42,7 @@ asked_never key horizon time words next e = none_listed
     other word never = is_not key word (λ same. never next (ap (λ (k : List ℕ). keyed (lines_by false) k horizon time words) (sym same) ∙ e))
 
     none_listed : listed questions key ≡ None
-    none_listed = simp (other (codes "await") (λ n f. cc), other (codes "info") (λ n f. cc), other (codes "codes") (λ n f. cc), other (codes "peek") (λ n f. cc))
+    none_listed = simp (other (codes "await") (λ n f. cc), other (codes "info") (λ n f. cc), other (codes "codes") (λ n f. cc), other (codes "peek") (λ n f. cc), other (codes "fetch") (λ n f. cc))
 
 -- a word of a time is none of those with which other lines start
 timed_word : (time key : List ℕ) (horizon : ℕ) (words : List (List ℕ)) (next : SessionLine) (word : List ℕ) (fault : Fault) → number_in 0 horizon word ≡ Err fault →
@@ -115,14 +118,14 @@ one_more p n bytes lines before all (line ∷ []) is one l e later =
     }
 one_more p n bytes lines before all (line ∷ next ∷ more) is one l e later = absurd (omega (arith, ap length is))
 
-replays : (p : Play) (n : ℕ) (lines : List (List ℕ)) (before all : List SessionLine) → AreSingle lines → p.latest ≡ last_time before → read_after p.setting.signals.horizon before (flat_map lines_of lines) ≡ Ok all →
+replays : (p : Play) (n : ℕ) (lines : List (List ℕ)) (before all : List SessionLine) → All IsLine lines → p.latest ≡ last_time before → read_after p.setting.signals.horizon before (flat_map lines_of lines) ≡ Ok all →
     IsReplayed p n lines before all
 replays p n [] before all single l e =
     let same : before ≡ all = cc in
     record { new = []; all_is = sym same ∙ sym (append-nil before); text = refl }
 replays p n (bytes ∷ lines) before all single l e =
-    one_more p n bytes lines before all (lines_of bytes) refl (All-head (λ line. length (lines_of line) ≤ 1) bytes lines single) l e
-    (λ q m b k f. replays q m lines b all (All-tail (λ line. length (lines_of line) ≤ 1) bytes lines single) k f)
+    one_more p n bytes lines before all (lines_of bytes) refl (one-counts bytes (All-head IsLine bytes lines single)) l e
+    (λ q m b k f. replays q m lines b all (All-tail IsLine bytes lines single) k f)
 
 pub answers_as_replay : AnswersAsReplay
 answers_as_replay s first lines all single read =

@@ -1,11 +1,27 @@
 -- How a dialogue goes.
-use Rattle.std.specs.Prelude.{◌≡◌, ℕ, List, ◌++◌, Option, Result, Ok, Err}
-use Rattle.cm_replay.specs.Playing.{Play}
+use Rattle.std.specs.Prelude.{◌≡◌, ℕ, List, [], ◌++◌, Option, Result, Ok, Err}
+use Rattle.std.specs.List.{All}
+use Rattle.cm_serve.specs.Playing.{Play}
+use Rattle.cm_serve.specs.Ahead.{AreAhead, BeginsLong, IsLine}
 use Rattle.cm_serve.specs.Dialogue.{dialogue}
 use Rattle.cm_serve.specs.Turns.{Turn, Says}
 use Rattle.cm_serve.specs.declared.stop.TalkStop.{TalkStop}
+use Rattle.cm_serve.specs.declared.stop.TalkStop.TheVariants.{TooLong}
 
--- some lines were heard and answered, each before the next one, and the input ended; or that was cut short
-abbrev pub Converses : Result (Unit {0}) TalkStop → Option (List Turn) → Option (List Turn) → Play → ℕ → Type 0
-Converses (Ok done) old new p first = (lines : List (List ℕ)) × Says old new (dialogue p first lines)
-Converses (Err stop) old new p first = (lines : List (List ℕ)) × (cut rest : List Turn) × (dialogue p first lines ≡ cut ++ rest) × Says old new cut
+-- all lines to come were heard and answered, each before the next one
+abbrev pub HasConversed : Option (List (List ℕ)) → Option (List Turn) → Option (List Turn) → Play → ℕ → Type 0
+HasConversed ahead old new p first = (lines : List (List ℕ)) × AreAhead lines ahead × All IsLine lines × Says old new (dialogue p first lines)
+
+-- that was cut short after the first of them; where it was for a line that is too long, those before it were answered
+abbrev pub IsCutOff : TalkStop → Option (List (List ℕ)) → Option (List Turn) → Option (List Turn) → Play → ℕ → Type 0
+IsCutOff stop ahead old new p first =
+    (heard more : List (List ℕ))
+    × (cut rest : List Turn)
+    × AreAhead (heard ++ more) ahead
+    × (dialogue p first heard ≡ cut ++ rest)
+    × Says old new cut
+    × (stop ≡ TooLong → BeginsLong more × (rest ≡ []))
+
+abbrev pub Converses : Result (Unit {0}) TalkStop → Option (List (List ℕ)) → Option (List Turn) → Option (List Turn) → Play → ℕ → Type 0
+Converses (Ok done) ahead old new p first = HasConversed ahead old new p first
+Converses (Err stop) ahead old new p first = IsCutOff stop ahead old new p first

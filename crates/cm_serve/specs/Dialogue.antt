@@ -3,14 +3,16 @@ use Rattle.std.specs.Prelude.{ℕ, ◌+◌, min, List, [], ◌∷◌, ◌++◌, 
 use Rattle.cm_base.specs.Lines.{LineText, lines_of}
 use Rattle.cm_base.specs.Reading.{at_line}
 use Rattle.cm_base.specs.declared.faults.Refused.{Refused}
-use Rattle.cm_board.specs.Printed.{printed_board}
-use Rattle.cm_replay.specs.Asking.{asked_text, line_of}
+use Rattle.cm_board_text.specs.Printed.{printed_board}
+use Rattle.cm_serve.specs.Asking.{asked_text, awaits, line_of, takes, taking_time}
 use Rattle.cm_replay.specs.Declined.{refused_text}
-use Rattle.cm_replay.specs.Playing.{Play, line_text}
-use Rattle.cm_replay.specs.Playing as playing
+use Rattle.cm_serve.specs.Playing.{Play, line_text}
+use Rattle.cm_serve.specs.Playing as playing
 use Rattle.cm_replay.specs.Testing.{test_answer}
 use Rattle.cm_serve.specs.Lines.{said_by}
 use Rattle.cm_serve.specs.Turns.{Turn, Line, Answer}
+use Rattle.cm_serve.specs.declared.asked.Asked.{Asked}
+use Rattle.cm_serve.specs.declared.asked.Fetch.{Fetch}
 use Rattle.cm_serve.specs.declared.said.Said.{Said}
 use Rattle.cm_serve.specs.declared.said.Said.TheVariants as says
 
@@ -23,10 +25,23 @@ pub record Reply : Type 0 where
 abbrev pub unchanged : Play → List ℕ → Reply
 unchanged p text = record { text = text; play = p }
 
--- the answer to what a line says: a question has the effect of its line
+-- a question has the effect of its line
+abbrev pub asked_reply : Play → Asked → Reply
+asked_reply p asked = record { text = asked_text p.setting asked p.state; play = playing.played p (line_of asked) }
+
+-- a reply, and what is asked after it
+abbrev pub then_asked : Reply → Asked → Reply
+then_asked reply asked = record { text = reply.text ++ (asked_reply reply.play asked).text; play = (asked_reply reply.play asked).play }
+
+-- a fetch has the two replies of its questions
+abbrev pub fetched : Play → Fetch → Reply
+fetched p fetch = then_asked (asked_reply p (awaits fetch)) (takes (taking_time p.setting fetch p.state) fetch)
+
+-- the answer to what a line says
 abbrev pub replied : Play → Said → Reply
 replied p (says.Session line) = record { text = line_text p line; play = playing.played p line }
-replied p (says.Question asked) = record { text = asked_text p.setting asked p.state; play = playing.played p (line_of asked) }
+replied p (says.Question asked) = asked_reply p asked
+replied p (says.Fetch fetch) = fetched p fetch
 replied p (says.Test cmd) = unchanged p (test_answer p.setting.board cmd)
 replied p says.Describe = unchanged p (printed_board p.setting.board ++ codes "ok\n")
 

@@ -1,5 +1,5 @@
 -- What holds of every dialogue.
-use Rattle.std.specs.Prelude.{◌≡◌, ℕ, ◌≤◌, false, List, [], ◌∷◌, ◌++◌, flat_map, length, Option, Some, None, Ok}
+use Rattle.std.specs.Prelude.{◌≡◌, ℕ, false, List, [], ◌∷◌, ◌++◌, flat_map, Option, Some, None, Ok}
 use Rattle.std.specs.List.{All}
 use Rattle.std.specs.Result.{result_ok}
 use Rattle.cm_base.specs.Lines.{LineText, lines_of}
@@ -7,12 +7,14 @@ use Rattle.cm_signal.specs.Setting.{Setting}
 use Rattle.cm_session.specs.Limits.{InOrder}
 use Rattle.cm_session.specs.SessionPart.{session_of}
 use Rattle.cm_session.specs.declared.op.SessionLine.{SessionLine}
-use Rattle.cm_replay.specs.Asking.{line_of}
-use Rattle.cm_replay.specs.Playing.{Play, first_play, line_text, played}
-use Rattle.cm_replay.specs.Texts.{replay_text}
+use Rattle.cm_serve.specs.Asking.{awaits, line_of, takes, taking_time}
+use Rattle.cm_serve.specs.Playing.{Play, first_play, line_text, played}
+use Rattle.cm_replay.specs.Texts.{replay_text, texts_from}
+use Rattle.cm_serve.specs.Ahead.{IsLine}
 use Rattle.cm_serve.specs.Dialogue.{dialogue, next_number, reply}
 use Rattle.cm_serve.specs.Lines.{said_by}
 use Rattle.cm_serve.specs.Turns.{Turn, Answer, Line}
+use Rattle.cm_serve.specs.declared.asked.Fetch.{Fetch}
 use Rattle.cm_serve.specs.declared.said.Said.{Said}
 use Rattle.cm_serve.specs.declared.said.Said.TheVariants as says
 
@@ -22,15 +24,11 @@ answers [] = []
 answers (Line line ∷ turns) = answers turns
 answers (Answer text ∷ turns) = text ++ answers turns
 
--- no line of the client has a line feed with something on both sides
-abbrev pub AreSingle : List (List ℕ) → Type 0
-AreSingle lines = All (λ line. length (lines_of line) ≤ 1) lines
-
 -- lines that are read as a session together are answered one by one as a replay answers them
 abbrev pub AnswersAsReplay : Type 0
 AnswersAsReplay =
     (s : Setting) (first : ℕ) (lines : List (List ℕ)) (all : List SessionLine)
-    → AreSingle lines → session_of false s.signals.horizon (flat_map lines_of lines) ≡ Ok all
+    → All IsLine lines → session_of false s.signals.horizon (flat_map lines_of lines) ≡ Ok all
     → answers (dialogue (first_play s) first lines) ≡ replay_text s all
 
 -- what a client's line says, unless it is refused, empty or a comment
@@ -38,18 +36,23 @@ abbrev pub said_in : Play → List LineText → Option Said
 said_in p [] = None
 said_in p (line ∷ rest) = result_ok (said_by p.setting.signals.horizon p.latest line)
 
+-- the record of a fetch: the lines that its two questions are in other words
+abbrev pub lines_of_fetch : Play → Fetch → List SessionLine
+lines_of_fetch p fetch = line_of (awaits fetch) ∷ line_of (takes (taking_time p.setting fetch p.state) fetch) ∷ []
+
 -- the record of a client's line: itself where it is one of the session, and of a question the line that it is in other words
-abbrev pub record_of : Option Said → List SessionLine
-record_of None = []
-record_of (Some (says.Session line)) = line ∷ []
-record_of (Some (says.Question asked)) = line_of asked ∷ []
-record_of (Some (says.Test cmd)) = []
-record_of (Some says.Describe) = []
+abbrev pub record_of : Play → Option Said → List SessionLine
+record_of p None = []
+record_of p (Some (says.Session line)) = line ∷ []
+record_of p (Some (says.Question asked)) = line_of asked ∷ []
+record_of p (Some (says.Fetch fetch)) = lines_of_fetch p fetch
+record_of p (Some (says.Test cmd)) = []
+record_of p (Some says.Describe) = []
 
 -- the record of a dialogue from here on; the first line has this number
 abbrev pub recorded : Play → ℕ → List (List ℕ) → List SessionLine
 recorded p number [] = []
-recorded p number (bytes ∷ lines) = record_of (said_in p (lines_of bytes)) ++ recorded (reply p number bytes).play (next_number number) lines
+recorded p number (bytes ∷ lines) = record_of p (said_in p (lines_of bytes)) ++ recorded (reply p number bytes).play (next_number number) lines
 
 -- how the session stands after the dialogue
 abbrev pub play_after : Play → ℕ → List (List ℕ) → Play
@@ -66,6 +69,7 @@ abbrev pub answer_of : Play → List ℕ → Option Said → List ℕ
 answer_of p text None = []
 answer_of p text (Some (says.Session line)) = text
 answer_of p text (Some (says.Question asked)) = line_text p (line_of asked)
+answer_of p text (Some (says.Fetch fetch)) = texts_from p.setting p.state (lines_of_fetch p fetch)
 answer_of p text (Some (says.Test cmd)) = []
 answer_of p text (Some says.Describe) = []
 

@@ -10,29 +10,34 @@ use Rattle.cm_cmd.specs.CommandText.{command_of}
 use Rattle.cm_session.specs.Forms.{number_words, place_of, sub_words}
 use Rattle.cm_session.specs.SessionPart.{line_after}
 use Rattle.cm_session.specs.declared.forms.Head.{Head}
-use Rattle.cm_replay.specs.declared.asked.Asked.{Asked}
-use Rattle.cm_replay.specs.declared.asked.Question.{Question}
-use Rattle.cm_replay.specs.declared.asked.Question.TheVariants.{Await, Info, Codes, Peek}
+use Rattle.cm_serve.specs.declared.asked.Asked.{Asked}
+use Rattle.cm_serve.specs.declared.asked.Fetch.{Fetch}
+use Rattle.cm_serve.specs.declared.asked.Question.{Question}
+use Rattle.cm_serve.specs.declared.asked.Question.TheVariants.{Await, Info, Codes, Peek}
 use Rattle.cm_serve.specs.declared.said.Said.{Said}
 use Rattle.cm_serve.specs.declared.said.Said.TheVariants as says
 
--- a question about a subdevice, by the horizon, the word of its time, and the words after its key
+-- what is asked of a subdevice, by the time of the line before, the horizon, the word of its own time, and the words after its key
 abbrev pub QuestionForm : Type 0
-QuestionForm = ℕ → List ℕ → Form Asked
+QuestionForm = ℕ → ℕ → List ℕ → Form Said
 
 -- what is asked at a time by a file about a subdevice
 abbrev pub asked_by : Head → ℕ → Question → Asked
 asked_by head sub question = record { time = head.time; file = head.file; sub = sub; question = question }
 
+-- a question after a line of this time, which it may not be below
+abbrev pub asked_after : ℕ → Asked → Result Said Fault
+asked_after before asked = if nat_le before asked.time then Ok (says.Question asked) else Err Bad
+
 -- `T KEY F SUB`
 abbrev pub plain : Question → QuestionForm
-plain question horizon time words = sub_words horizon time words >>= λ w. Ok (asked_by w.0 w.1 question)
+plain question before horizon time words = sub_words horizon time words >>= λ w. asked_after before (asked_by w.0 w.1 question)
 
 -- `T KEY F SUB N`, with up to 65,536 samples
 abbrev pub counted : (ℕ → Question) → QuestionForm
-counted make horizon time words = number_words 65536 horizon time words >>= λ w. Ok (asked_by w.0 w.1 (make w.2))
+counted make before horizon time words = number_words 65536 horizon time words >>= λ w. asked_after before (asked_by w.0 w.1 (make w.2))
 
--- `T KEY F SUB I N`, with up to 65,536 samples from one of the first 65,536 on
+-- `T KEY F SUB I N`, with two numbers up to 65,536
 abbrev pub ranged_words : ℕ → List ℕ → Form (Head × ℕ × ℕ × ℕ)
 ranged_words horizon time words =
     four_words words >>= λ w.
@@ -42,15 +47,21 @@ ranged_words horizon time words =
     Ok (at.0, at.1, from, n)
 
 abbrev pub ranged : (ℕ → ℕ → Question) → QuestionForm
-ranged make horizon time words = ranged_words horizon time words >>= λ w. Ok (asked_by w.0 w.1 (make w.2 w.3))
+ranged make before horizon time words = ranged_words horizon time words >>= λ w. asked_after before (asked_by w.0 w.1 (make w.2 w.3))
+
+-- a fetch after a line of this time, which it may not be below
+abbrev pub fetch_after : ℕ → Fetch → Result Said Fault
+fetch_after before fetch = if nat_le before fetch.time then Ok (says.Fetch fetch) else Err Bad
+
+abbrev pub fetching : QuestionForm
+fetching before horizon time words =
+    ranged_words horizon time words >>= λ w. fetch_after before (record { time = w.0.time; file = w.0.file; sub = w.1; wanted = w.2; n = w.3 })
 
 -- the questions by their keys
 abbrev pub questions : List (List ℕ × QuestionForm)
-questions = (codes "await", counted Await) ∷ (codes "info", plain Info) ∷ (codes "codes", counted Codes) ∷ (codes "peek", ranged Peek) ∷ []
-
--- a question after a line of this time, which it may not be below
-abbrev pub asked_after : ℕ → Asked → Result Said Fault
-asked_after before asked = if nat_le before asked.time then Ok (says.Question asked) else Err Bad
+questions =
+    (codes "await", counted Await) ∷ (codes "info", plain Info) ∷ (codes "codes", counted Codes) ∷ (codes "peek", ranged Peek)
+    ∷ (codes "fetch", fetching) ∷ []
 
 -- a line of the session
 abbrev pub next_line : ℕ → ℕ → LineText → Result Said Fault
@@ -59,7 +70,7 @@ next_line horizon before line = line_after false horizon before line >>= λ next
 -- a line with a time and a key: a question, or a line of a session
 abbrev pub timed : ℕ → ℕ → LineText → List ℕ → List (List ℕ) → Option QuestionForm → Result Said Fault
 timed horizon before line time words None = next_line horizon before line
-timed horizon before line time words (Some form) = form horizon time words >>= λ asked. asked_after before asked
+timed horizon before line time words (Some form) = form before horizon time words
 
 -- what the words of a line with a time say
 abbrev pub worded : ℕ → ℕ → LineText → List (List ℕ) → Result Said Fault

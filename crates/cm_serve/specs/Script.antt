@@ -1,6 +1,8 @@
--- What was said with a client in memory.
-use Rattle.std.specs.Prelude.{List, map}
+-- What was said with a client in memory, and what it has still to say.
+use Rattle.std.specs.Prelude.{List, ℕ, drop, map}
+use Rattle.cm_base.specs.Lines.{raw_lines}
 use Rattle.cm_serve.specs.Turns.{Turn, Answer, Line}
+use Rattle.cm_serve.specs.declared.script.Script.{Script}
 use Rattle.cm_serve.specs.declared.script.Spoken.{Spoken}
 use Rattle.cm_serve.specs.declared.script.Spoken.TheVariants as spoken
 
@@ -10,3 +12,7 @@ turn_of (spoken.Answer text) = Answer text.items
 
 abbrev pub spoken_turns : List Spoken → List Turn
 spoken_turns all = map turn_of all
+
+-- the lines of its text that it hasn't said
+abbrev pub lines_left : Script → List (List ℕ)
+lines_left s = raw_lines (drop s.at s.text.items)

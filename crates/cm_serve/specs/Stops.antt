@@ -3,15 +3,15 @@ use Rattle.cm_base.specs.declared.faults.Fault.TheVariants.{TooLong}
 use Rattle.cm_base.specs.declared.faults.ReadStop.{ReadStop}
 use Rattle.cm_base.specs.declared.faults.ReadStop.TheVariants as reads
 use Rattle.cm_base.specs.declared.faults.Refused.{Refused}
-use Rattle.cm_serve.specs.declared.client.HearStop.{HearStop}
-use Rattle.cm_serve.specs.declared.client.HearStop.TheVariants as hears
+use Rattle.cm_base.specs.declared.transfer.ReadError.{ReadError}
+use Rattle.cm_base.specs.declared.transfer.ReadError.TheVariants as hears
 use Rattle.cm_serve.specs.declared.stop.ServeStop.{ServeStop}
 use Rattle.cm_serve.specs.declared.stop.ServeStop.TheVariants as serves
 use Rattle.cm_serve.specs.declared.stop.TalkStop.{TalkStop}
 use Rattle.cm_serve.specs.declared.stop.TalkStop.TheVariants as stops
 
 -- where no line is heard
-abbrev pub heard_stop : HearStop → TalkStop
+abbrev pub heard_stop : ReadError → TalkStop
 heard_stop hears.NoMemory = stops.NoMemory
 heard_stop hears.ReadFault = stops.ReadFault
 heard_stop hears.TooLong = stops.TooLong

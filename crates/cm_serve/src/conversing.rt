@@ -1,16 +1,16 @@
 // The dialogue of a session.
 ghost use Rattle.std.specs.Prelude.{◌≡◌, ◌≤◌, IsErrOf};
 ghost use Rattle.cm_base.specs.Causes.{Rose};
-ghost use Rattle.cm_replay.specs.Playing.{first_play};
+ghost use Rattle.cm_serve.specs.Playing.{first_play};
 ghost use Rattle.cm_signal.specs.Fitting.{FitBoard};
 ghost use Rattle.cm_serve.specs.Conversing.{Converses};
 
 use crate::client::Client;
 use crate::kept::Kept;
+use crate::playing::Playing;
 use crate::replying::put_reply;
 use crate::stop::TalkStop;
 use cm_board::board::BoardDesc;
-use cm_replay::playing::Playing;
 use cm_signal::signals::Signals;
 use std::alloc::Global;
 use std::sync::Wait;
@@ -26,7 +26,7 @@ pub fn converse<R: Wait, C: Client>(
     client: &mut C,
 ) -> Result<(), TalkStop>
     requires { FitBoard board.now.subs signals.now }
-    ensures said { Converses result (C.turns client.old) (C.turns client.new) (first_play (record { board = board.now; signals = signals.now })) first }
+    ensures said { Converses result (C.ahead client.old) (C.turns client.old) (C.turns client.new) (first_play (record { board = board.now; signals = signals.now })) first }
     ensures read_fault { IsErrOf result TalkStop.ReadFault → Rose (C.faults client.old) (C.faults client.new) }
     ensures write_fault { IsErrOf result TalkStop.WriteFault → Rose (C.faults client.old) (C.faults client.new) }
     ensures later { C.faults client.old ≤ C.faults client.new }
@@ -46,7 +46,7 @@ fn talk<'a, R: Wait, C: Client>(
     client: &mut C,
 ) -> Result<(), TalkStop>
     requires { FitBoard board.now.subs signals.now }
-    ensures said { Converses result (C.turns client.old) (C.turns client.new) (first_play (record { board = board.now; signals = signals.now })) first }
+    ensures said { Converses result (C.ahead client.old) (C.turns client.old) (C.turns client.new) (first_play (record { board = board.now; signals = signals.now })) first }
     ensures read_fault { IsErrOf result TalkStop.ReadFault → Rose (C.faults client.old) (C.faults client.new) }
     ensures write_fault { IsErrOf result TalkStop.WriteFault → Rose (C.faults client.old) (C.faults client.new) }
     ensures later { C.faults client.old ≤ C.faults client.new }

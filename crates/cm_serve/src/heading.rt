@@ -1,5 +1,5 @@
 // The part of a dialogue before its session: the board and the signals.
-ghost use Rattle.std.specs.Prelude.{◌≡◌, ◌≤◌, ◌++◌, [], length, codes, IfOk, OnOk, IsErrOf};
+ghost use Rattle.std.specs.Prelude.{◌≡◌, ◌<◌, ◌≤◌, ◌++◌, [], length, codes, IfOk, OnOk, IsErrOf};
 ghost use Rattle.cm_base.specs.Causes.{Rose};
 ghost use Rattle.cm_serve.specs.Heading.{HasHead, starts_session};
 
@@ -37,7 +37,7 @@ pub(crate) fn hear_head<C: Client>(
     text: &mut Vec<u8>,
 ) -> Result<Head, TalkStop>
     requires { text.old.items ≡ [] }
-    ensures head { HasHead result (C.turns client.old) (C.turns client.new) text.new.items }
+    ensures head { HasHead result (C.ahead client.old) (C.ahead client.new) (C.turns client.old) (C.turns client.new) text.new.items }
     ensures short { IfOk result (λ _. length text.new.items ≤ 1048576) }
     ensures few { IfOk result (λ head. head.count ≤ 1048576) }
     ensures read_fault { IsErrOf result TalkStop.ReadFault → Rose (C.faults client.old) (C.faults client.new) }
@@ -46,7 +46,7 @@ pub(crate) fn hear_head<C: Client>(
 {
     let mut count = 0;
     let mut line = Vec::new(alloc);
-    while text.len() < HEAD_LIMIT {
+    loop {
         line.clear();
         if !client.hear(&mut line)? {
             return Ok(Head {
@@ -63,12 +63,12 @@ pub(crate) fn hear_head<C: Client>(
             });
         }
     }
-    Err(TalkStop::TooLong)
 }
 
 // Appends a line and its line feed, unless the text gets too long.
 fn put_line(text: &mut Vec<u8>, line: &[u8]) -> Result<(), TalkStop>
     ensures line { OnOk result (text.new.items ≡ text.old.items ++ (line.now ++ codes "\n")) }
+    ensures long { IsErrOf result TalkStop.TooLong → 1048576 < length (text.old.items ++ (line.now ++ codes "\n")) }
     ensures short { OnOk result (length text.new.items ≤ 1048576) }
     ensures fault { ¬ IsErrOf result TalkStop.ReadFault }
     ensures unsaid { ¬ IsErrOf result TalkStop.WriteFault }

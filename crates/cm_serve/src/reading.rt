@@ -7,13 +7,13 @@ ghost use Rattle.cm_base.specs.Words.{listed};
 ghost use Rattle.cm_serve.specs.Lines as spec;
 ghost use Rattle.cm_serve.specs.Reading.{IsFit};
 
+use crate::asked::{Asked, Fetch, Question};
 use crate::said::Said;
 use cm_base::faults::{Fault, ReadStop};
 use cm_base::lines::Line;
 use cm_base::parts::{begins, refused};
 use cm_base::words::{at_line, four, none, number_in};
 use cm_cmd::reading::read_cmd;
-use cm_replay::asked::{Asked, Question};
 use cm_session::forms::{Head, Start, number_words, place, sub_words};
 use cm_session::op::BoxedCmd;
 use cm_session::reading::read_line;
@@ -101,6 +101,9 @@ fn read_timed(
             start.number,
             asked_after(before, head, sub, Question::Peek { from, n }),
         )
+    } else if key == b"fetch".as_slice() {
+        let (head, sub, wanted, n) = at_line(start.number, ranged_words(start, words))?;
+        at_line(start.number, fetch_after(before, head, sub, wanted, n))
     } else {
         read_next(alloc, start.horizon, before, line)
     }
@@ -110,6 +113,7 @@ fn read_timed(
 fn ranged_words(start: &Start<'_>, words: &[&[u8]]) -> Result<(Head, u32, u32, u32), Fault>
     ensures value { result ≡ spec.ranged_words start.now.horizon start.now.time.now (map (λ word. word.now) words.now) }
     ensures within { IfOk result (λ w. w.0.time ≤ start.now.horizon) }
+    ensures few { IfOk result (λ w. w.3 ≤ 65536) }
 {
     let (file, sub, from, n) = four(words)?;
     let (head, sub) = place(start, file, sub)?;
@@ -137,6 +141,23 @@ fn asked_after(before: u64, head: Head, sub: u32, question: Question) -> Result<
             file: head.file,
             sub,
             question,
+        }))
+    } else {
+        Err(Fault::Bad)
+    }
+}
+
+// A fetch after a line of the time `before`.
+fn fetch_after(before: u64, head: Head, sub: u32, wanted: u32, n: u32) -> Result<Said, Fault>
+    ensures { result ≡ spec.fetch_after before (record { time = head.time; file = head.file; sub = sub; wanted = wanted; n = n }) }
+{
+    if before <= head.time {
+        Ok(Said::Fetch(Fetch {
+            time: head.time,
+            file: head.file,
+            sub,
+            wanted,
+            n,
         }))
     } else {
         Err(Fault::Bad)

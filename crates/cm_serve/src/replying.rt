@@ -1,23 +1,23 @@
 // The answer to a line of a dialogue.
 ghost use Rattle.std.specs.Prelude.{◌≡◌, ◌<◌, ◌≤◌, ◌^◌, ◌++◌, length, None, IfOk, OnOk, codes};
 ghost use Rattle.cm_base.specs.Lines.{lines_of};
-ghost use Rattle.cm_board.specs.Printed.{printed_board};
+ghost use Rattle.cm_board_text.specs.Printed.{printed_board};
 ghost use Rattle.cm_replay.specs.Declined.{refused_text};
-ghost use Rattle.cm_replay.specs.Playing.{line_text, played};
+ghost use Rattle.cm_serve.specs.Playing.{line_text, played};
 ghost use Rattle.cm_session.specs.Limits.{IsLimited};
 ghost use Rattle.cm_serve.specs.Dialogue.{replied, reply};
 ghost use Rattle.cm_serve.specs.Reading.{IsFit};
 
 use crate::kept::Kept;
+use crate::playing::Playing;
 use crate::reading::read_said;
 use crate::said::Said;
 use cm_base::faults::{Fault, ReadStop, Refused};
 use cm_base::lines::{Line, split_lines};
 use cm_base::transfer::NoMemory;
 use cm_board::board::BoardDesc;
-use cm_board::printing::print_board;
+use cm_board_text::printing::print_board;
 use cm_replay::declining::refusal;
-use cm_replay::playing::Playing;
 use cm_replay::testing::put_answer;
 use cm_replay::trying::try_line;
 use cm_session::op::SessionLine;
@@ -80,6 +80,7 @@ fn put_said<'a, R: Wait>(
     match said {
         Said::Session(line) => put_line(rt, alloc, kept, playing, line, text),
         Said::Question(asked) => playing.ask(alloc, asked, text),
+        Said::Fetch(fetch) => playing.fetch(alloc, fetch, text),
         Said::Test(cmd) => {
             put_answer(alloc, text, playing.board(), cmd.cmd())?;
             Ok(playing)

@@ -1,6 +1,6 @@
 // What a line of a dialogue says.
 
-use cm_replay::asked::Asked;
+use crate::asked::{Asked, Fetch};
 use cm_session::op::{BoxedCmd, SessionLine};
 
 /// What a line says.
@@ -10,6 +10,8 @@ pub enum Said {
     Session(SessionLine),
     /// A question about a subdevice.
     Question(Asked),
+    /// An await and the codes after it.
+    Fetch(Fetch),
     /// A command to test (Comedi: `comedi_command_test`).
     Test(BoxedCmd),
     /// The board is to be described.

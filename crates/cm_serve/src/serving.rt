@@ -14,7 +14,7 @@ use cm_base::faults::{Fault, ReadStop, Refused};
 use cm_base::lines::split_lines;
 use cm_base::transfer::{NoMemory, WriteFault};
 use cm_board::board::BoardDesc;
-use cm_board::reading::read_board;
+use cm_board_text::reading::read_board;
 use cm_replay::declining::refusal;
 use cm_signal::reading::read_signals;
 use cm_signal::signals::Signals;
@@ -45,7 +45,7 @@ pub enum Served {
 /// Holds a dialogue. The client's first lines, up to one that starts with `session`, are a board and
 /// its signals; then each line is answered before the next one is heard.
 pub fn serve<R: Wait, C: Client>(rt: &R, alloc: Global, client: &mut C) -> Served
-    ensures said { Serves result (C.turns client.old) (C.turns client.new) }
+    ensures said { Serves result (C.ahead client.old) (C.turns client.old) (C.turns client.new) }
     ensures read_fault { result ≡ Served.ReadFault → Rose (C.faults client.old) (C.faults client.new) }
     ensures write_fault { result ≡ Served.WriteFault → Rose (C.faults client.old) (C.faults client.new) }
 {
@@ -61,7 +61,7 @@ pub fn serve<R: Wait, C: Client>(rt: &R, alloc: Global, client: &mut C) -> Serve
 
 // The same, before it is reported to the client why it is refused.
 fn hold<R: Wait, C: Client>(rt: &R, alloc: Global, client: &mut C) -> Result<(), ServeStop>
-    ensures said { Holds result (C.turns client.old) (C.turns client.new) }
+    ensures said { Holds result (C.ahead client.old) (C.turns client.old) (C.turns client.new) }
     ensures read_fault { IsErrOf result (ServeStop.Cut TalkStop.ReadFault) → Rose (C.faults client.old) (C.faults client.new) }
     ensures write_fault { IsErrOf result (ServeStop.Cut TalkStop.WriteFault) → Rose (C.faults client.old) (C.faults client.new) }
     ensures later { C.faults client.old ≤ C.faults client.new }

@@ -1,12 +1,15 @@
 // Standard input and output as the client of a dialogue.
-ghost use Rattle.std.specs.Prelude.{◌≡◌, ◌+◌, ◌≤◌, ℕ, None, length, IfOk, IsErrOf};
+ghost use Rattle.std.specs.Prelude.{◌≡◌, ◌+◌, ◌<◌, ◌≤◌, ◌++◌, ℕ, [], None, length, IfOk, IsErrOf};
+ghost use Rattle.std.specs.List.{before_first};
 ghost use Rattle.cm_base.specs.Causes.{Rose};
+ghost use Rattle.cm_base.specs.Lines.{is_line_feed};
+ghost use Rattle.cm_serve.specs.Standard.{Moved, Refilled, unheard_lines};
 
-use crate::client::{Client, HearStop, LINE_LIMIT};
+use crate::client::{Client, LINE_LIMIT};
+use crate::first_line::first_line;
 use cm_base::outside::{Failed, Source};
 use cm_base::standard::{StdSink, StdSource};
-use cm_base::transfer::{WriteFault, write_all};
-use memchr::memchr;
+use cm_base::transfer::{ReadError, WriteFault, write_all};
 use std::alloc::{AllocError, Global};
 use std::io::{Read, Write};
 use std::marker::Model;
@@ -15,9 +18,9 @@ use std::marker::Model;
 const PIECE: usize = 65536;
 
 /// Any reader and any writer as a client. What is said through them isn't reported. Contracts see the
-/// count of their faults.
+/// bytes that weren't heard yet, as far as the reader tells them, and the count of their faults.
 #[derive(Drop)]
-pub struct StdClient<R, W> {
+pub struct StdClient<R: Read, W: Write> {
     source: StdSource<R>,
     sink: StdSink<W>,
     // What was read and not heard yet: from one place up to another.
@@ -26,19 +29,23 @@ pub struct StdClient<R, W> {
     to: usize,
 }
 
-impl<R, W> Model for StdClient<R, W> {
-    ghost use Rattle.std.specs.Prelude.{ℕ, ◌≡◌, ◌+◌, ◌≤◌, length};
+impl<R: Read, W: Write> Model for StdClient<R, W> {
+    ghost use Rattle.std.specs.Prelude.{◌≡◌, ◌+◌, ◌≤◌, length, slice_range};
+    ghost use Rattle.cm_serve.specs.Standard.{Ends};
 
-    ghost Value = { ℕ };
+    ghost Value = { Ends };
 
-    ghost view = { λ c. c.source.faults + c.sink.faults };
+    ghost view = { λ c. record { waiting = slice_range c.piece.items c.from c.to; left = R.remaining c.source.inner; faults = c.source.faults + c.sink.faults } };
 
     ghost invariant = { λ c. (c.from ≤ c.to) × (c.to ≤ length c.piece.items) × (length c.piece.items ≡ 65536) };
 }
 
 impl<R: Read + Drop, W: Write + Drop> StdClient<R, W> {
     /// Before the first line.
-    pub fn new(alloc: Global, reader: R, writer: W) -> Result<StdClient<R, W>, AllocError> {
+    pub fn new(alloc: Global, reader: R, writer: W) -> Result<StdClient<R, W>, AllocError>
+        ensures waiting { IfOk result (λ c. c.waiting ≡ []) }
+        ensures faults { IfOk result (λ c. c.faults ≡ 0) }
+    {
         Ok(StdClient {
             source: StdSource::new(reader),
             sink: StdSink::new(writer),
@@ -50,33 +57,37 @@ impl<R: Read + Drop, W: Write + Drop> StdClient<R, W> {
 }
 
 impl<R: Read, W: Write> StdClient<R, W> {
-    // Moves what was read, up to the next line feed or all where there is none, to the end of a line.
+    // Moves what waits, up to the next line feed or all where there is none, to the end of a line.
     // Reports whether there was one.
-    fn take_line(&mut self, line: &mut Vec<u8>) -> Result<bool, HearStop>
+    fn take_line(&mut self, line: &mut Vec<u8>) -> Result<bool, ReadError>
+        ensures moved { IfOk result (λ ended. Moved ended self.old self.new line.old.items line.new.items) }
         ensures short { IfOk result (λ _. length line.new.items ≤ 1048576) }
-        ensures same { self.new ≡ self.old }
-        ensures fault { ¬ IsErrOf result HearStop.ReadFault }
+        ensures long { IsErrOf result ReadError.TooLong → 1048576 < length (line.old.items ++ before_first is_line_feed self.old.waiting) }
+        ensures fault { ¬ IsErrOf result ReadError.ReadFault }
+        ensures same { self.new.faults ≡ self.old.faults }
     {
         let rest = &self.piece[self.from..self.to];
-        let (count, skipped) = match memchr(b'\n', rest) {
-            Some(at) => (at, at + 1),
-            None => (rest.len(), rest.len()),
-        };
+        let part = first_line(rest);
+        let count = part.len();
         if count > LINE_LIMIT || line.len() > LINE_LIMIT - count {
-            return Err(HearStop::TooLong);
+            return Err(ReadError::TooLong);
         }
-        line.extend_from_slice(&rest[..count])?;
-        self.from += skipped;
-        Ok(skipped > count)
+        let ended = count < rest.len();
+        line.extend_from_slice(part)?;
+        self.from += if ended { count + 1 } else { count };
+        Ok(ended)
     }
 
     // Reads more where all was heard. Reports whether there was anything.
-    fn refill(&mut self) -> Result<bool, HearStop>
-        ensures fault { IsErrOf result HearStop.ReadFault → Rose self.old self.new }
-        ensures later { self.old ≤ self.new }
+    fn refill(&mut self) -> Result<bool, ReadError>
+        requires { self.old.waiting ≡ [] }
+        ensures refilled { IfOk result (λ some. Refilled some self.old self.new) }
+        ensures long { ¬ IsErrOf result ReadError.TooLong }
+        ensures fault { IsErrOf result ReadError.ReadFault → Rose self.old.faults self.new.faults }
+        ensures later { self.old.faults ≤ self.new.faults }
     {
         match self.source.read(&mut self.piece) {
-            Err(Failed) => Err(HearStop::ReadFault),
+            Err(Failed) => Err(ReadError::ReadFault),
             Ok(count) => {
                 self.from = 0;
                 self.to = count;
@@ -89,18 +100,17 @@ impl<R: Read, W: Write> StdClient<R, W> {
 impl<R: Read, W: Write> Client for StdClient<R, W> {
     ghost turns = { λ _. None };
 
-    ghost faults = { λ c. c };
+    ghost ahead = { λ c. unheard_lines c };
 
-    fn hear(&mut self, line: &mut Vec<u8>) -> Result<bool, HearStop> {
-        for _ in 0..u64::MAX {
-            if self.take_line(line)? {
-                return Ok(true);
-            }
+    ghost faults = { λ c. c.faults };
+
+    fn hear(&mut self, line: &mut Vec<u8>) -> Result<bool, ReadError> {
+        while !self.take_line(line)? {
             if !self.refill()? {
-                return Ok(!line.is_empty());
+                return Ok(!line.as_slice().is_empty());
             }
         }
-        Ok(false)
+        Ok(true)
     }
 
     fn say(&mut self, text: &[u8]) -> Result<(), WriteFault> {

@@ -4,9 +4,8 @@ ghost use Rattle.cm_serve.specs.Stops.{heard_stop, read_stop};
 ghost use Rattle.cm_serve.specs.declared.stop.ServeStop.TheVariants as serves;
 ghost use Rattle.cm_serve.specs.declared.stop.TalkStop.TheVariants as stops;
 
-use crate::client::HearStop;
 use cm_base::faults::{ReadStop, Refused};
-use cm_base::transfer::{NoMemory, WriteFault};
+use cm_base::transfer::{NoMemory, ReadError, WriteFault};
 use std::alloc::{AllocError, AllocFailed};
 
 /// Why a dialogue was cut short.
@@ -51,14 +50,14 @@ impl From<WriteFault> for TalkStop {
     }
 }
 
-impl From<HearStop> for TalkStop {
+impl From<ReadError> for TalkStop {
     ghost from_gives = { λ stop e. e ≡ heard_stop stop };
 
-    fn from(stop: HearStop) -> TalkStop {
+    fn from(stop: ReadError) -> TalkStop {
         match stop {
-            HearStop::NoMemory => TalkStop::NoMemory,
-            HearStop::ReadFault => TalkStop::ReadFault,
-            HearStop::TooLong => TalkStop::TooLong,
+            ReadError::NoMemory => TalkStop::NoMemory,
+            ReadError::ReadFault => TalkStop::ReadFault,
+            ReadError::TooLong => TalkStop::TooLong,
         }
     }
 }

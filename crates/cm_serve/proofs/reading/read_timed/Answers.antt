@@ -5,8 +5,8 @@ use Rattle.cm_serve.proofs.Readings.{asks_nothing, gives-along, timed_next}
 use Rattle.cm_serve.specs.declared.said.Said.{Said}
 use Rattle.cm_serve.proofs.reading.read_timed.Goals as goal
 
-pub returns-else-eq-4-clause-value : goal.returns-else-eq-4-clause-value
-returns-else-eq-4-clause-value c =
+pub returns-else-eq-5-clause-value : goal.returns-else-eq-5-clause-value
+returns-else-eq-5-clause-value c =
     let key = c.args.key.now in
     gives-along (λ (said : Said). said) c.read_next.result _ _
     (timed_next c.args.start.now.number c.args.line.now.number c.args.start.now.horizon c.args.before (line_view c.args.line.now) c.args.start.now.time.now (map (λ word. word.now) c.args.words.now) key c.requires.number
@@ -14,5 +14,6 @@ returns-else-eq-4-clause-value c =
     (c.if-eq.ensures ∙ ap (λ (word : List ℕ). bytes_eq key word) c.as_slice.ensures)
     (c.if-eq-2.ensures ∙ ap (λ (word : List ℕ). bytes_eq key word) c.as_slice-else-eq.ensures)
     (c.if-eq-3.ensures ∙ ap (λ (word : List ℕ). bytes_eq key word) c.as_slice-else-eq-2.ensures)
-    (c.if-eq-4.ensures ∙ ap (λ (word : List ℕ). bytes_eq key word) c.as_slice-else-eq-3.ensures)))
+    (c.if-eq-4.ensures ∙ ap (λ (word : List ℕ). bytes_eq key word) c.as_slice-else-eq-3.ensures)
+    (c.if-eq-5.ensures ∙ ap (λ (word : List ℕ). bytes_eq key word) c.as_slice-else-eq-4.ensures)))
     c.read_next.ensures.value

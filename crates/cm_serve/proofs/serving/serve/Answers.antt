@@ -6,12 +6,12 @@ use Rattle.cm_serve.proofs.serving.serve.Goals as goal
 
 pub returns-in-Err-Refused-clause-said : goal.returns-in-Err-Refused-clause-said
 returns-in-Err-Refused-clause-said g c =
-    answered-refused _ (g.C.Client.turns c.hold.new.client) _ c.in-Err-Refused.refused c.decline.result
-    (subst (λ (stop : ServeStop). Holds (Err stop) (g.C.Client.turns c.args.client.now) (g.C.Client.turns c.hold.new.client)) c.in-Err-Refused.field-0-is c.in-Err-Refused.ensures.said)
+    answered-refused (g.C.Client.ahead c.args.client.now) _ (g.C.Client.turns c.hold.new.client) _ c.in-Err-Refused.refused c.decline.result
+    (subst (λ (stop : ServeStop). Holds (Err stop) (g.C.Client.ahead c.args.client.now) (g.C.Client.turns c.args.client.now) (g.C.Client.turns c.hold.new.client)) c.in-Err-Refused.field-0-is c.in-Err-Refused.ensures.said)
     c.decline.ensures.said
 
 pub returns-in-Err-Cut-TooLong-clause-said : goal.returns-in-Err-Cut-TooLong-clause-said
 returns-in-Err-Cut-TooLong-clause-said g c =
-    answered-cut _ (g.C.Client.turns c.hold.new.client) _ c.decline-in-Err-Cut-TooLong.result
-    (subst (λ (stop : ServeStop). Holds (Err stop) (g.C.Client.turns c.args.client.now) (g.C.Client.turns c.hold.new.client)) c.in-Err-Cut-TooLong.field-0-is c.in-Err-Cut-TooLong.ensures.said)
+    answered-cut (g.C.Client.ahead c.args.client.now) _ (g.C.Client.turns c.hold.new.client) _ c.in-Err-Cut-TooLong.field-0-0 c.decline-in-Err-Cut-TooLong.result c.in-Err-Cut-TooLong.field-0-0-is
+    (subst (λ (stop : ServeStop). Holds (Err stop) (g.C.Client.ahead c.args.client.now) (g.C.Client.turns c.args.client.now) (g.C.Client.turns c.hold.new.client)) c.in-Err-Cut-TooLong.field-0-is c.in-Err-Cut-TooLong.ensures.said)
     c.decline-in-Err-Cut-TooLong.ensures.said

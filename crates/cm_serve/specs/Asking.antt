@@ -1,0 +1,83 @@
+-- What a client asks between the lines of a session. Each question is a line of a session in other words: it has that line's checks
+-- and that line's effect, and where nothing refuses it, more is reported than for the line.
+use Rattle.std.specs.Prelude.{ℕ, max, min, List, ◌++◌, codes, Option, Some, None}
+use Rattle.std.specs.Fmt.{decimal}
+use Rattle.cm_signal.specs.Setting.{Setting}
+use Rattle.cm_session.specs.declared.op.Op.{Op}
+use Rattle.cm_session.specs.declared.op.Op.TheVariants as ops
+use Rattle.cm_session.specs.declared.op.SessionLine.{SessionLine}
+use Rattle.cm_text.specs.Outputs.{output_texts}
+use Rattle.cm_replay.specs.Answers.{Answer, Holds}
+use Rattle.cm_replay.specs.Awaiting.{await_time}
+use Rattle.cm_replay.specs.Reading.{peeked, reported_end}
+use Rattle.cm_replay.specs.Running.{Running}
+use Rattle.cm_replay.specs.Session.{brought_all, step}
+use Rattle.cm_replay.specs.State.{State, device_at}
+use Rattle.cm_replay.specs.Texts.{answer_text, codes_answer, codes_text, count_text}
+use Rattle.cm_replay.specs.declared.ending.End.{End}
+use Rattle.cm_replay.specs.declared.ending.End.TheVariants.{Done, Dry, Overrun, Underrun, Fifo}
+use Rattle.cm_serve.specs.declared.asked.Asked.{Asked}
+use Rattle.cm_serve.specs.declared.asked.Fetch.{Fetch}
+use Rattle.cm_serve.specs.declared.asked.Question.{Question}
+use Rattle.cm_serve.specs.declared.asked.Question.TheVariants.{Await, Info, Codes, Peek}
+
+-- the line that a question is in other words
+abbrev pub asked_op : ℕ → Question → Op
+asked_op sub (Await n) = ops.Contents sub
+asked_op sub Info = ops.Contents sub
+asked_op sub (Codes n) = ops.Read sub n
+asked_op sub (Peek from n) = ops.Contents sub
+
+abbrev pub line_of : Asked → SessionLine
+line_of asked = record { time = asked.time; file = asked.file; op = asked_op asked.sub asked.question }
+
+-- how a command stands, as its client sees it: an input's end is seen where nothing is left to read
+abbrev pub standing : Option End → List ℕ
+standing None = codes "runs"
+standing (Some Done) = codes "done"
+standing (Some Dry) = codes "dry"
+standing (Some (Overrun k)) = codes "overrun " ++ decimal k
+standing (Some (Underrun k)) = codes "underrun " ++ decimal k
+standing (Some (Fifo k)) = codes "fifo " ++ decimal k
+
+-- the places up to which samples were read and written, and how the command stands
+abbrev pub info_text : Option Running → List ℕ
+info_text None = codes "ok 0 0 idle\n"
+info_text (Some c) = codes "ok " ++ decimal c.r ++ codes " " ++ decimal c.w ++ codes " " ++ standing (reported_end c) ++ codes "\n"
+
+-- what is reported at a time of a command that was brought to it, where the line answers this
+abbrev pub report : Question → ℕ → Option Running → Answer → List ℕ
+report (Await n) time running (Holds k) = count_text (await_time n time running)
+report Info time running (Holds k) = info_text running
+report (Codes n) time running answer = codes_answer answer
+report (Peek from n) time running (Holds k) = codes_text (peeked from n running)
+report question time running answer = answer_text answer
+
+-- the command that is asked about, brought to the time of the question
+abbrev pub asked_about : Asked → State → Option Running
+asked_about asked state = (device_at (brought_all asked.time state).devices asked.sub).running
+
+-- what is written for a question: what was put out by its time, and what is reported
+abbrev pub asked_text : Setting → Asked → State → List ℕ
+asked_text s asked state =
+    output_texts (step s (line_of asked) state).outputs
+    ++ report asked.question asked.time (asked_about asked state) (step s (line_of asked) state).answer
+
+-- the time that a question tells: where an await is answered, that of its answer, and else its own
+abbrev pub told_time : Question → ℕ → Option Running → Answer → ℕ
+told_time (Await n) time running (Holds k) = await_time n time running
+told_time question time running answer = time
+
+abbrev pub asked_time : Setting → Asked → State → ℕ
+asked_time s asked state = told_time asked.question asked.time (asked_about asked state) (step s (line_of asked) state).answer
+
+-- a fetch awaits samples, and takes some at a time
+abbrev pub awaits : Fetch → Asked
+awaits fetch = record { time = fetch.time; file = fetch.file; sub = fetch.sub; question = Await fetch.wanted }
+
+abbrev pub takes : ℕ → Fetch → Asked
+takes time fetch = record { time = time; file = fetch.file; sub = fetch.sub; question = Codes fetch.n }
+
+-- that time is the one that the await tells, and neither before the fetch nor after the horizon
+abbrev pub taking_time : Setting → Fetch → State → ℕ
+taking_time s fetch state = max fetch.time (min s.signals.horizon (asked_time s (awaits fetch) state))
