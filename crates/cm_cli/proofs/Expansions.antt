@@ -17,7 +17,7 @@ use Rattle.cm_expand.specs.declared.conv.Conv.{Conv}
 use Rattle.cm_job.specs.ExpandLines.{plan_of}
 use Rattle.cm_job.specs.declared.expand_lines.ExpandLine.{ExpandLine}
 use Rattle.cm_cli.specs.ExpandSession.{conversion_line, end_line, expands_text, expansion_text}
-use Rattle.cm_cli.proofs.Texts.{next-item}
+use Rattle.cm_replay.proofs.Folds.{left-next}
 
 -- the text of what a board has left
 abbrev pub left_text : BoardState → List ℕ
@@ -85,4 +85,4 @@ pub expansion-gathered : (board : BoardText) (signals : SignalsText) (a b : Opti
 expansion-gathered board signals a b lines i line p text whole within is same way =
     under_way-more a b text (text ++ expansion_text p) (expansion_text (plan_of board signals line)) (expands_text board signals (drop (i + 1) lines)) whole
     (ap (λ (q : PlanText). text ++ expansion_text q) same)
-    (subst (λ (ls : List ExpandLine). IsUnderWay a b text (expands_text board signals ls) whole) (next-item lines i line within is) way)
+    (subst (λ (ls : List ExpandLine). IsUnderWay a b text (expands_text board signals ls) whole) (left-next lines i line within is) way)

@@ -1,13 +1,10 @@
 pub mod Answer
+pub mod Answers
 pub mod Asked
-pub mod Calls
-pub mod Comedi
+pub mod Commands
 pub mod ExpandSession
 pub mod Said
 pub mod Serving
 pub mod Statuses
 pub mod Stopped
-pub mod Tasks
 pub mod TestSession
-pub mod ThreadedSaid
-pub mod Top

@@ -1,27 +1,30 @@
 // The top call of the program, with threads.
-ghost use Rattle.std.specs.Prelude.{◌≡◌, ◌≢◌, ◌⊎◌, ℕ, None, IfSome, IsSome, codes};
-ghost use Rattle.std.specs.Io.KnownBytes.{Appends, Keeps};
+ghost use Rattle.std.specs.Prelude.{◌≡◌, ◌≤◌, true, IsErrOf, Ok};
 ghost use Rattle.cm_base.specs.Causes.{Rose};
-ghost use Rattle.cm_cli.specs.Calls.{call_of};
-ghost use Rattle.cm_cli.specs.Comedi.{Ends, SoakConcludes, Stands};
-ghost use Rattle.cm_cli.specs.Tasks.{task_of};
+ghost use Rattle.cm_cli.specs.Answers.{Answers, Does, end_at};
+ghost use Rattle.cm_cli.specs.Commands as spec;
+ghost use Rattle.cm_cli.specs.Said.{Soaks};
+ghost use Rattle.cm_cli.specs.Serving.{Serves};
 
-use crate::answer::answer;
-use crate::call::{Call, call_of};
-use crate::soaking::perform_soak;
+use crate::answer::answered;
+use crate::command::{Command, call_of};
+use crate::flow::{conclude, read_input, report};
 use crate::status::Status;
-use crate::threaded::perform_threaded;
+use crate::stop::Stop;
+use crate::threaded::stream;
 use cm_base::gate::Gate;
 use cm_base::outside::{Sink, Source};
+use cm_base::transfer::write_all;
+use cm_run::soak::whole::soak_whole;
 use std::alloc::Global;
 use std::sync::Wait;
 use std::thread::Threads;
 
-/// Does what the arguments call for with the input, and writes the text: `run` streams the lines of a
-/// job beside each other, `watch` does so with one client for all, `loop` filters an input into an
-/// output, `soak N` streams a large job made from a number and reads no input, and other arguments go
-/// to `answer`. Where it runs threads, all of them have ended when it returns. A test may hold them at
-/// the points of a gate.
+/// Does the command that the arguments name with the input, and writes the text: `run` streams the
+/// lines of a job beside each other, `watch` does so with one client for all, `loop` filters an input
+/// into an output, `soak N` streams a large job made from a number and reads no input, and the others
+/// are those of `answer`. Where it runs threads, all of them have ended when it returns. A test may
+/// hold them at the points of a gate.
 ///
 /// Whatever the input says and whatever the order of the threads' steps, status 0 comes with exactly
 /// the text of the definitions, and with `run` with one of the texts that they allow: each sample in
@@ -35,29 +38,74 @@ pub fn comedi<R: Threads + Wait + Sync, S: Source, K: Sink, G: Gate + Sync>(
     sink: &mut K,
     gate: &G,
 ) -> Status
-    // The status is that of the call's outcome, with its text, unless the run was cut short.
-    ensures outcome { IfSome (S.left source.old) (λ bytes.
-        Ends result (call_of words.now) words.now bytes (K.text sink.old) (K.text sink.new)) }
-    ensures soak { (n : ℕ) → call_of words.now ≡ Call.Soak n → SoakConcludes result n (K.text sink.old) (K.text sink.new) }
-    ensures soak_unread { (n : ℕ) → call_of words.now ≡ Call.Soak n → (S.left source.new ≡ S.left source.old) × (S.faults source.new ≡ S.faults source.old) }
-    ensures stands { result ≡ Status.Done → Stands (call_of words.now) (S.left source.old) (S.left source.new) }
-
-    // Arguments that call for nothing, also over a source that reports nothing.
-    ensures usage { result ≡ Status.Usage → (call_of words.now ≡ Call.Answer) × (task_of words.now ≡ None) }
-    ensures misused { call_of words.now ≡ Call.Answer → task_of words.now ≡ None → (result ≡ Status.Usage) ⊎ (result ≡ Status.WriteFault) }
-    ensures unread { call_of words.now ≡ Call.Answer → task_of words.now ≡ None → S.left source.new ≡ S.left source.old }
-    ensures untouched { call_of words.now ≡ Call.Answer → task_of words.now ≡ None → S.faults source.new ≡ S.faults source.old }
-    ensures reported { result ≡ Status.Usage → Appends (K.text sink.old) (K.text sink.new) (codes "usage\n") }
-    ensures silent { result ≡ Status.ReadFault → Keeps (K.text sink.old) (K.text sink.new) }
-
-    // What cuts a run short.
-    ensures read_fault { result ≡ Status.ReadFault → Rose (S.faults source.old) (S.faults source.new) }
-    ensures write_fault { result ≡ Status.WriteFault → Rose (K.faults sink.old) (K.faults sink.new) }
-    ensures no_memory { call_of words.now ≡ Call.Answer → result ≡ Status.NoMemory → IsSome (task_of words.now) }
+    ensures { Answers (spec.call_of words.now) result
+        (end_at (S.left source.old) (S.faults source.old)) (end_at (S.left source.new) (S.faults source.new))
+        (end_at (K.text sink.old) (K.faults sink.old)) (end_at (K.text sink.new) (K.faults sink.new)) }
 {
     match call_of(words) {
-        Call::Threads(call) => perform_threaded(rt, alloc, call, source, sink, gate),
-        Call::Soak(n) => perform_soak(rt, alloc, n, sink, gate),
-        Call::Answer => answer(alloc, words, source, sink),
+        None => conclude(sink, b"usage\n", Status::Usage),
+        Some(command) => {
+            let done = performed(rt, alloc, command, source, sink, gate);
+            report(alloc, done, sink)
+        }
     }
+}
+
+// Does a command.
+fn performed<R: Threads + Wait + Sync, S: Source, K: Sink, G: Gate + Sync>(
+    rt: &R,
+    alloc: Global,
+    command: Command,
+    source: &mut S,
+    sink: &mut K,
+    gate: &G,
+) -> Result<(), Stop>
+    requires { spec.IsSound command }
+    ensures { Does command result
+        (end_at (S.left source.old) (S.faults source.old)) (end_at (S.left source.new) (S.faults source.new))
+        (end_at (K.text sink.old) (K.faults sink.old)) (end_at (K.text sink.new) (K.faults sink.new)) }
+{
+    match command {
+        Command::Soak(n) => soaked(rt, alloc, n, sink, gate),
+        Command::Run | Command::Watch | Command::Loop => {
+            streamed(rt, alloc, command, source, sink, gate)
+        }
+        _ => answered(alloc, command, source, sink),
+    }
+}
+
+// Streams a job with threads.
+fn streamed<R: Threads + Wait + Sync, S: Source, K: Sink, G: Gate + Sync>(
+    rt: &R,
+    alloc: Global,
+    command: Command,
+    source: &mut S,
+    sink: &mut K,
+    gate: &G,
+) -> Result<(), Stop>
+    requires { spec.streams command ≡ true }
+    ensures { Does command result
+        (end_at (S.left source.old) (S.faults source.old)) (end_at (S.left source.new) (S.faults source.new))
+        (end_at (K.text sink.old) (K.faults sink.old)) (end_at (K.text sink.new) (K.faults sink.new)) }
+{
+    let bytes = read_input(alloc, source)?;
+    stream(rt, alloc, command, &bytes, sink, gate)
+}
+
+// Streams so many samples through four rings at once, and writes their numbers and sums.
+fn soaked<R: Threads + Wait + Sync, K: Sink, G: Gate + Sync>(
+    rt: &R,
+    alloc: Global,
+    n: u32,
+    sink: &mut K,
+    gate: &G,
+) -> Result<(), Stop>
+    requires { (1 ≤ n) × (n ≤ 4000000) }
+    ensures said { Serves result (Ok (Soaks n)) (K.text sink.old) (K.text sink.new) }
+    ensures fault { IsErrOf result Stop.WriteFault → Rose (K.faults sink.old) (K.faults sink.new) }
+    ensures later { K.faults sink.old ≤ K.faults sink.new }
+{
+    let text = soak_whole(rt, alloc, n, gate)?;
+    write_all(sink, &text)?;
+    Ok(())
 }

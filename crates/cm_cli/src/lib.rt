@@ -3,14 +3,13 @@
 
 pub mod answer;
 pub mod asked;
-pub mod call;
 pub mod comedi;
+pub mod command;
 pub mod expanding;
+mod flow;
 pub mod jobs;
 pub mod serving;
-mod soaking;
 pub mod status;
 pub mod stop;
-pub mod task;
 pub mod testing;
 mod threaded;

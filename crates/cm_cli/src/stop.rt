@@ -4,13 +4,14 @@ ghost use Rattle.cm_cli.specs.Stopped.{stop_of, text_stop};
 ghost use Rattle.cm_cli.specs.declared.stop.Stop.TheVariants as stops;
 
 use cm_base::faults::{ReadStop, Refused};
-use cm_base::transfer::{NoMemory, TextStop};
+use cm_base::transfer::{NoMemory, TextStop, WriteFault};
 
 /// Why a job is not done.
 #[derive(Clone, Copy, Debug, PartialEq, Eq)]
 pub enum Stop {
     NoMemory,
     Refused(Refused),
+    ReadFault,
     WriteFault,
 }
 
@@ -19,6 +20,14 @@ impl From<NoMemory> for Stop {
 
     fn from(_: NoMemory) -> Stop {
         Stop::NoMemory
+    }
+}
+
+impl From<WriteFault> for Stop {
+    ghost from_gives = { λ _ stop. stop ≡ stops.WriteFault };
+
+    fn from(_: WriteFault) -> Stop {
+        Stop::WriteFault
     }
 }
 

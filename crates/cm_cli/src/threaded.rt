@@ -1,22 +1,22 @@
-// The calls that stream a job with threads.
-ghost use Rattle.std.specs.Prelude.{◌≡◌, ◌≢◌, ◌<◌, ◌≤◌, ◌-◌, ◌^◌, drop, length, Ok, IfOk, IfSome};
-ghost use Rattle.std.specs.Io.KnownBytes.{Keeps, IsAtEnd};
+// The commands that stream a job with threads.
+ghost use Rattle.std.specs.Prelude.{◌≡◌, true, ◌<◌, ◌≤◌, ◌-◌, ◌^◌, drop, length, Ok, IfOk, IsErrOf};
 ghost use Rattle.cm_base.specs.Causes.{Rose};
 ghost use Rattle.cm_base.specs.ReadStop.{Gives};
 ghost use Rattle.cm_signal.specs.Fitting.{FitBoard};
-ghost use Rattle.cm_cli.specs.ThreadedSaid as spec;
+ghost use Rattle.cm_cli.specs.Commands as spec;
+ghost use Rattle.cm_cli.specs.Said.{MayGive, Streams, lines_said, said, session_said};
+ghost use Rattle.cm_cli.specs.Serving.{Serves};
 
-use crate::answer::{BYTE_LIMIT, decline};
-use crate::call::Threaded;
+use crate::command::Command;
 use crate::jobs::ThreadJob;
-use crate::status::Status;
-use cm_base::faults::{Fault, ReadStop, Refused};
+use crate::stop::Stop;
+use cm_base::faults::ReadStop;
 use cm_base::gate::Gate;
 use cm_base::lines::{Lines, split_lines};
-use cm_base::outside::{Sink, Source};
-use cm_base::transfer::{NoMemory, ReadError, WriteFault, read_all};
+use cm_base::outside::Sink;
+use cm_base::transfer::NoMemory;
 use cm_board::board::BoardDesc;
-use cm_board::reading::read_board;
+use cm_board_text::reading::read_board;
 use cm_job::job::RunJob;
 use cm_job::loop_reading::read_loop;
 use cm_job::reading::{read_run, read_watch};
@@ -31,58 +31,23 @@ use std::alloc::Global;
 use std::sync::Wait;
 use std::thread::Threads;
 
-/// Streams the job that the source says, and writes its text.
-pub(crate) fn perform_threaded<R: Threads + Wait + Sync, S: Source, K: Sink, G: Gate + Sync>(
+/// Streams the job that a whole text says, and writes its text: nothing is written where it is refused.
+pub(crate) fn stream<R: Threads + Wait + Sync, K: Sink, G: Gate + Sync>(
     rt: &R,
     alloc: Global,
-    call: Threaded,
-    source: &mut S,
-    sink: &mut K,
-    gate: &G,
-) -> Status
-    ensures outcome { IfSome (S.left source.old) (λ bytes.
-        spec.RunConcludes result (spec.job_of_bytes call bytes) (K.text sink.old) (K.text sink.new)) }
-    ensures at_end { result ≡ Status.Done → IsAtEnd (S.left source.new) }
-    ensures usage { result ≢ Status.Usage }
-    ensures read_fault { result ≡ Status.ReadFault → Rose (S.faults source.old) (S.faults source.new) }
-    ensures silent { result ≡ Status.ReadFault → Keeps (K.text sink.old) (K.text sink.new) }
-    ensures write_fault { result ≡ Status.WriteFault → Rose (K.faults sink.old) (K.faults sink.new) }
-{
-    match read_all(alloc, source, BYTE_LIMIT) {
-        Ok(bytes) => respond(rt, alloc, call, &bytes, sink, gate),
-        Err(ReadError::NoMemory) => Status::NoMemory,
-        Err(ReadError::ReadFault) => Status::ReadFault,
-        Err(ReadError::TooLong) => decline(
-            alloc,
-            Refused {
-                line: 0,
-                cause: Fault::TooLong,
-            },
-            sink,
-        ),
-    }
-}
-
-// Streams the job that a whole text says.
-fn respond<R: Threads + Wait + Sync, K: Sink, G: Gate + Sync>(
-    rt: &R,
-    alloc: Global,
-    call: Threaded,
+    command: Command,
     bytes: &[u8],
     sink: &mut K,
     gate: &G,
-) -> Status
-    requires { length bytes.now ≤ 1048576 }
-    ensures outcome { spec.RunConcludes result (spec.text_said call bytes.now) (K.text sink.old) (K.text sink.new) }
-    ensures usage { result ≢ Status.Usage }
-    ensures read_fault { result ≢ Status.ReadFault }
-    ensures write_fault { result ≡ Status.WriteFault → Rose (K.faults sink.old) (K.faults sink.new) }
+) -> Result<(), Stop>
+    requires streams { spec.streams command ≡ true }
+    requires few { length bytes.now < 2 ^ 32 - 1 }
+    ensures said { Serves result (said command bytes.now) (K.text sink.old) (K.text sink.new) }
+    ensures fault { IsErrOf result Stop.WriteFault → Rose (K.faults sink.old) (K.faults sink.new) }
+    ensures later { K.faults sink.old ≤ K.faults sink.new }
 {
-    match read_job(alloc, call, bytes) {
-        Ok(job) => write_text(rt, alloc, &job, sink, gate),
-        Err(ReadStop::NoMemory) => Status::NoMemory,
-        Err(ReadStop::Refused(refused)) => decline(alloc, refused, sink),
-    }
+    let job = read_job(alloc, command, bytes)?;
+    write_text(rt, alloc, &job, sink, gate)
 }
 
 // Streams a job and writes its text.
@@ -92,19 +57,14 @@ fn write_text<R: Threads + Wait + Sync, K: Sink, G: Gate + Sync>(
     job: &ThreadJob,
     sink: &mut K,
     gate: &G,
-) -> Status
-    ensures outcome { spec.Runs result job.now (K.text sink.old) (K.text sink.new) }
-    ensures usage { result ≢ Status.Usage }
-    ensures read_fault { result ≢ Status.ReadFault }
-    ensures write_fault { result ≡ Status.WriteFault → Rose (K.faults sink.old) (K.faults sink.new) }
+) -> Result<(), Stop>
+    ensures said { Serves result (Ok (Streams job.now)) (K.text sink.old) (K.text sink.new) }
+    ensures fault { IsErrOf result Stop.WriteFault → Rose (K.faults sink.old) (K.faults sink.new) }
+    ensures later { K.faults sink.old ≤ K.faults sink.new }
 {
-    match stream_text(rt, alloc, job, gate) {
-        Ok(text) => match text.write(sink) {
-            Ok(()) => Status::Done,
-            Err(WriteFault) => Status::WriteFault,
-        },
-        Err(NoMemory) => Status::NoMemory,
-    }
+    let text = stream_text(rt, alloc, job, gate)?;
+    text.write(sink)?;
+    Ok(())
 }
 
 // Streams a job, and gives its text.
@@ -114,7 +74,7 @@ fn stream_text<R: Threads + Wait + Sync, G: Gate + Sync>(
     job: &ThreadJob,
     gate: &G,
 ) -> Result<Blocks, NoMemory>
-    ensures { IfOk result (λ text. spec.MayGive job.now text) }
+    ensures { IfOk result (λ text. MayGive job.now text) }
 {
     match job {
         ThreadJob::Run(job) => Ok(run_job(rt, alloc, job, gate)?.text),
@@ -124,36 +84,39 @@ fn stream_text<R: Threads + Wait + Sync, G: Gate + Sync>(
 }
 
 // The job that a text says.
-fn read_job(alloc: Global, call: Threaded, bytes: &[u8]) -> Result<ThreadJob, ReadStop>
-    requires { length bytes.now < 2 ^ 32 - 1 }
-    ensures { Gives (λ job. job) result (spec.text_said call bytes.now) }
+fn read_job(alloc: Global, command: Command, bytes: &[u8]) -> Result<ThreadJob, ReadStop>
+    requires streams { spec.streams command ≡ true }
+    requires few { length bytes.now < 2 ^ 32 - 1 }
+    ensures { Gives (λ job. Streams job) result (said command bytes.now) }
 {
     let lines = split_lines(alloc, bytes)?;
-    read_lines(alloc, call, &lines)
+    read_lines(alloc, command, &lines)
 }
 
-fn read_lines(alloc: Global, call: Threaded, lines: &Lines<'_>) -> Result<ThreadJob, ReadStop>
-    ensures { Gives (λ job. job) result (spec.lines_said call lines.now.end lines.now.list) }
+fn read_lines(alloc: Global, command: Command, lines: &Lines<'_>) -> Result<ThreadJob, ReadStop>
+    requires { spec.streams command ≡ true }
+    ensures { Gives (λ job. Streams job) result (lines_said command lines.now.end lines.now.list) }
 {
     let (board, at) = read_board(alloc, lines)?;
     let (signals, at) = read_signals(alloc, &board, lines, at)?;
-    read_session(alloc, call, board, signals, lines, at)
+    read_session(alloc, command, board, signals, lines, at)
 }
 
 // The job of the session part over a board and signals.
 fn read_session(
     alloc: Global,
-    call: Threaded,
+    command: Command,
     board: BoardDesc,
     signals: Signals,
     lines: &Lines<'_>,
     at: usize,
 ) -> Result<ThreadJob, ReadStop>
-    requires { FitBoard board.subs signals }
-    ensures { Gives (λ job. job) result (spec.job_of call board signals lines.now.end (drop at lines.now.list)) }
+    requires streams { spec.streams command ≡ true }
+    requires fits { FitBoard board.subs signals }
+    ensures { Gives (λ job. Streams job) result (session_said command (record { board = board; signals = signals }) lines.now.end (drop at lines.now.list)) }
 {
-    match call {
-        Threaded::Run => {
+    match command {
+        Command::Run => {
             let session = read_run(alloc, &board, &signals, lines, at)?;
             Ok(ThreadJob::Run(RunJob {
                 board,
@@ -161,10 +124,11 @@ fn read_session(
                 lines: session,
             }))
         }
-        Threaded::Watch => {
+        Command::Watch => {
             let session = read_watch(alloc, &board, &signals, lines, at)?;
             Ok(ThreadJob::Watch(WatchJob::new(board, signals, session)))
         }
-        Threaded::Loop => Ok(ThreadJob::Loop(read_loop(alloc, board, signals, lines, at)?)),
+        Command::Loop => Ok(ThreadJob::Loop(read_loop(alloc, board, signals, lines, at)?)),
+        _ => unreachable!(),
     }
 }

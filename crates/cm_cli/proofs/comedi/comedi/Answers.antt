@@ -1,0 +1,15 @@
+use Rattle.std.proofs.Common.{Option, subst}
+use Rattle.cm_cli.specs.Answers.{Answers, End, end_at}
+use Rattle.cm_cli.specs.declared.command.Command.{Command}
+use Rattle.cm_cli.proofs.Ends.{reported}
+use Rattle.cm_cli.proofs.comedi.comedi.Goals as goal
+
+pub returns-in-Some : goal.returns-in-Some
+returns-in-Some g c =
+    let left : End = end_at (g.S.Source.left c.args.source.now) (g.S.Source.faults c.args.source.now) in
+    let rest : End = end_at (g.S.Source.left c.performed-done.new.source) (g.S.Source.faults c.performed-done.new.source) in
+    let taken : End = end_at (g.K.Sink.text c.args.sink.now) (g.K.Sink.faults c.args.sink.now) in
+    let mid : End = end_at (g.K.Sink.text c.performed-done.new.sink) (g.K.Sink.faults c.performed-done.new.sink) in
+    let text : End = end_at (g.K.Sink.text c.report.new.sink) (g.K.Sink.faults c.report.new.sink) in
+    subst (λ (called : Option Command). Answers called c.report.result left rest taken text) c.in-Some.ensures.value
+    (reported c.in-Some.command c.performed-done.result c.report.result left rest taken mid text c.performed-done.ensures c.report.ensures)
