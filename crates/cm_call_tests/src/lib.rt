@@ -1,18 +1,10 @@
-// Tests of the crates between the readers and the threads: each call once, at worked values.
+// Tests of calls without threads, at worked values that no job shows.
 #![tactic(auto)]
 
 #[cfg(test)]
 mod base;
 #[cfg(test)]
-mod expand;
-#[cfg(test)]
-mod fifo;
-#[cfg(test)]
-mod insn;
-#[cfg(test)]
-mod job;
-#[cfg(test)]
-mod replay;
+mod printing;
 #[cfg(test)]
 mod ring_core;
 #[cfg(test)]
@@ -21,7 +13,3 @@ mod sample;
 mod serve;
 #[cfg(test)]
 mod sub;
-#[cfg(test)]
-mod test;
-#[cfg(test)]
-mod text;

@@ -1,6 +1,6 @@
 // Dialogues in memory.
-use cm_base::transfer::{NoMemory, WriteFault};
-use cm_serve::client::{Client, HearStop, LINE_LIMIT};
+use cm_base::transfer::{NoMemory, ReadError, WriteFault};
+use cm_serve::client::{Client, LINE_LIMIT};
 use cm_serve::script::{Script, Spoken};
 use cm_serve::serving::{Served, serve};
 use cm_serve::standard::StdClient;
@@ -58,13 +58,12 @@ fn script_of(alloc: Global, talk: &[u8], fails: Vec<u64>) -> Result<Script, NoMe
     let mut lines = Vec::new(alloc);
     let mut line: Vec<u8> = Vec::new(alloc);
     for byte in talk {
+        line.push(*byte)?;
         if *byte == b'\n' {
             if line.starts_with(b"> ") {
-                lines.push(Vec::from_slice(alloc, &line[2..])?)?;
+                lines.extend_from_slice(&line[2..])?;
             }
             line.clear();
-        } else {
-            line.push(*byte)?;
         }
     }
     Ok(Script::new(alloc, lines, fails))
@@ -204,16 +203,46 @@ fn lines_are_heard_byte_by_byte(rt: HostRuntime) -> Result<(), Fail> {
 fn a_line_has_a_mebibyte(rt: HostRuntime) -> Result<(), Fail> {
     for (len, wanted) in [
         (LINE_LIMIT, Ok(true)),
-        (LINE_LIMIT + 1, Err(HearStop::TooLong)),
+        (LINE_LIMIT + 1, Err(ReadError::TooLong)),
     ] {
-        let reader = Dripping {
-            bytes: Vec::from_elem(rt.alloc(), b'x', len)?,
-            at: 0,
-            step: 50_000,
-        };
-        let mut client = StdClient::new(rt.alloc(), reader, Narrow { room: 0 })?;
-        let mut line = Vec::new(rt.alloc());
-        assert_eq!(rt; client.hear(&mut line), wanted);
+        for ends in [false, true] {
+            let mut bytes = Vec::from_elem(rt.alloc(), b'x', len)?;
+            if ends {
+                bytes.extend_from_slice(b"\nlast")?;
+            }
+            let reader = Dripping {
+                bytes,
+                at: 0,
+                step: 50_000,
+            };
+            let mut client = StdClient::new(rt.alloc(), reader, Narrow { room: 0 })?;
+            let mut line = Vec::new(rt.alloc());
+            assert_eq!(rt; client.hear(&mut line), wanted);
+            if wanted == Ok(true) {
+                assert_eq!(rt; line.len(), LINE_LIMIT);
+                line.clear();
+                assert_eq!(rt; client.hear(&mut line), Ok(ends));
+                assert_eq!(rt; line.len(), if ends { 4 } else { 0 });
+            }
+        }
+    }
+    Ok(())
+}
+
+// A head of as many bytes as a mebibyte may have, and of one more.
+#[test]
+fn a_head_has_a_mebibyte(rt: HostRuntime) -> Result<(), Fail> {
+    for (len, wanted) in [
+        (LINE_LIMIT - 12, b"refused 3 Missing\n".as_slice()),
+        (LINE_LIMIT - 11, b"refused 0 TooLong\n".as_slice()),
+    ] {
+        let mut text = Vec::from_slice(rt.alloc(), b"comedi 1\n#")?;
+        text.resize(len + 11, b'x')?;
+        text.push(b'\n')?;
+        let mut client = Script::new(rt.alloc(), text, Vec::new(rt.alloc()));
+        assert_eq!(rt; serve(&rt, rt.alloc(), &mut client), Served::Refused);
+        let talk = transcript(rt.alloc(), client.spoken())?;
+        assert!(rt; talk.ends_with(wanted));
     }
     Ok(())
 }
@@ -229,5 +258,47 @@ fn an_answer_is_said_whole(rt: HostRuntime) -> Result<(), Fail> {
     assert_eq!(rt; client.say(b"ok\n"), Ok(()));
     assert_eq!(rt; client.say(b""), Ok(()));
     assert_eq!(rt; client.say(b"ok\n"), Err(WriteFault));
+    Ok(())
+}
+
+// A writer that takes up to 30,000 bytes at a time and 200,000 in all, each one more than the last.
+#[derive(Drop)]
+struct Counting {
+    next: u8,
+    taken: u32,
+}
+
+impl Write for Counting {
+    fn write(&mut self, buf: &[u8]) -> IoResult<usize> {
+        let count = buf.len().min(30_000);
+        for byte in &buf[..count] {
+            if *byte != self.next || self.taken >= 200_000 {
+                return Err(Error::from(ErrorKind::InvalidData));
+            }
+            self.next = self.next.wrapping_add(1);
+            self.taken += 1;
+        }
+        Ok(count)
+    }
+
+    fn flush(&mut self) -> IoResult<()> {
+        Ok(())
+    }
+}
+
+#[test]
+fn a_long_answer_is_said_whole(rt: HostRuntime) -> Result<(), Fail> {
+    let mut answer = Vec::new(rt.alloc());
+    for at in 0..200_000u32 {
+        answer.push((at % 256) as u8)?;
+    }
+    let reader = Dripping {
+        bytes: Vec::new(rt.alloc()),
+        at: 0,
+        step: 1,
+    };
+    let mut client = StdClient::new(rt.alloc(), reader, Counting { next: 0, taken: 0 })?;
+    assert_eq!(rt; client.say(&answer), Ok(()));
+    assert_eq!(rt; client.say(b"@"), Err(WriteFault));
     Ok(())
 }

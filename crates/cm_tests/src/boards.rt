@@ -1,4 +1,4 @@
-// The boards of the tests.
+// The board of the tests, and its signals.
 
 /// An analog input of 16 bits with two ranges, an analog output of 12 bits, eight digital channels,
 /// and a place that holds nothing.
@@ -34,71 +34,6 @@ bits 1
 munge none
 range 0 1 2
 subdevice unused 0
-";
-
-/// An analog input of 8 bits with a buffer of four samples.
-pub const FIRST: &str = "comedi 1
-board first
-subdevice ai 1
-bits 8
-range 0 255 0
-sources now timer now count count
-tick 1
-scan 1 1000000
-convert 1 1
-list 1
-buffer 4
-";
-
-/// An analog input of version 2 that starts and stops at edges of its line, rising or falling.
-pub const GATE: &str = "comedi 2
-board gate
-subdevice ai 1
-bits 8
-range 0 255 0
-sources now|ext timer|ext now count none|ext
-tick 1
-scan 1 1000000
-convert 1 1
-list 1
-lines 1
-buffer 8
-invert
-";
-
-/// Rises and falls of its line.
-pub const GATE_EDGES: &str = "signals 10000\nedges 0 500 3200\nfalls 0 700 2500\nsession\n";
-
-/// Two channels and two lines. Each trigger but the end of a scan may be an edge, rising or falling.
-pub const LINES: &str = "comedi 2
-board lines
-subdevice ai 2
-bits 8
-range 0 255 0
-sources now|ext timer|ext now|timer|ext count none|count|ext
-tick 1
-scan 1 1000000
-convert 1 1000
-list 2
-lines 2
-buffer 8
-invert
-";
-
-/// Two channels, the second with its own bits, munge and range: the lines after that of the version.
-pub const TWO: &str = "board two
-subdevice ai 2
-bits 8
-range 0 255 0
-sources now timer now count count
-tick 1
-scan 1 1000000
-convert 1 1
-list 2
-buffer 4
-chan 1 bits 4
-chan 1 munge offset
-chan 1 range 0 15 0
 ";
 
 /// A table of six levels, 1000 nanoseconds each.

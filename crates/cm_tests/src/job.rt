@@ -1,46 +1,54 @@
-// A job of a test, and how it is run over memory.
+// A call of the program over memory.
+use crate::boards;
+use cm_base::gate::Gate;
 use cm_base::memory::{MemSink, MemSource};
 use cm_base::transfer::NoMemory;
-use cm_cli::answer::answer;
+use cm_cli::comedi::comedi;
 use cm_cli::status::Status;
 use std::alloc::Global;
-use std::process::Abort;
-use std::test::Fail;
+use std::sync::Wait;
+use std::thread::Threads;
 
-/// A job of one command: what it shows, its board, its signals, the lines after them, and its whole answer.
+/// A call: its words, the signals and the lines of its job over the demo board, and its whole answer.
 #[derive(Clone, Copy)]
 pub struct Job {
-    pub name: &'static str,
-    pub command: &'static str,
-    pub board: &'static str,
+    pub words: [&'static str; 2],
     pub signals: &'static str,
     pub lines: &'static str,
     pub answer: &'static str,
-    pub status: Status,
 }
 
-/// The text of a job.
-pub fn text_of(alloc: Global, job: &Job) -> Result<Vec<u8>, NoMemory> {
-    let mut text = job.board.as_bytes().to_vec(alloc)?;
-    text.extend_from_slice(job.signals.as_bytes())?;
-    text.extend_from_slice(job.lines.as_bytes())?;
-    Ok(text)
-}
+impl Job {
+    /// The words that aren't empty.
+    pub fn words(&self, alloc: Global) -> Result<Vec<String>, NoMemory> {
+        let mut words = Vec::new(alloc);
+        for word in self.words {
+            if !word.is_empty() {
+                words.push(word.to_string(alloc)?)?;
+            }
+        }
+        Ok(words)
+    }
 
-/// The program's one word.
-pub fn word(alloc: Global, command: &str) -> Result<Vec<String>, NoMemory> {
-    let mut words = Vec::new(alloc);
-    words.push(command.to_string(alloc)?)?;
-    Ok(words)
-}
+    /// The text of the job.
+    pub fn text(&self, alloc: Global) -> Result<Vec<u8>, NoMemory> {
+        let mut text = boards::DEMO.as_bytes().to_vec(alloc)?;
+        text.extend_from_slice(self.signals.as_bytes())?;
+        text.extend_from_slice(self.lines.as_bytes())?;
+        Ok(text)
+    }
 
-/// Runs a job, which must give its answer and its status.
-pub fn check(rt: &impl Abort, alloc: Global, job: &Job) -> Result<(), Fail> {
-    let words = word(alloc, job.command)?;
-    let mut source = MemSource::new(text_of(alloc, job)?, 700, Vec::new(alloc));
-    let mut sink = MemSink::new(alloc, 4096, 300, Vec::new(alloc))?;
-    let status = answer(alloc, &words, &mut source, &mut sink);
-    assert_eq!(rt; status, job.status, "at {}", job.name);
-    assert!(rt; sink.text() == job.answer.as_bytes(), "at {}", job.name);
-    Ok(())
+    /// What the call gives under a gate: its status, and what was written.
+    pub fn give<R: Threads + Wait + Sync, G: Gate + Sync>(
+        &self,
+        rt: &R,
+        alloc: Global,
+        gate: &G,
+    ) -> Result<(Status, Vec<u8>), NoMemory> {
+        let words = self.words(alloc)?;
+        let mut source = MemSource::new(self.text(alloc)?, 700, Vec::new(alloc));
+        let mut sink = MemSink::new(alloc, 4096, 300, Vec::new(alloc))?;
+        let status = comedi(rt, alloc, &words, &mut source, &mut sink, gate);
+        Ok((status, sink.text().to_vec(alloc)?))
+    }
 }

@@ -12,6 +12,4 @@ mod rule;
 #[cfg(test)]
 mod run;
 #[cfg(test)]
-mod soak;
-#[cfg(test)]
 mod stream;

@@ -3,7 +3,7 @@ use cm_base::cursor::split_lines;
 use cm_base::faults::ReadStop;
 use cm_base::gate::OpenGate;
 use cm_base::transfer::NoMemory;
-use cm_board::reading::read_board;
+use cm_board_text::reading::read_board;
 use cm_client::going::{Go, stream_go};
 use cm_client::whole::block_text;
 use cm_expand::call::plan_of;
