@@ -120,12 +120,18 @@ void board_settle(void)
 				greatest = c->maxdata;
 		}
 		s->sample_bytes = greatest > 0xffff ? sizeof(lsampl_t) : sizeof(sampl_t);
+		scans_begin(s, 1);
 	}
 }
 
 int board_is_input(const struct subdevice *s)
 {
 	return s->kind == COMEDI_SUBD_AI || s->kind == COMEDI_SUBD_DI;
+}
+
+int board_is_digital(const struct subdevice *s)
+{
+	return s->kind == COMEDI_SUBD_DI || s->kind == COMEDI_SUBD_DO || s->kind == COMEDI_SUBD_DIO;
 }
 
 /* What doesn't change of a subdevice's flags. */
@@ -152,12 +158,13 @@ static unsigned present_flags(int file, int number)
 {
 	const struct subdevice *s = &device->subdevice[number];
 	unsigned flags = 0;
+	struct counts counts;
 	if (s->locker != NO_FILE)
 		flags |= SDF_LOCKED | (s->locker == file ? SDF_LOCK_OWNER : 0);
 	if (s->runner == NO_FILE)
 		return flags;
 	flags |= SDF_BUSY | (s->runner == file ? SDF_BUSY_OWNER : 0);
-	if (!question_contents(s->runner, number, "info", "") && answer_says(" runs"))
+	if (!scans_count(s->runner, number, &counts) && answer_says(" runs"))
 		flags |= SDF_RUNNING;
 	return flags;
 }
@@ -168,7 +175,6 @@ int board_subdevices(int file, comedi_subdinfo *to)
 	memset(all, 0, sizeof all);
 	for (unsigned i = 0; i < device->subdevices; i++) {
 		const struct subdevice *s = &device->subdevice[i];
-		int digital = s->kind == COMEDI_SUBD_DI || s->kind == COMEDI_SUBD_DO || s->kind == COMEDI_SUBD_DIO;
 		all[i].type = s->kind;
 		all[i].n_chan = s->channels;
 		all[i].subd_flags = lasting_flags(s) | present_flags(file, i);
@@ -176,7 +182,7 @@ int board_subdevices(int file, comedi_subdinfo *to)
 		all[i].len_chanlist = s->list_length;
 		all[i].maxdata = s->own_maxdata ? 0 : s->channel[0].maxdata;
 		all[i].range_type = s->own_ranges ? 0 : i << 24 | s->channel[0].ranges;
-		all[i].insn_bits_support = digital ? COMEDI_SUPPORTED : COMEDI_UNSUPPORTED;
+		all[i].insn_bits_support = board_is_digital(s) ? COMEDI_SUPPORTED : COMEDI_UNSUPPORTED;
 	}
 	return copy_out(to, all, device->subdevices * sizeof *all);
 }

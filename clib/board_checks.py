@@ -9,18 +9,10 @@ import shutil
 import stat
 import subprocess
 
-HERE = os.path.dirname(os.path.abspath(__file__))
-TESTS = os.path.join(HERE, "tests")
-DEMOS = "/usr/share/doc/libcomedi-dev/demo"
-DOCUMENT = os.path.join(os.path.dirname(HERE), "docs", "CLIENTS.md")
-WITH_BOARD = os.path.join(os.path.dirname(HERE), "with_board")
-LIBRARY = "libzendrouz_comedi.so"
-PROGRAM = "comedi_serve"
+from checking import DEMOS, HERE, LIBRARY, PROGRAM, TESTS, TOP, text_of
 
-
-def text_of(name):
-    with open(os.path.join(TESTS, name), encoding="utf-8") as file:
-        return file.read()
+DOCUMENT = os.path.join(TOP, "docs", "CLIENTS.md")
+WITH_BOARD = os.path.join(TOP, "with_board")
 
 
 def write_file(path, text, executable=False):

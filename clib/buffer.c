@@ -35,58 +35,61 @@ static void memory_put(struct subdevice *s, uint64_t place, uint32_t code)
 		((sampl_t *)s->memory)[place] = code;
 }
 
-/* The counts of a command: how many samples were read, and how many written. */
-static int ask_counts(int file, int number, uint64_t counts[2])
+/* The counts of a command. */
+static int ask_counts(int file, int number, struct counts *counts)
 {
-	int result = question_contents(file, number, "info", "");
+	int result = scans_count(file, number, counts);
 	if (result)
 		return kernel_result(CALL_BUFFER, result);
-	if (answer_numbers(counts, 2) != 2)
-		return -EIO;
 	return answer_says(" idle") ? -EINVAL : 0;
 }
 
+/* Fills the memory with what a read has left of a scan. */
+static void fill_rest(struct subdevice *s, uint64_t read)
+{
+	if (s->filled < read)
+		s->filled = read;
+	for (; s->filled < read + s->rests; s->filled++)
+		memory_put(s, s->filled, s->rest[s->filled - read]);
+}
+
 /* Fills the memory with the samples between the counts that aren't there yet. */
-static int fill_memory(int file, int number, const uint64_t counts[2])
+static int fill_memory(int file, int number, const struct counts *counts)
 {
 	struct subdevice *s = &device->subdevice[number];
-	uint64_t numbers[1 + SAMPLES_OF_A_LINE];
+	uint32_t samples[SAMPLES_OF_A_LINE];
 	if (!s->is_mapped || !board_is_input(s))
 		return 0;
-	if (s->filled < counts[0])
-		s->filled = counts[0];
-	if (s->filled == counts[1])
+	fill_rest(s, counts->read);
+	if (s->filled == counts->written)
 		return 0;
-	int result = line_of_session("map %d %d %llu", file, number, (unsigned long long)(counts[1] - s->filled));
-	while (!result && s->filled < counts[1]) {
-		result = question_peek(file, number, s->filled - counts[0], SAMPLES_OF_A_LINE);
-		if (result)
-			break;
-		int count = answer_numbers(numbers, 1 + SAMPLES_OF_A_LINE) - 1;
-		if (count <= 0)
-			return -EIO;
+	int result = scans_map(file, number, counts->written - s->filled);
+	while (!result && s->filled < counts->written) {
+		int count = scans_peek(file, number, s->filled - counts->read - s->rests, samples);
+		if (count < 0)
+			return count;
 		for (int i = 0; i < count; i++)
-			memory_put(s, s->filled++, numbers[1 + i]);
+			memory_put(s, s->filled++, samples[i]);
 	}
 	return result;
 }
 
 /* Takes up to `most` samples of a buffer that a client has mapped: they are in the memory, and in the session they
  * are mapped. Answers how many, or an error number. */
-int buffer_take(int file, int number, unsigned most, uint32_t *codes)
+int buffer_take(int file, int number, unsigned most, uint32_t *samples)
 {
 	const struct subdevice *s = &device->subdevice[number];
-	uint64_t counts[2];
-	int result = ask_counts(file, number, counts);
+	struct counts counts;
+	int result = ask_counts(file, number, &counts);
 	if (!result)
-		result = fill_memory(file, number, counts);
+		result = fill_memory(file, number, &counts);
 	if (result)
 		return result;
-	unsigned count = counts[1] - counts[0] < most ? counts[1] - counts[0] : most;
+	unsigned count = counts.written - counts.read < most ? counts.written - counts.read : most;
 	for (unsigned i = 0; i < count; i++)
-		codes[i] = memory_get(s, counts[0] + i);
+		samples[i] = memory_get(s, counts.read + i);
 	if (count)
-		result = line_of_session("release %d %d %u", file, number, count);
+		result = scans_release(file, number, count);
 	return result ? kernel_result(CALL_READ, result) : (int)count;
 }
 
@@ -123,22 +126,22 @@ int buffer_owns(int descriptor)
 /* A client is about to map the buffer: from now on it is kept filled. */
 int buffer_map(int file, int number)
 {
-	struct subdevice *s = &device->subdevice[number];
-	uint64_t counts[2];
-	s->is_mapped = 1;
-	int result = ask_counts(file, number, counts);
+	struct counts counts;
+	device->subdevice[number].is_mapped = 1;
+	int result = ask_counts(file, number, &counts);
 	/* without a command of this file there is nothing to fill it with */
-	return result ? (result == -EINVAL ? 0 : result) : fill_memory(file, number, counts);
+	return result ? (result == -EINVAL ? 0 : result) : fill_memory(file, number, &counts);
 }
 
 /* Gives up to so many samples back: the session reads them. Answers how many. */
 static int release_samples(int file, int number, uint64_t asked)
 {
-	uint32_t codes[SAMPLES_OF_A_LINE];
+	uint32_t samples[SAMPLES_OF_A_LINE];
+	unsigned line = scans_of_line(&device->subdevice[number], SAMPLES_OF_A_LINE);
 	uint64_t done = 0;
 	while (done < asked) {
-		unsigned most = asked - done < SAMPLES_OF_A_LINE ? asked - done : SAMPLES_OF_A_LINE;
-		int count = take_samples(file, number, most, codes);
+		unsigned most = asked - done < line ? asked - done : line;
+		int count = take_samples(file, number, most, samples);
 		if (count < 0)
 			return done || count == -EAGAIN ? (int)done : count;
 		done += count;
@@ -152,13 +155,14 @@ static int release_samples(int file, int number, uint64_t asked)
 static int mark_words(int file, int number, uint64_t written, uint64_t asked)
 {
 	const struct subdevice *s = &device->subdevice[number];
-	uint32_t values[VALUES_OF_A_LINE];
+	uint32_t samples[VALUES_OF_A_LINE];
+	unsigned line = scans_of_line(s, VALUES_OF_A_LINE);
 	uint64_t done = 0;
 	while (done < asked) {
-		unsigned most = asked - done < VALUES_OF_A_LINE ? asked - done : VALUES_OF_A_LINE;
+		unsigned most = asked - done < line ? asked - done : line;
 		for (unsigned i = 0; i < most; i++)
-			values[i] = memory_get(s, written + done + i);
-		int count = put_values(file, number, most, values);
+			samples[i] = memory_get(s, written + done + i);
+		int count = scans_put(file, number, most, samples);
 		if (count < 0)
 			return done || count == -EAGAIN ? (int)done : count;
 		done += count;
@@ -168,29 +172,29 @@ static int mark_words(int file, int number, uint64_t written, uint64_t asked)
 	return done;
 }
 
-static void put_counts(const struct subdevice *s, const uint64_t counts[2], comedi_bufinfo *info)
+static void put_counts(const struct subdevice *s, const struct counts *counts, comedi_bufinfo *info)
 {
-	info->buf_read_count = counts[0] * s->sample_bytes;
-	info->buf_write_count = counts[1] * s->sample_bytes;
-	info->buf_read_ptr = counts[0] % s->buffer * s->sample_bytes;
-	info->buf_write_ptr = counts[1] % s->buffer * s->sample_bytes;
+	info->buf_read_count = counts->read * s->sample_bytes;
+	info->buf_write_count = counts->written * s->sample_bytes;
+	info->buf_read_ptr = counts->read % s->buffer * s->sample_bytes;
+	info->buf_write_ptr = counts->written % s->buffer * s->sample_bytes;
 }
 
 /* An input: samples are given back, and where nothing is left of a command that ended, its end is reported. A command
  * that ended in error reports it to the call after the one that gave its last samples back. */
-static int input_info(int file, int number, comedi_bufinfo *info, uint64_t counts[2])
+static int input_info(int file, int number, comedi_bufinfo *info, struct counts *counts)
 {
 	struct subdevice *s = &device->subdevice[number];
 	int released = 0;
-	if (info->bytes_read && counts[1] > counts[0]) {
-		uint64_t asked = info->bytes_read / s->sample_bytes, there = counts[1] - counts[0];
+	if (info->bytes_read && counts->written > counts->read) {
+		uint64_t asked = info->bytes_read / s->sample_bytes, there = counts->written - counts->read;
 		released = release_samples(file, number, asked < there ? asked : there);
 		int result = released < 0 ? released : ask_counts(file, number, counts);
 		if (result)
 			return result;
 	}
 	int failed = answer_says("overrun") || answer_says("fifo");
-	int ended = failed || answer_says(" done") || answer_says(" dry");
+	int ended = (failed || answer_says(" done") || answer_says(" dry")) && counts->written == counts->read;
 	info->bytes_read = released * s->sample_bytes;
 	info->bytes_written = 0;
 	put_counts(s, counts, info);
@@ -203,7 +207,7 @@ static int input_info(int file, int number, comedi_bufinfo *info, uint64_t count
 }
 
 /* An output: words are marked, or the end is reported. */
-static int output_info(int file, int number, comedi_bufinfo *info, uint64_t counts[2])
+static int output_info(int file, int number, comedi_bufinfo *info, struct counts *counts)
 {
 	struct subdevice *s = &device->subdevice[number];
 	uint32_t last = 0;
@@ -211,28 +215,28 @@ static int output_info(int file, int number, comedi_bufinfo *info, uint64_t coun
 	put_counts(s, counts, info);
 	if (!answer_says(" runs")) {
 		info->bytes_written = 0;
-		int result = put_values(file, number, 1, &last);
+		int result = scans_put(file, number, 1, &last);
 		return result == END_REPORTED ? 0 : result;
 	}
-	int marked = mark_words(file, number, counts[1], info->bytes_written / s->sample_bytes);
+	int marked = mark_words(file, number, counts->written, info->bytes_written / s->sample_bytes);
 	if (marked < 0)
 		return marked;
 	info->bytes_written = marked * s->sample_bytes;
-	counts[1] += marked;
+	counts->written += marked;
 	put_counts(s, counts, info);
 	return 0;
 }
 
 int buffer_info(int file, comedi_bufinfo *info)
 {
-	uint64_t counts[2];
+	struct counts counts;
 	if (info->subdevice >= device->subdevices)
 		return -EINVAL;
 	int number = info->subdevice;
-	int result = ask_counts(file, number, counts);
+	int result = ask_counts(file, number, &counts);
 	if (result)
 		return result;
 	if (board_is_input(&device->subdevice[number]))
-		return input_info(file, number, info, counts);
-	return output_info(file, number, info, counts);
+		return input_info(file, number, info, &counts);
+	return output_info(file, number, info, &counts);
 }

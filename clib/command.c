@@ -178,7 +178,7 @@ int command_call(int file, comedi_cmd *command)
 	if (!result) {
 		s->runner = file;
 		s->command_flags = command->flags;
-		s->command_entries = command->chanlist_len;
+		scans_begin(s, command->chanlist_len);
 		s->filled = 0;
 	}
 	return kernel_result(CALL_COMMAND, result);

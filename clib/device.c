@@ -8,7 +8,9 @@
 #include <stdio.h>
 #include <stdlib.h>
 #include <string.h>
+#include <signal.h>
 #include <sys/mman.h>
+#include <sys/wait.h>
 #include <unistd.h>
 
 struct device *device;
@@ -16,6 +18,8 @@ struct device *device;
 /* the signals that the client had blocked when it came in, and its errno, which only a call that fails changes */
 static __thread sigset_t outside;
 static __thread int outside_errno;
+/* how many threads of this process are in the device, or on their way in */
+static int callers;
 
 /* One call at a time. No signal comes meanwhile, so that a handler may call too. */
 void device_enter(void)
@@ -24,6 +28,7 @@ void device_enter(void)
 	outside_errno = errno;
 	sigfillset(&all);
 	pthread_sigmask(SIG_SETMASK, &all, &outside);
+	__atomic_add_fetch(&callers, 1, __ATOMIC_SEQ_CST);
 	/* a process that ended within a call leaves an answer half read: nothing can be asked any more */
 	if (pthread_mutex_lock(&device->lock) == EOWNERDEAD) {
 		pthread_mutex_consistent(&device->lock);
@@ -33,17 +38,30 @@ void device_enter(void)
 
 void device_leave(void)
 {
+	record_flush();
 	pthread_mutex_unlock(&device->lock);
+	__atomic_sub_fetch(&callers, 1, __ATOMIC_SEQ_CST);
 	pthread_sigmask(SIG_SETMASK, &outside, NULL);
 	errno = outside_errno;
 }
 
-int device_is_open(void)
+int device_callers(void)
 {
-	for (int i = 0; i < MOST_FILES; i++)
-		if (device->file[i].is_open)
-			return 1;
-	return 0;
+	return __atomic_load_n(&callers, __ATOMIC_SEQ_CST);
+}
+
+/* A child made by fork has none of the other threads, and all files of its parent. */
+static void become_child(void)
+{
+	callers = 0;
+	for (int i = 0; device && i < MOST_FILES; i++)
+		if (device->file[i].is_open && device->file[i].opener == getppid())
+			device->file[i].is_shared = 1;
+}
+
+__attribute__((constructor)) static void prepare_for_children(void)
+{
+	pthread_atfork(NULL, NULL, become_child);
 }
 
 static int ends_with(const char *text, const char *end)
@@ -143,6 +161,7 @@ static int open_file(void)
 		if (result)
 			return result;
 		f->is_open = 1;
+		f->is_shared = f->has_waited = 0;
 		f->opener = getpid();
 		choose_defaults(f);
 		return i;
@@ -159,6 +178,7 @@ int device_open(const char *path)
 	int result = make_device();
 	if (!result) {
 		device_enter();
+		device_close_left();
 		if (!*device->path)
 			result = load(board);
 		if (result)
@@ -171,21 +191,44 @@ int device_open(const char *path)
 	return result;
 }
 
+static void close_file(int file)
+{
+	line_of_session("close %d", file);
+	for (unsigned i = 0; i < device->subdevices; i++) {
+		struct subdevice *s = &device->subdevice[i];
+		if (s->runner == file)
+			s->runner = NO_FILE;
+		if (s->locker == file)
+			s->locker = NO_FILE;
+	}
+	device->file[file].is_open = 0;
+}
+
 /* A file is closed by the process that opened it; a child only forgets it. */
 void device_close(int file)
 {
-	struct file *f = &device->file[file];
+	const struct file *f = &device->file[file];
 	device_enter();
-	if (f->is_open && f->opener == getpid()) {
-		line_of_session("close %d", file);
-		for (unsigned i = 0; i < device->subdevices; i++) {
-			struct subdevice *s = &device->subdevice[i];
-			if (s->runner == file)
-				s->runner = NO_FILE;
-			if (s->locker == file)
-				s->locker = NO_FILE;
-		}
-		f->is_open = 0;
-	}
+	if (f->is_open && f->opener == getpid())
+		close_file(file);
 	device_leave();
+}
+
+/* Whether a process has ended; a child of this one may not be waited for yet. */
+static int has_ended(pid_t process)
+{
+	siginfo_t information = { .si_pid = 0 };
+	if (kill(process, 0) && errno == ESRCH)
+		return 1;
+	return !waitid(P_PID, process, &information, WEXITED | WNOHANG | WNOWAIT) && information.si_pid == process;
+}
+
+/* Closes what processes have left open that ended, as the kernel does. What a child of them may have stays open. */
+void device_close_left(void)
+{
+	for (int i = 0; i < MOST_FILES; i++) {
+		const struct file *f = &device->file[i];
+		if (f->is_open && !f->is_shared && f->opener != getpid() && has_ended(f->opener))
+			close_file(i);
+	}
 }

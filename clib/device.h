@@ -21,6 +21,7 @@
 #define MOST_RANGES 16
 #define MOST_FILES 16
 #define MOST_ENTRIES 256
+#define MOST_BUFFER 65536
 /* how many samples a line asks for at once, and how many values a line of a write has */
 #define SAMPLES_OF_A_LINE 4096
 #define VALUES_OF_A_LINE 1024
@@ -44,7 +45,14 @@ struct subdevice {
 	struct channel channel[MOST_CHANNELS];
 	/* what answers have said: who called the command that wasn't ended yet, and who holds the lock */
 	int runner, locker;
-	unsigned command_flags, command_entries;
+	unsigned command_flags;
+	/* what is handed over at once, in entries of the list and in the client's samples: a scan of a digital subdevice, and
+	 * else one entry, which is one sample; and how many samples a scan has */
+	unsigned unit_entries, unit_samples, scan_samples;
+	/* samples on their way: an input's that the session has given and the client not taken, or an output's that the client
+	 * has given and the session not taken. They are a part of such a piece, or what the client couldn't take */
+	unsigned rests;
+	uint32_t rest[SAMPLES_OF_A_LINE + MOST_ENTRIES / 16];
 	/* the memory that clients map, where it starts in the file of all such memory, whether anyone has mapped it, and
 	 * up to which sample it is filled */
 	void *memory;
@@ -54,7 +62,8 @@ struct subdevice {
 };
 
 struct file {
-	int is_open;
+	/* whether a child of its opener may have it too, and whether its last read had to wait */
+	int is_open, is_shared, has_waited;
 	pid_t opener;
 	int read_subdevice, write_subdevice;
 };
@@ -68,16 +77,26 @@ struct text {
 
 enum wake { WAKE_SAMPLE, WAKE_SCAN, WAKE_FULL };
 
+/* how many clocks the system numbers */
+#define CLOCKS 12
+/* a time that never comes */
+#define NEVER UINT64_MAX
+
 struct device {
 	pthread_mutex_t lock;
 	char path[4096], name[64];
 	unsigned subdevices;
 	struct subdevice subdevice[MOST_SUBDEVICES];
 	struct file file[MOST_FILES];
-	/* board time, in nanoseconds */
-	uint64_t now, horizon, call_time;
+	/* board time, in nanoseconds, which ends at the horizon; and the client's, which is the same and has no end */
+	uint64_t now, horizon, client_now, call_time;
 	double pace;
 	uint64_t wall_start;
+	/* whether the client's clocks show its time, and what each showed at 0 */
+	int shows_time;
+	uint64_t clock_start[CLOCKS];
+	/* whether the time has begun: the first file was opened */
+	int has_begun;
 	enum wake wake;
 	/* the memory of all buffers, which is there before a client makes children */
 	int memory_descriptor;
@@ -89,10 +108,11 @@ extern struct device *device;
 /* device.c */
 int device_open(const char *path);
 void device_close(int file);
-int device_is_open(void);
+void device_close_left(void);
 int device_serves(const char *path);
 void device_enter(void);
 void device_leave(void);
+int device_callers(void);
 
 /* text.c */
 int text_read(const char *path, struct text *text);
@@ -104,18 +124,35 @@ int device_ioctl(int file, unsigned long request, void *argument);
 /* stream.c */
 ssize_t device_read(int file, void *to, size_t bytes, int waits);
 ssize_t device_write(int file, const void *from, size_t bytes, int waits);
-int take_samples(int file, int number, unsigned most, uint32_t *codes);
-int put_values(int file, int number, unsigned count, const uint32_t *values);
+int take_samples(int file, int number, unsigned most, uint32_t *samples);
 int stream_ready_to_read(int file);
 int stream_ready_to_write(int file);
 int stream_next_time(int file, int reads, int writes, uint64_t *time);
 int stream_next_samples(int file, uint64_t *time);
 
+/* scans.c: the client's samples. How many were read and written, and for an output how many more have room. */
+struct counts {
+	uint64_t read, written, room;
+};
+void scans_begin(struct subdevice *s, unsigned entries);
+unsigned scans_capacity(const struct subdevice *s);
+unsigned scans_of_line(const struct subdevice *s, unsigned values);
+int scans_count(int file, int number, struct counts *counts);
+int scans_await(int file, int number, uint64_t count, uint64_t *time);
+int scans_take(int file, int number, unsigned most, uint32_t *samples);
+int scans_can_fetch(int number);
+int scans_fetch(int file, int number, uint32_t *sample);
+void scans_give_back(struct subdevice *s, unsigned count, const uint32_t *samples);
+int scans_put(int file, int number, unsigned count, const uint32_t *samples);
+int scans_map(int file, int number, uint64_t count);
+int scans_peek(int file, int number, uint64_t from, uint32_t *samples);
+int scans_release(int file, int number, unsigned count);
+
 /* buffer.c */
 int buffer_info(int file, comedi_bufinfo *info);
 int buffer_make_memory(void);
 int buffer_map(int file, int number);
-int buffer_take(int file, int number, unsigned most, uint32_t *codes);
+int buffer_take(int file, int number, unsigned most, uint32_t *samples);
 int buffer_owns(int descriptor);
 
 /* board.c */
@@ -123,6 +160,7 @@ void board_clear(void);
 void board_line(char *line);
 void board_settle(void);
 int board_is_input(const struct subdevice *s);
+int board_is_digital(const struct subdevice *s);
 int board_subdevices(int file, comedi_subdinfo *to);
 int board_channels(const comedi_chaninfo *asked);
 int board_ranges(const comedi_rangeinfo *asked);
@@ -141,14 +179,40 @@ void time_start(void);
 void time_call(void);
 void time_to(uint64_t time);
 void time_say_end(void);
+void time_spend(uint64_t nanoseconds);
 int time_wait(uint64_t time);
 int time_is_board_time(void);
-void time_sleep(uint64_t nanoseconds);
+int time_is_shown(void);
+uint64_t time_look(void);
+void time_forget_look(void);
+uint64_t time_after(int64_t nanoseconds);
 uint64_t time_of_wall(void);
+
+/*
+ * turns.c. How a thread waits for something: `pause` waits really, for up to so many nanoseconds of the wall clock, and
+ * answers 0 where nothing came. What else it answers ends the wait, and is the answer. `due`, if any, has the time at which
+ * something comes by itself, which other threads may change.
+ */
+struct wait {
+	int (*pause)(void *what, uint64_t nanoseconds);
+	uint64_t (*due)(void *what);
+	void *what;
+};
+int turns_wait(uint64_t end, const struct wait *wait);
+int turns_is_alone(void);
+uint64_t turns_number(pid_t thread);
+
+/* threads.c */
+uint64_t threads_sleep(void);
+
+/* a wait for nothing but its end, in time.c */
+extern const struct wait time_sleep;
+
+/* clocks.c */
+void clocks_start(void);
 
 /* memory.c */
 int copy_in(void *to, const void *from, size_t bytes);
 int copy_out(void *to, const void *from, size_t bytes);
-int check_writable(void *at, size_t bytes);
 
 #endif

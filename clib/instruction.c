@@ -106,7 +106,7 @@ static int do_bits(int file, const comedi_insn *instruction, unsigned *data)
 {
 	unsigned number = number_of(instruction), first = CR_CHAN(instruction->chanspec), unused;
 	uint64_t numbers[3];
-	int result = instruction->chanspec ? read_line(file, number, instruction->chanspec, 1, &unused) : 0;
+	int result = instruction->chanspec || instruction->n != 2 ? read_line(file, number, instruction->chanspec, 1, &unused) : 0;
 	if (result)
 		return result;
 	if (instruction->n != 2)
@@ -167,7 +167,7 @@ static int do_wait(const comedi_insn *instruction, const unsigned *data)
 {
 	if (instruction->n != 1 || data[0] >= MOST_WAIT)
 		return -EINVAL;
-	time_wait(device->now + data[0]);
+	time_spend(data[0]);
 	return 1;
 }
 
@@ -208,6 +208,9 @@ int instruction_do(int file, comedi_insn *instruction, unsigned *data)
 	default:
 		return -EINVAL;
 	}
+	/* the kernel looks at the entry before it asks whether the subdevice is busy */
+	if (result == -EBUSY && kernel_refuses_entries(&device->subdevice[instruction->subdev], &instruction->chanspec, 1))
+		return -EINVAL;
 	return kernel_result(CALL_INSTRUCTION, result);
 }
 

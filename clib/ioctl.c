@@ -110,15 +110,13 @@ static int cancel_call(int file, unsigned number)
 /* Asks the board for what it holds back. Boards here hand over by themselves, so this answers with the number of bytes that are there. */
 static int poll_call(int file, unsigned number)
 {
-	uint64_t counts[2];
-	int result = question_contents(file, number, "info", "");
+	struct counts counts;
+	int result = scans_count(file, number, &counts);
 	if (result == -EACCES)
 		return -EBUSY;
 	if (result)
 		return kernel_result(CALL_BUFFER, result);
-	if (answer_numbers(counts, 2) != 2)
-		return -EIO;
-	return (counts[1] - counts[0]) * device->subdevice[number].sample_bytes;
+	return (counts.written - counts.read) * device->subdevice[number].sample_bytes;
 }
 
 /* Which subdevice read and write of a file are for. */
@@ -177,6 +175,7 @@ int device_ioctl(int file, unsigned long wide_request, void *argument)
 		return -EIO;
 	if (!is_question(request))
 		time_call();
+	device_close_left();
 	switch (request) {
 	case COMEDI_DEVINFO:
 		return device_information(file, argument);

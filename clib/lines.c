@@ -54,20 +54,24 @@ int answer_numbers(uint64_t *numbers, int most)
 	return count;
 }
 
-/* Asks what `line` holds, and answers 0 or a negative error number. */
-static int ask(int length, void (*each)(char *line))
+/* 0, or the negative error number of the answer. */
+static int answer_error(void)
 {
-	if (length < 0 || length >= (int)sizeof line - 1)
-		return -EINVAL;
-	line[length] = '\n';
-	if (server_ask(line, length + 1, each))
-		return -EIO;
 	const char *answer = server_answer();
 	if (!strncmp(answer, "err ", 4)) {
 		int number = atoi(answer + 4);
 		return number > 0 ? -number : -EIO;
 	}
 	return strncmp(answer, "refused", 7) ? 0 : -EIO;
+}
+
+/* Asks what `line` holds, and answers 0 or a negative error number. */
+static int ask(int length, void (*each)(char *line))
+{
+	if (length < 0 || length >= (int)sizeof line - 1)
+		return -EINVAL;
+	line[length] = '\n';
+	return server_ask(line, length + 1, each) ? -EIO : answer_error();
 }
 
 /* A line that is refused as no line is a fault of the device. */
@@ -116,16 +120,56 @@ int line_of_values(const char *start, const uint32_t *values, unsigned count)
 	return result;
 }
 
-/* A question that changes nothing. In the record it is the line that has its checks. */
-int question_contents(int file, int subdevice, const char *key, const char *rest)
+/* These are made for each sample that a client reads, so they are put together by hand. */
+static char *put_number(char *at, uint64_t number)
 {
-	int length = snprintf(line, sizeof line, "%llu %s %d %d%s", (unsigned long long)device->now, key, file, subdevice, rest);
+	char digits[20];
+	int count = 0;
+	do
+		digits[count++] = '0' + number % 10;
+	while (number /= 10);
+	while (count)
+		*at++ = digits[--count];
+	return at;
+}
+
+/* Puts ` NUMBER` into the line. */
+static char *put_word(char *at, uint64_t number)
+{
+	*at++ = ' ';
+	return put_number(at, number);
+}
+
+/* Puts `TIME KEY FILE SUBDEVICE NUMBER` into the line. Answers its length. */
+static int form_question(const char *key, int file, int subdevice, uint64_t number)
+{
+	size_t length = strlen(key);
+	char *at = put_number(line, device->now);
+	*at++ = ' ';
+	at = memcpy(at, key, length);
+	at += length;
+	at = put_word(put_word(put_word(at, file), subdevice), number);
+	*at = 0;
+	return at - line;
+}
+
+/* A question that changes nothing. In the record it is the line that has its checks. */
+static int ask_state(int length, int file, int subdevice)
+{
 	int result = ask_loudly(length);
-	if (was_answered()) {
-		length = snprintf(line, sizeof line, "%llu contents %d %d\n", (unsigned long long)device->now, file, subdevice);
-		record_line(line, length);
-	}
+	if (was_answered())
+		record_form("%llu contents %d %d", (unsigned long long)device->now, file, subdevice);
 	return result;
+}
+
+int question_info(int file, int subdevice)
+{
+	return ask_state(snprintf(line, sizeof line, "%llu info %d %d", (unsigned long long)device->now, file, subdevice), file, subdevice);
+}
+
+int question_await(int file, int subdevice, unsigned count)
+{
+	return ask_state(form_question("await", file, subdevice, count), file, subdevice);
 }
 
 /* Mapped samples in codes, from one of them on. In the record each of them is looked at. */
@@ -137,26 +181,40 @@ int question_peek(int file, int subdevice, unsigned from, unsigned most)
 	if (!was_answered() || result)
 		return result;
 	answer_numbers(&count, 1);
-	for (uint64_t i = from; i < from + count; i++) {
-		length = snprintf(line, sizeof line, "%llu look %d %d %llu\n", (unsigned long long)device->now, file, subdevice, (unsigned long long)i);
-		record_line(line, length);
-	}
+	for (uint64_t i = from; i < from + count; i++)
+		record_form("%llu look %d %d %llu", (unsigned long long)device->now, file, subdevice, (unsigned long long)i);
 	return 0;
 }
 
-/* Samples in codes. In the record it is a read of as many samples as were taken. */
+/* Codes were answered. In the record they are a read of as many samples as were taken. */
+static int note_codes(int file, int subdevice, int result)
+{
+	uint64_t taken = 0;
+	if (!was_answered())
+		return result;
+	if (!result)
+		answer_numbers(&taken, 1);
+	record_form("%llu read %d %d %llu", (unsigned long long)device->now, file, subdevice, (unsigned long long)taken);
+	return result;
+}
+
+/* Samples in codes. */
 int question_codes(int file, int subdevice, unsigned most)
 {
-	int length = snprintf(line, sizeof line, "%llu codes %d %d %u", (unsigned long long)device->now, file, subdevice, most);
-	int result = ask_loudly(length);
-	uint64_t taken = 0;
-	if (was_answered()) {
-		if (!result)
-			answer_numbers(&taken, 1);
-		length = snprintf(line, sizeof line, "%llu read %d %d %llu\n", (unsigned long long)device->now, file, subdevice, (unsigned long long)taken);
-		record_line(line, length);
-	}
-	return result;
+	return note_codes(file, subdevice, ask_loudly(form_question("codes", file, subdevice, most)));
+}
+
+/* The same at the time at which so many are there, or the command or the signals have ended. Then it is that time. */
+int question_fetch(int file, int subdevice, unsigned wanted, unsigned most)
+{
+	uint64_t time;
+	int length = form_question("fetch", file, subdevice, wanted);
+	int result = ask_state(put_word(line + length, most) - line, file, subdevice);
+	if (!was_answered())
+		return result;
+	if (!result && answer_numbers(&time, 1) == 1)
+		time_to(time);
+	return server_hear(note_output) ? -EIO : note_codes(file, subdevice, answer_error());
 }
 
 int question_test(const char *command)

@@ -39,17 +39,3 @@ int copy_out(void *to, const void *from, size_t bytes)
 	}
 	return count == (ssize_t)bytes ? 0 : -EFAULT;
 }
-
-/* Whether memory can be written: a byte of each of its pages is written back. */
-int check_writable(void *at, size_t bytes)
-{
-	size_t page = sysconf(_SC_PAGESIZE), place = 0;
-	while (place < bytes) {
-		char byte;
-		char *here = (char *)at + place;
-		if (copy_in(&byte, here, 1) || copy_out(here, &byte, 1))
-			return -EFAULT;
-		place += page - (uintptr_t)here % page;
-	}
-	return 0;
-}

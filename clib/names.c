@@ -26,8 +26,9 @@
 
 /* which file of the session a descriptor is, plus 1 */
 static unsigned char files[DESCRIPTORS];
-/* those that want a signal where samples come */
+/* those that want a signal where samples come, and how many do */
 static unsigned char asynchronous[DESCRIPTORS];
+static int waiting_for_signals;
 
 int names_file(int descriptor)
 {
@@ -39,10 +40,16 @@ int names_waits(int descriptor)
 	return !(fcntl(descriptor, F_GETFL) & O_NONBLOCK);
 }
 
+static void set_asynchronous(int descriptor, int wants)
+{
+	__atomic_add_fetch(&waiting_for_signals, wants - asynchronous[descriptor], __ATOMIC_SEQ_CST);
+	asynchronous[descriptor] = wants;
+}
+
 /* The first descriptor of the device that wants signals, or -1. */
 int names_asynchronous(void)
 {
-	for (int i = 0; i < DESCRIPTORS; i++)
+	for (int i = 0; i < DESCRIPTORS && waiting_for_signals; i++)
 		if (asynchronous[i] && files[i])
 			return i;
 	return -1;
@@ -93,9 +100,11 @@ static int open_device(const char *path, int flags)
 static void forget(int descriptor)
 {
 	int file = names_file(descriptor);
+	timers_forget(descriptor);
 	if (file == NO_FILE)
 		return;
-	files[descriptor] = asynchronous[descriptor] = 0;
+	files[descriptor] = 0;
+	set_asynchronous(descriptor, 0);
 	for (int i = 0; i < DESCRIPTORS; i++)
 		if (files[i] == file + 1)
 			return;
@@ -200,7 +209,7 @@ static int flags_of(int descriptor, int what, long argument, int result)
 	if (names_file(descriptor) == NO_FILE || result < 0)
 		return result;
 	if (what == F_SETFL)
-		asynchronous[descriptor] = (argument & O_ASYNC) != 0;
+		set_asynchronous(descriptor, (argument & O_ASYNC) != 0);
 	return what == F_GETFL && asynchronous[descriptor] ? result | O_ASYNC : result;
 }
 
@@ -238,6 +247,8 @@ PUBLIC int ioctl(int descriptor, unsigned long request, ...)
 PUBLIC ssize_t read(int descriptor, void *to, size_t bytes)
 {
 	int file = names_file(descriptor);
+	if (timers_are_read(descriptor))
+		return names_answer(timers_read(descriptor, to, bytes));
 	if (file == NO_FILE)
 		return REAL(read)(descriptor, to, bytes);
 	int waits = names_waits(descriptor);

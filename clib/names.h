@@ -2,6 +2,7 @@
 #ifndef NAMES_H
 #define NAMES_H
 
+#include "device.h"
 #include <dlfcn.h>
 #include <poll.h>
 #include <signal.h>
@@ -20,6 +21,8 @@
 
 /* what signals_sleep answers where a sleep isn't one of board time */
 #define SLEEP_IS_REAL (-1)
+/* what ends a wait early is there */
+#define CAME 1
 
 /* names.c */
 int names_file(int descriptor);
@@ -27,15 +30,26 @@ int names_asynchronous(void);
 int names_waits(int descriptor);
 long names_answer(long result);
 
-/* waits.c */
-int waits_poll(struct pollfd *asked, nfds_t count, int64_t nanoseconds);
+/* polls.c */
+int polls_wait(struct pollfd *asked, nfds_t count, int64_t nanoseconds);
 
 /* signals.c */
+int signals_wait(uint64_t end, const struct wait *wait);
+int64_t signals_sleep_until(uint64_t end);
 int64_t signals_sleep(uint64_t nanoseconds);
 int signals_exchange(const sigset_t *mask, sigset_t *old);
 void signals_send(void);
 
 /* sets.c */
 void sets_forget(int descriptor);
+
+/* timers.c */
+int timers_are_in(int descriptor);
+uint64_t timers_next(int descriptor);
+void timers_ring(void);
+void timers_put(int descriptor, int set);
+void timers_forget(int descriptor);
+int timers_are_read(int descriptor);
+ssize_t timers_read(int descriptor, void *to, size_t bytes);
 
 #endif

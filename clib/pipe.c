@@ -186,7 +186,23 @@ void server_lose(void)
 		shutdown(channel, SHUT_RDWR);
 }
 
-/* Sends a line, and reads its answer. The last line is the answer, and each line before it is given to `each`. */
+/* Reads an answer. Its last line is the answer, and each line before it is given to `each`. */
+int server_hear(void (*each)(char *line))
+{
+	char *heard;
+	answer = "";
+	while ((heard = next_line())) {
+		if (is_last(heard)) {
+			answer = heard;
+			return 0;
+		}
+		each(heard);
+	}
+	server_lose();
+	return -EIO;
+}
+
+/* Sends a line, and reads its answer. */
 int server_ask(const char *line, size_t length, void (*each)(char *line))
 {
 	answer = "";
@@ -195,17 +211,6 @@ int server_ask(const char *line, size_t length, void (*each)(char *line))
 	/* answers are read whole; what is here after a fork belongs to a call of the parent */
 	from = upto = 0;
 	stay_beside();
-	int sent = send_all(line, length);
-	for (;;) {
-		char *heard = next_line();
-		if (!heard)
-			break;
-		if (is_last(heard)) {
-			answer = heard;
-			return sent;
-		}
-		each(heard);
-	}
-	server_lose();
-	return -EIO;
+	int sent = send_all(line, length), heard = server_hear(each);
+	return heard ? heard : sent;
 }

@@ -5,12 +5,27 @@
 #define _GNU_SOURCE
 #include "server.h"
 #include <fcntl.h>
+#include <pthread.h>
 #include <stdarg.h>
 #include <stdio.h>
 #include <string.h>
 #include <unistd.h>
 
 static int record = -1;
+/* the lines of one call, which are written at its end */
+static char held[1 << 16];
+static size_t length_of_held;
+
+/* A child made by fork may have lines of a call of another thread, which writes them itself. */
+static void forget_lines(void)
+{
+	length_of_held = 0;
+}
+
+__attribute__((constructor)) static void prepare_for_children(void)
+{
+	pthread_atfork(NULL, NULL, forget_lines);
+}
 
 void record_open(const char *path)
 {
@@ -28,23 +43,51 @@ int record_owns(int descriptor)
 	return record >= 0 && descriptor == record;
 }
 
-void record_line(const char *text, size_t length)
+void record_flush(void)
 {
-	if (record >= 0 && write(record, text, length) != (ssize_t)length)
+	if (length_of_held && write(record, held, length_of_held) != (ssize_t)length_of_held)
 		record = -1;
+	length_of_held = 0;
 }
 
-void record_note(const char *form, ...)
+void record_line(const char *text, size_t length)
 {
-	char text[1024] = "# ";
+	if (length_of_held + length > sizeof held)
+		record_flush();
+	if (record < 0 || length > sizeof held)
+		return;
+	memcpy(held + length_of_held, text, length);
+	length_of_held += length;
+}
+
+static void put_form(const char *start, const char *form, va_list values)
+{
+	char text[1024];
+	int place = sprintf(text, "%s", start);
+	int length = place + vsnprintf(text + place, sizeof text - place - 1, form, values);
+	if (length < place || length > (int)sizeof text - 2)
+		return;
+	text[length] = '\n';
+	record_line(text, length + 1);
+}
+
+/* A line, and a comment. */
+void record_form(const char *form, ...)
+{
 	va_list values;
 	if (record < 0)
 		return;
 	va_start(values, form);
-	int length = vsnprintf(text + 2, sizeof text - 3, form, values);
+	put_form("", form, values);
 	va_end(values);
-	if (length < 0 || length > (int)sizeof text - 4)
+}
+
+void record_note(const char *form, ...)
+{
+	va_list values;
+	if (record < 0)
 		return;
-	text[2 + length] = '\n';
-	record_line(text, length + 3);
+	va_start(values, form);
+	put_form("# ", form, values);
+	va_end(values);
 }

@@ -14,6 +14,7 @@ const char *program_path(void);
 /* pipe.c: the program. Each answer is read whole before the next line is sent. */
 int server_start(const char *program, const char *head, size_t length);
 int server_ask(const char *line, size_t length, void (*each)(char *line));
+int server_hear(void (*each)(char *line));
 char *server_answer(void);
 int server_owns(int descriptor);
 int server_is_lost(void);
@@ -22,9 +23,11 @@ void server_lose(void);
 /* lines.c: a line is answered 0 for `ok`, the negative number of `err`, and -EIO where there is no answer. */
 int line_of_session(const char *form, ...) __attribute__((format(printf, 1, 2)));
 int line_of_values(const char *start, const uint32_t *values, unsigned count);
-int question_contents(int file, int subdevice, const char *key, const char *rest);
+int question_info(int file, int subdevice);
+int question_await(int file, int subdevice, unsigned count);
 int question_peek(int file, int subdevice, unsigned from, unsigned most);
 int question_codes(int file, int subdevice, unsigned most);
+int question_fetch(int file, int subdevice, unsigned wanted, unsigned most);
 int question_test(const char *command);
 int question_describe(void (*each)(char *line));
 const char *answer_words(void);
@@ -36,6 +39,8 @@ int answer_says(const char *word);
 void record_open(const char *path);
 int record_owns(int descriptor);
 void record_line(const char *text, size_t length);
+void record_flush(void);
+void record_form(const char *form, ...) __attribute__((format(printf, 1, 2)));
 void record_note(const char *form, ...) __attribute__((format(printf, 1, 2)));
 
 #endif

@@ -1,10 +1,11 @@
 /*
  * SIGIO, and the names that wait for a signal. A descriptor with O_ASYNC has the signal sent where samples come while the
- * client sleeps, pauses or waits for signals in board time; as from the system, the signal ends that wait. A read, a write
- * or a poll that waited for what came has it sent at its end, and is answered as without it. It isn't sent in other calls,
- * and not where waits are real (ZENDROUZ_PACE).
+ * client sleeps, pauses or waits for other things in board time; as from the system, the signal ends that wait. A read, a
+ * write or a poll that waited for what came has it sent at its end, and is answered as without it. It isn't sent in other
+ * calls, and not where waits are real (ZENDROUZ_PACE).
  */
 #define _GNU_SOURCE
+#include "clocks.h"
 #include "device.h"
 #include "names.h"
 #include <errno.h>
@@ -38,34 +39,43 @@ void signals_send(void)
 		raise(signal_of(descriptor));
 }
 
-/* Goes on to the next samples of a descriptor, if they come by a time. Answers whether they did. */
-static int reach_samples(int file, uint64_t until)
+/* When the next samples of a descriptor come. Answers 0 where none come by a time. */
+static int find_samples(int descriptor, uint64_t until, uint64_t *time)
 {
-	uint64_t next;
 	device_enter();
-	int comes = stream_next_samples(file, &next) && next <= until;
-	if (comes)
-		time_to(next);
+	int comes = stream_next_samples(names_file(descriptor), time) && *time <= until;
 	device_leave();
 	return comes;
 }
 
-/* A sleep of the client in board time. Answers what is left of it where a signal ended it, or SLEEP_IS_REAL. */
-int64_t signals_sleep(uint64_t nanoseconds)
+/* A wait as turns_wait, which the signal ends with -EINTR. */
+int signals_wait(uint64_t end, const struct wait *wait)
 {
-	if (!time_is_board_time())
-		return SLEEP_IS_REAL;
-	uint64_t until = device->now + nanoseconds;
 	int descriptor = names_asynchronous();
-	if (descriptor >= 0 && reach_samples(names_file(descriptor), until)) {
-		int number = signal_of(descriptor), ends = ends_waits(number);
-		uint64_t left = until - device->now;
+	uint64_t next;
+	if (descriptor >= 0 && find_samples(descriptor, end, &next)) {
+		int number = signal_of(descriptor), ends = ends_waits(number), result = turns_wait(next, wait);
+		if (result)
+			return result;
 		raise(number);
 		if (ends)
-			return left ? (int64_t)left : 1;
+			return -EINTR;
 	}
-	time_sleep(until > device->now ? until - device->now : 0);
-	return 0;
+	return turns_wait(end, wait);
+}
+
+/* A sleep of the client up to a time. Answers what is left of it where a signal ended it. */
+int64_t signals_sleep_until(uint64_t end)
+{
+	if (!signals_wait(end, &time_sleep))
+		return 0;
+	return device->client_now < end ? end - device->client_now : 1;
+}
+
+/* A sleep in board time, or SLEEP_IS_REAL. */
+int64_t signals_sleep(uint64_t nanoseconds)
+{
+	return time_is_board_time() ? signals_sleep_until(device->client_now + nanoseconds) : SLEEP_IS_REAL;
 }
 
 /* Lets signals in that a mask lets in. Answers whether one was waiting, so that a wait with this mask ends at once. */
@@ -84,13 +94,15 @@ int signals_exchange(const sigset_t *mask, sigset_t *old)
 static int wait_for_signal(void)
 {
 	int descriptor = time_is_board_time() ? names_asynchronous() : -1;
+	uint64_t next;
 	if (descriptor < 0 || !ends_waits(signal_of(descriptor)))
 		return 0;
-	if (!reach_samples(names_file(descriptor), device->horizon)) {
+	if (!find_samples(descriptor, device->horizon, &next)) {
 		fprintf(stderr, "zendrouz: a wait for a signal, and no sample comes any more\n");
 		return 0;
 	}
-	raise(signal_of(descriptor));
+	if (!turns_wait(next, &time_sleep))
+		raise(signal_of(descriptor));
 	return 1;
 }
 
@@ -107,4 +119,27 @@ PUBLIC int sigsuspend(const sigset_t *mask)
 	int done = signals_exchange(mask, &old) || wait_for_signal();
 	pthread_sigmask(SIG_SETMASK, &old, NULL);
 	return done ? names_answer(-EINTR) : REAL(sigsuspend)(mask);
+}
+
+struct wanted {
+	const sigset_t *set;
+	siginfo_t *information;
+};
+
+static int pause_signal(void *what, uint64_t nanoseconds)
+{
+	struct wanted *w = what;
+	struct timespec time = clocks_time(nanoseconds);
+	int number = REAL(sigtimedwait)(w->set, w->information, &time);
+	return number >= 0 ? number : errno == EAGAIN ? 0 : -errno;
+}
+
+/* The signal of the device is blocked here, and is there once it was sent. */
+PUBLIC int sigtimedwait(const sigset_t *restrict set, siginfo_t *restrict information, const struct timespec *restrict time)
+{
+	struct wanted w = { set, information };
+	if (!time_is_shown() || !clocks_is_time(time))
+		return REAL(sigtimedwait)(set, information, time);
+	int result = signals_wait(time_after(clocks_nanoseconds(time)), &(struct wait){ pause_signal, NULL, &w });
+	return names_answer(result ? result : -EAGAIN);
 }

@@ -1,26 +1,30 @@
 /*
- * The board's time. It stands still but for these: each call takes ZENDROUZ_CALL_NS nanoseconds (1,000), a call that
- * waits takes as long as it waits, and a sleep takes as long as it says and returns at once. So nothing depends on the
- * machine, and a program that sleeps too long loses its sample at the same place in each run.
+ * The board's time, and the client's. They stand still but for these: each call takes ZENDROUZ_CALL_NS nanoseconds
+ * (1,000), and a wait takes as long as it says and returns at once. So nothing depends on the machine, and a program that
+ * sleeps too long loses its sample at the same place in each run. The board's time ends at the horizon of its signals, and
+ * the client's goes on: its clocks show it.
  *
- * With ZENDROUZ_PACE=F the board's time is F times the wall clock since the board was opened, and waits are real.
- * That is for demonstrations: it repeats nothing.
+ * With ZENDROUZ_CLOCK=system the clocks are the system's, and only sleeps and waits for the board take board time. With
+ * ZENDROUZ_PACE=F the board's time is F times the wall clock since the board was opened, and all waits are real. That is
+ * for demonstrations: it repeats nothing.
  */
 #define _GNU_SOURCE
 #include "device.h"
+#include "names.h"
 #include "server.h"
 #include <errno.h>
 #include <stdio.h>
 #include <stdlib.h>
 #include <string.h>
-#include <sys/syscall.h>
 #include <time.h>
-#include <unistd.h>
+
+/* what the thread's last look at a clock showed, and the one before it */
+static __thread uint64_t last_look = NEVER, look_before = NEVER;
 
 uint64_t time_of_wall(void)
 {
 	struct timespec t;
-	clock_gettime(CLOCK_MONOTONIC, &t);
+	REAL(clock_gettime)(CLOCK_MONOTONIC, &t);
 	return t.tv_sec * 1000000000ull + t.tv_nsec;
 }
 
@@ -32,10 +36,14 @@ static uint64_t paced_time(void)
 void time_start(void)
 {
 	const char *calls = getenv("ZENDROUZ_CALL_NS"), *pace = getenv("ZENDROUZ_PACE"), *wake = getenv("ZENDROUZ_WAKE");
+	const char *clock = getenv("ZENDROUZ_CLOCK");
 	device->call_time = calls ? strtoull(calls, NULL, 10) : 1000;
 	device->pace = pace ? strtod(pace, NULL) : 0;
 	device->wake = !wake ? WAKE_FULL : !strcmp(wake, "sample") ? WAKE_SAMPLE : !strcmp(wake, "scan") ? WAKE_SCAN : WAKE_FULL;
 	device->wall_start = time_of_wall();
+	device->shows_time = device->pace <= 0 && !(clock && !strcmp(clock, "system"));
+	clocks_start();
+	device->has_begun = 1;
 }
 
 /* Says once that the client has come to the end of the signals: its time was cut there, or a command ran dry. */
@@ -53,53 +61,95 @@ void time_say_end(void)
 		(unsigned long long)device->horizon / 1000000000, fraction);
 }
 
-/* Board time never falls, and stands still at the horizon. */
+/* No time ever falls, and the board's stands still at the horizon. */
 void time_to(uint64_t time)
 {
-	if (time > device->horizon) {
+	if (time > device->horizon)
 		time_say_end();
-		time = device->horizon;
-	}
-	if (time > device->now)
-		device->now = time;
+	if (time <= device->client_now)
+		return;
+	device->client_now = time;
+	device->now = time < device->horizon ? time : device->horizon;
+}
+
+/* The thread is busy for so long: nobody else has a turn meanwhile. */
+void time_spend(uint64_t nanoseconds)
+{
+	if (device->pace > 0)
+		time_wait(device->client_now + nanoseconds);
+	else
+		time_to(device->client_now + nanoseconds);
 }
 
 /* A call starts. */
 void time_call(void)
 {
-	time_to(device->pace > 0 ? paced_time() : device->now + device->call_time);
+	time_to(device->pace > 0 ? paced_time() : device->client_now + device->call_time);
 }
 
-/* Waits until a time. Where waits are real others may call meanwhile, and a signal ends the wait with -EINTR. */
+static int pause_sleep(void *what, uint64_t nanoseconds)
+{
+	struct timespec t = { nanoseconds / 1000000000, nanoseconds % 1000000000 };
+	(void)what;
+	return nanoseconds && REAL(nanosleep)(&t, NULL) ? -EINTR : 0;
+}
+
+const struct wait time_sleep = { pause_sleep, NULL, NULL };
+
+/* Waits until a time, within a call. Where others may call meanwhile a signal ends the wait with -EINTR. */
 int time_wait(uint64_t time)
 {
-	if (device->pace <= 0) {
+	int result = 0;
+	if (device->pace <= 0 && turns_is_alone()) {
 		time_to(time);
 		return 0;
 	}
-	uint64_t now = paced_time();
-	int interrupted = 0;
-	if (time > now) {
-		uint64_t real = (time - now) / device->pace + 1;
-		struct timespec t = { real / 1000000000, real % 1000000000 };
-		device_leave();
-		interrupted = syscall(SYS_nanosleep, &t, NULL) != 0;
-		device_enter();
-	}
-	time_to(paced_time());
-	return interrupted ? -EINTR : 0;
+	uint64_t now = device->pace > 0 ? paced_time() : 0;
+	device_leave();
+	if (device->pace <= 0)
+		result = turns_wait(time, &time_sleep);
+	else if (time > now)
+		result = pause_sleep(NULL, (time - now) / device->pace + 1);
+	device_enter();
+	if (device->pace > 0)
+		time_to(paced_time());
+	return result;
 }
 
-/* Whether a sleep of the client is one of board time: a board is open, and waits aren't real. */
+/* Whether sleeps of the client take board time: a board was opened, and waits aren't real. */
 int time_is_board_time(void)
 {
-	return device && device->pace <= 0 && device_is_open();
+	return device && device->has_begun && device->pace <= 0;
 }
 
-void time_sleep(uint64_t nanoseconds)
+/* Whether all that the client sees of the time is the board's. */
+int time_is_shown(void)
+{
+	return time_is_board_time() && device->shows_time;
+}
+
+/* The client's time, as a clock shows it to a thread. A thread that looks again and again gets on: where nothing took time
+ * since its last look, this one takes a call's time. */
+uint64_t time_look(void)
 {
 	device_enter();
-	record_note("%llu sleep %llu", (unsigned long long)device->now, (unsigned long long)nanoseconds);
-	time_to(device->now + nanoseconds);
+	if (device->client_now == last_look)
+		time_to(device->client_now + device->call_time);
+	uint64_t time = device->client_now;
+	look_before = last_look;
+	last_look = time;
 	device_leave();
+	return time;
+}
+
+/* The last look wasn't the client's own. */
+void time_forget_look(void)
+{
+	last_look = look_before;
+}
+
+/* The client's time after so long, or NEVER where there is no end. */
+uint64_t time_after(int64_t nanoseconds)
+{
+	return nanoseconds < 0 ? NEVER : device->client_now + nanoseconds;
 }

@@ -2,7 +2,8 @@
  * How fast samples are read: `many BYTES COUNT`.
  *
  * On wide.board sample k comes at 3,000 + k * 10,000 ns, so 100 of them have the same code. 25,500 samples have the
- * codes 0 to 254, and their sum is 100 * 254 * 255 / 2 = 3,238,500. The speed goes to standard error.
+ * codes 0 to 254, and their sum is 100 * 254 * 255 / 2 = 3,238,500. The speed goes to standard error: it is of
+ * the wall clock with ZENDROUZ_CLOCK=system.
  */
 #include "client.h"
 #include <time.h>

@@ -19,8 +19,10 @@
 #include <sys/ioctl.h>
 #include <sys/mman.h>
 #include <sys/select.h>
+#include <sys/timerfd.h>
 #include <sys/uio.h>
 #include <sys/wait.h>
+#include <time.h>
 
 #define FILES 3
 #define ROOM 8192
@@ -28,7 +30,7 @@
 #define CALLS_OF_A_BOARD 500
 
 static uint64_t state = 1;
-static int files[FILES], set;
+static int files[FILES], set, timer;
 static unsigned char memory[ROOM + GUARD];
 static unsigned list[300], data[4096];
 static comedi_insn instructions[16];
@@ -78,7 +80,7 @@ static void fill_command(comedi_cmd *command)
 	command->convert_src = good ? TRIG_NOW : source();
 	command->convert_arg = good ? 0 : number();
 	command->scan_end_src = good ? TRIG_COUNT : source();
-	command->chanlist_len = below(8) ? 1 + below(2) : number() % 300;
+	command->chanlist_len = below(8) ? 1 + below(below(4) ? 2 : 20) : number() % 300;
 	command->scan_end_arg = below(8) ? command->chanlist_len : number();
 	command->stop_src = below(2) ? TRIG_COUNT : good ? TRIG_NONE : source();
 	command->stop_arg = command->stop_src == TRIG_NONE ? 0 : number();
@@ -192,6 +194,28 @@ static long call_set(int descriptor)
 	return epoll_wait(set, events, 1 + below(3), below(4));
 }
 
+/* Clocks, a timer, and waits for files that aren't the device's. */
+static long call_clock(void)
+{
+	static const int clocks[] = { CLOCK_REALTIME, CLOCK_MONOTONIC, CLOCK_BOOTTIME, CLOCK_PROCESS_CPUTIME_ID };
+	const struct itimerspec to = { { 0, below(3) * 1000000 }, { 0, below(3000000) } };
+	struct pollfd asked[2] = { { timer, POLLIN, 0 }, { files[below(FILES)], POLLIN, 0 } };
+	struct timespec time;
+	switch (below(6)) {
+	case 0:
+		return clock_gettime(clocks[below(4)], &time);
+	case 1:
+		return timerfd_settime(timer, below(2) ? TFD_TIMER_ABSTIME : 0, &to, NULL);
+	case 2:
+		return read(timer, pointer(memory), number() % ROOM);
+	case 3:
+		return epoll_ctl(set, below(2) ? EPOLL_CTL_ADD : EPOLL_CTL_DEL, timer, &(struct epoll_event){ .events = EPOLLIN });
+	case 4:
+		return select(timer + 1, NULL, NULL, NULL, &(struct timeval){ 0, below(4000) });
+	}
+	return poll(asked, 1 + below(2), below(4));
+}
+
 static void note(int number_of_signal)
 {
 	(void)number_of_signal;
@@ -222,18 +246,21 @@ static long call_any(int kind, int which)
 		return call_stream(files[which]);
 	if (kind < 14)
 		return call_memory(files[which]);
-	return kind < 16 ? call_set(files[which]) : call_file(which);
+	if (kind < 16)
+		return call_set(files[which]);
+	return kind < 18 ? call_clock() : call_file(which);
 }
 
 /* Some calls on a board of their own, in a process of their own: else all would soon be at the board's horizon. */
 static int run_calls(unsigned calls)
 {
 	set = epoll_create1(0);
+	timer = timerfd_create(CLOCK_MONOTONIC, TFD_NONBLOCK);
 	for (int i = 0; i < FILES; i++)
 		if ((files[i] = open("/dev/comedi0", O_RDWR | O_NONBLOCK)) < 0)
 			return report("open", -1);
 	for (unsigned i = 0; i < calls; i++) {
-		int which = below(FILES), kind = below(18);
+		int which = below(FILES), kind = below(20);
 		memset(memory + ROOM, 0xa5, GUARD);
 		long result = call_any(kind, which);
 		for (int k = 0; k < GUARD; k++)

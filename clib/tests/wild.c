@@ -1,6 +1,6 @@
 /*
  * Arguments that lead nowhere: a pointer into nothing is EFAULT, a number that isn't there EINVAL (ENODEV for a command),
- * and a request that isn't Comedi's ENOTTY. Nothing of it ends the client.
+ * and a request that isn't Comedi's, or only an old one, ENOTTY. Nothing of it ends the client.
  */
 #include "client.h"
 #include <sys/ioctl.h>
@@ -77,6 +77,12 @@ static void ask_numbers(void)
 	ask("its lock", COMEDI_LOCK, (void *)99);
 	ask("its end", COMEDI_CANCEL, (void *)-1L);
 	ask("a request that isn't Comedi's", 0x5401, NULL);
+	ask("reads of an input", COMEDI_SETRSUBD, (void *)0);
+	ask("reads of an output", COMEDI_SETRSUBD, (void *)1);
+	ask("writes of an output", COMEDI_SETWSUBD, (void *)1);
+	ask("writes of lines without commands", COMEDI_SETWSUBD, (void *)2);
+	ask("a board's configuration", COMEDI_DEVCONFIG, NULL);
+	ask("a command as of old", COMEDI_TRIG, NULL);
 }
 
 int main(void)

@@ -1,0 +1,181 @@
+"""Parts of clib/check: the clients of tests/, whose expected texts are worked from the boards."""
+
+import os
+import re
+import signal
+import subprocess
+import threading
+
+from checking import TESTS, python_with_comedi, text_of
+
+RANDOM_CALLS = 1000000
+RANDOM_SECONDS = 200
+# how many lines wide.board has, the text that the program of answers gets first
+LINES_OF_WIDE = text_of("wide.board").count("\n")
+CLIENTS_AT_ONCE = 64
+
+
+def clients(check):
+    texts = set()
+    for _ in range(2 if check.quick else 20):
+        run = check.client("late", "small")
+        texts.add(run.out + "\n".join(run.record))
+    check.expect("late: the same in each run", len(texts) == 1, *texts)
+    check.compare_record("late", "small", run, run.codes())
+    for name in ("output", "output_mapped"):
+        run = check.client(name, "wide")
+        check.expect(name + ": what was put out", run.outs() == text_of(name + ".outs").splitlines(), "\n".join(run.outs()))
+        check.compare_record(name, "wide", run, [])
+    run = check.client("forks", "wide")
+    check.compare_record("forks", "wide", run, run.codes())
+    for name in ("signals", "waiting"):
+        run = check.client(name, "wide")
+        check.compare_record(name, "wide", run, run.codes())
+    run = check.client("ends", "wide")
+    # its commands are called at these times: each call takes 1,000 ns, and each sleep 100 ms
+    starts = ((3000, 4096), (100006000, 4096), (200009000, 32768))
+    check.compare_record("ends", "wide", run, [(start + k * 1000) // 1000000 % 255 for start, count in starts for k in range(count)])
+    check.client("locks", "wide")
+    check.client("wild", "wide")
+    check.client("paced", "wide", ZENDROUZ_PACE="10")
+
+
+# The list of packed.c: what stands for line 0 and 1 is exchanged, and the last four entries are the lines 0 to 3 again.
+PACKED_LIST = [1, 0] + list(range(2, 16)) + [0, 1, 2, 3]
+
+
+def line_levels(start, count):
+    """The levels of so many entries of digital.board, from a command's call on: a scan each 100 us."""
+    places = [divmod(i, len(PACKED_LIST)) for i in range(count)]
+    return [5000000 * ((start + scan * 100000) // 100000 >> PACKED_LIST[entry] & 1) for scan, entry in places]
+
+
+def packed(check):
+    """Digital scans. The kernel's rule, put into the other direction: entry K is bit K of a scan's two samples."""
+    check.client("scattered", "digital", ZENDROUZ_LOG="")
+    run = check.client("packed", "digital")
+    # 6 scans; none of the second command's; twice all that the buffer holds, with a part of a scan; and 4 scans
+    read = ((3000, 120), (586000, 110), (2593000, 110), (4596000, 80))
+    check.compare_record("packed", "digital", run, [level for start, count in read for level in line_levels(start, count)])
+    scans = [(0x0001, 0x0008), (0x8000, 0xfff5), (0x1234, 0x000a), (0x0001, 0x0008)]
+    words = [(first | second << 16) >> entry & 1 for first, second in scans for entry in range(len(PACKED_LIST))]
+    found = [line.split() for line in run.outs()]
+    check.expect("packed: what was put out", [(int(w[3]), int(w[4])) for w in found] == [(i % 20, bit) for i, bit in enumerate(words)], run.outs())
+    times = sorted({int(w[2]) for w in found})
+    check.expect("packed: a scan each 100 us", [time - times[0] for time in times] == [0, 100000, 200000, 300000], times)
+
+
+def times(check):
+    """Clocks, and waits of board time for what isn't the board's."""
+    for name in ("clocks", "timers", "turns"):
+        runs = [check.client(name, "wide", ZENDROUZ_CLOCK=clock) for clock in ("", "board")]
+        check.expect(name + ": the same in each run", runs[0].record == runs[1].record, *(run.record for run in runs))
+    check.client("real", "wide", ZENDROUZ_CLOCK="system")
+    check.client("real", "wide", ZENDROUZ_PACE="10")
+    check.client("beyond", "small")
+
+
+def times_of_python(check):
+    python = python_with_comedi()
+    if not python:
+        check.say("no Python module of comedilib: its waits aren't tried")
+        return
+    for clock in ("", "board") if check.quick else ("", "board", "", "", ""):
+        run = check.run("saw", [python, os.path.join(TESTS, "python_waits.py")], ZENDROUZ_CLOCK=clock)
+        check.expect("waits in Python", run.status == 0 and run.out == text_of("python_waits.expected"), "status %s" % run.status, run.out, run.err)
+
+
+def many(check):
+    """Reads of many samples, and of one sample each; the sum of a whole period is 3,238,500 for 25,500 samples."""
+    for size, count in ((4096, 25500 if check.quick else 510000), (2, 200 if check.quick else 10000)):
+        run = check.run("wide", [check.path("tests/many"), str(size), str(count)], ZENDROUZ_CLOCK="system")
+        codes = [k // 100 % 255 for k in range(count)]
+        wanted = "command: 0\nthe last read: 0\n%d samples, sum %d\n" % (count, sum(codes))
+        check.expect("many of %d bytes" % size, run.out == wanted, run.out, run.err)
+        check.say("many: reads of %d bytes: %s" % (size, run.err.strip()))
+        check.compare_record("many of %d bytes" % size, "wide", run, codes)
+
+
+def crowds(check):
+    """Threads, children and signals on one board; and many clients at once, each on a board of its own."""
+    for _ in range(1 if check.quick else 3):
+        check.client("left", "wide")
+        check.client("storm", "wide")
+        run = check.client("crowd", "wide")
+        check.compare_record("crowd", "wide", run, [k // 100 % 255 for k in range(25500)])
+    started = [check.start([check.path("tests/late")], check.settings("small", ZENDROUZ_LOG="")) for _ in range(CLIENTS_AT_ONCE)]
+    ended = [None] * len(started)
+
+    def finish(i):
+        ended[i] = check.finish(started[i])[0].decode()
+
+    waits = [threading.Thread(target=finish, args=(i,)) for i in range(len(started))]
+    for wait in waits:
+        wait.start()
+    for wait in waits:
+        wait.join()
+    check.expect_no_process("%d clients" % CLIENTS_AT_ONCE)
+    wrong = [out for out in ended if out != text_of("late.expected")]
+    check.expect("%d clients at once" % CLIENTS_AT_ONCE, not wrong, "%d wrong" % len(wrong), *wrong[:1])
+
+
+def kills(check):
+    """A client that is ended by a signal while its command runs."""
+    for number in (signal.SIGKILL, signal.SIGTERM, signal.SIGINT):
+        # its last sample is beyond the end of the signals, so it ends by the signal or not at all
+        started = check.start([check.path("tests/many"), "2", "4000000000"], check.settings("wide", ZENDROUZ_LOG=""))
+        line = started.stdout.readline()
+        started.send_signal(number)
+        check.finish(started)
+        check.expect("a client ended by signal %d" % number, line == b"command: 0\n" and started.returncode == -number, line, started.returncode)
+        check.expect_no_process("a client ended by signal %d" % number)
+
+
+def failures(check):
+    run = check.run("refused", [check.path("tests/late")])
+    check.expect("a board that is refused", run.status == 1 and run.out == "open: Invalid argument\n" and run.err.endswith("refused.board:4: refused BadNumber: bits 08\n"), run.out, run.err)
+    dead = dict(DYING_CORE=check.serve, DYING_LINES="26")
+    check.client("dead", "small", ZENDROUZ_CORE=os.path.join(TESTS, "dying"), **dead)
+    check.client("orphan", "small", ZENDROUZ_CORE=os.path.join(TESTS, "stalling"), **dead)
+    run = check.run("small", [check.path("tests/late")], ZENDROUZ_CORE="/nowhere")
+    check.expect("a program that isn't there", run.status == 1 and run.out == "open: Input/output error\n", run.out, run.err)
+
+
+def is_broken_off(out, whole):
+    """Whether an output is a whole one up to some line, and from there on each call failed with EIO. The first of them may
+    have moved a part."""
+    pairs = [(line.split(": "), right.split(": ")) for line, right in zip(out, whole)]
+    broken = [pair for i, pair in enumerate(pairs) if out[:i + 1] != whole[:i + 1]]
+    if broken and broken[0][0][1].isdigit() and int(broken[0][0][1]) < int(broken[0][1][1]):
+        broken = broken[1:]
+    names_are_right = len(out) == len(whole) and all(line[0] == right[0] for line, right in pairs)
+    return names_are_right and all(line[1] == "Input/output error" for line, _ in broken)
+
+
+def deaths(check):
+    """The program of answers ends after each of its lines in turn, up to where none is missing."""
+    whole = text_of("each.expected").splitlines()
+    check.client("each", "wide")
+    out, lines = [], LINES_OF_WIDE
+    while out != whole and not check.failed:
+        run = check.run("wide", [check.path("tests/each")], ZENDROUZ_CORE=os.path.join(TESTS, "dying"), DYING_CORE=check.serve, DYING_LINES=str(lines))
+        out = run.out.splitlines()
+        unopened = run.status == 1 and out == ["open: Input/output error"]
+        check.expect("a death after %d lines" % lines, unopened or (run.status == 0 and is_broken_off(out, whole)), run.status, run.out, run.err)
+        lines += 9 if check.quick else 1
+
+
+def random_calls(check, board):
+    calls = (300 if check.quick else RANDOM_CALLS) // 3
+    run = check.run(board, [check.path("sanitized/random"), str(calls)], RANDOM_SECONDS, LD_PRELOAD="", ZENDROUZ_LOG="")
+    # each of its children may come to the end of the signals
+    said = re.sub(r"^zendrouz: the signals of \S*/%s.board end at 10? s of board time: from here on nothing changes\n" % board, "", run.err, flags=re.M)
+    check.expect("random calls of " + board, run.status == 0 and run.out == "%d calls\n" % calls and not said, run.out, said)
+
+
+def build(check):
+    """Everything is built with all warnings as errors."""
+    words = ["make", "-j%d" % (os.cpu_count() or 1), "-C", os.path.dirname(TESTS), "OUT=" + check.programs.top, "all", "clients", "sanitized"]
+    done = subprocess.run(words, stdout=subprocess.DEVNULL, stderr=subprocess.PIPE)
+    check.expect("build", done.returncode == 0, done.stderr.decode())
+    return done.returncode == 0

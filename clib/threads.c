@@ -1,0 +1,82 @@
+/*
+ * Whether the other threads of this process sleep, by what the kernel shows of them.
+ *
+ * A thread that waits for an answer of the board's program sleeps too, but has something to do. These calls are counted.
+ */
+#define _GNU_SOURCE
+#include "device.h"
+#include <dirent.h>
+#include <fcntl.h>
+#include <stdio.h>
+#include <stdlib.h>
+#include <string.h>
+#include <sys/syscall.h>
+#include <unistd.h>
+
+#define TASKS "/proc/self/task"
+
+/* These make system calls directly: the names of the C library may be cancelled, and a wait has no file of its own then. */
+static int open_file(const char *path, int flags)
+{
+	return syscall(SYS_openat, AT_FDCWD, path, flags | O_CLOEXEC);
+}
+
+static int read_text(const char *path, char *text, size_t room)
+{
+	int file = open_file(path, O_RDONLY);
+	if (file < 0)
+		return 0;
+	long length = syscall(SYS_read, file, text, room - 1);
+	syscall(SYS_close, file);
+	text[length > 0 ? length : 0] = 0;
+	return length > 0;
+}
+
+/* How often a thread has been given a processor. */
+static uint64_t switches_of(const char *status)
+{
+	const char *waited = strstr(status, "\nvoluntary_ctxt_switches:"), *taken = strstr(status, "\nnonvoluntary_ctxt_switches:");
+	return waited && taken ? strtoull(strchr(waited, ':') + 1, NULL, 10) + strtoull(strchr(taken, ':') + 1, NULL, 10) : 0;
+}
+
+/* Whether a thread sleeps, or is no more. Adds what changes once it has run: the number of its wait, in which it may look
+ * for itself, or else of its switches. */
+static int sleeps(pid_t thread, uint64_t *sum)
+{
+	char path[64], status[4096];
+	snprintf(path, sizeof path, TASKS "/%d/status", thread);
+	if (!read_text(path, status, sizeof status))
+		return 1;
+	const char *state = strstr(status, "\nState:");
+	uint64_t number = turns_number(thread);
+	*sum += number ? number << 32 : switches_of(status);
+	return state && !strchr("RD", state[strcspn(state, "\t") + 1]);
+}
+
+/* One look at each thread but this one. */
+static int all_sleep(uint64_t *sum)
+{
+	char names[4096] __attribute__((aligned(8)));
+	int folder = open_file(TASKS, O_RDONLY | O_DIRECTORY), sleep = folder >= 0;
+	long length = 0;
+	while (sleep && (length = syscall(SYS_getdents64, folder, names, sizeof names)) > 0)
+		for (long at = 0; sleep && at < length;) {
+			const struct dirent64 *entry = (const struct dirent64 *)(names + at);
+			pid_t thread = atoi(entry->d_name);
+			if (thread && thread != gettid())
+				sleep = sleeps(thread, sum);
+			at += entry->d_reclen;
+		}
+	syscall(SYS_close, folder);
+	return sleep;
+}
+
+/*
+ * Whether all other threads sleep. Answers 0 where one doesn't, and else a number that is another one once any of them has
+ * run. In one look a thread that was looked at early may have been woken by one that was looked at late, so two looks tell.
+ */
+uint64_t threads_sleep(void)
+{
+	uint64_t sum = 1;
+	return all_sleep(&sum) && !device_callers() ? sum : 0;
+}
