@@ -1,0 +1,106 @@
+"""Programs of clib/tests on their boards, run from Python."""
+import os
+import pickle
+import shutil
+import signal
+import tempfile
+import time
+import unittest
+from pathlib import Path
+from unittest import mock
+
+from needed import CLIB_TESTS, CLIENTS, SMALL, Case, build_clients, needs
+from zendrouz import Board, Overrun, ProgramTimedOut, Signals, const, find, replay
+from zendrouz.bench import CommandEnd, ProgramRun, run_program
+from zendrouz.texts import GREATEST_HORIZON, head_of
+
+
+def runs(process: str) -> bool:
+    """Whether the process of a number runs."""
+    try:
+        return " Z " not in Path("/proc", process, "stat").read_text()
+    except OSError:
+        return False
+
+
+class Head(Case):
+    def test_a_board_may_be_a_text_a_path_or_a_board(self) -> None:
+        text = SMALL.read_text()
+        self.assertEqual(head_of(text), text)
+        self.assertEqual(head_of(SMALL), text)
+        self.assertEqual(head_of(str(SMALL)), text)
+
+    def test_a_board_without_signals_has_the_greatest_horizon(self) -> None:
+        board = Board.named("ni_pci_6221")
+        self.assertEqual(head_of(board), "%ssignals %d\nsession\n" % (board, GREATEST_HORIZON))
+
+    def test_signals_stand_in_place_of_the_boards_own(self) -> None:
+        signals = Signals(5000, {(0, 0): const(7)})
+        head = head_of(SMALL, signals)
+        self.assertEqual(head, "%s%ssession\n" % (Board.read(SMALL), signals))
+        self.assertEqual(head_of(SMALL, str(signals)), head)
+
+
+@needs("comedi")
+@needs("comedi_serve")
+class Programs(Case):
+    @classmethod
+    def setUpClass(cls) -> None:
+        build_clients()
+
+    def test_a_loss_is_reported_and_its_record_replays(self) -> None:
+        run = run_program([CLIENTS / "late"], board=SMALL)
+        self.assertEqual((run.status, run.output), (0, (CLIB_TESTS / "late.expected").read_text()))
+        self.assertEqual(run.ends, (CommandEnd(27507000, Overrun(14)),))
+        self.assertEqual(run.lost, run.ends)
+        played = replay(run.record)
+        self.assertEqual([sample.level for sample in played.samples(0)], list(range(14)))
+        self.assertEqual([end for _, end in played.ends], [Overrun(14)])
+
+    def test_each_run_is_the_same(self) -> None:
+        self.assertEqual(run_program([CLIENTS / "late"], board=SMALL), run_program([CLIENTS / "late"], board=SMALL))
+
+    def test_a_call_takes_as_long_as_it_is_told(self) -> None:
+        run = run_program([CLIENTS / "late"], board=SMALL, call_ns=5000)
+        self.assertIn("\n5000 insn 0 0 gtod\n10000 insn 0 0 gtod\n", run.record)
+
+    def test_the_library_may_stand_in_any_folder(self) -> None:
+        with tempfile.TemporaryDirectory(prefix="a b:c ") as folder:
+            library = shutil.copy(find("libzendrouz_comedi.so"), folder)
+            with mock.patch.dict(os.environ, ZENDROUZ_LIBRARY=library):
+                self.assertEqual(len(run_program([CLIENTS / "late"], board=SMALL).lost), 1)
+
+    def test_a_refused_board_is_said_on_standard_error(self) -> None:
+        run = run_program([CLIENTS / "late"], board=CLIB_TESTS / "refused.board")
+        self.assertNotEqual(run.status, 0)
+        self.assertIn("refused", run.error)
+        self.assertEqual(run.ends, ())
+
+    def test_a_program_has_its_input_its_folder_and_its_variables(self) -> None:
+        run = run_program(["sh", "-c", "cat; pwd; echo $WORD; echo said >&2; exit 3"], board=SMALL, input="given\n", folder="/",
+                          environment={"WORD": "word"})
+        self.assertEqual((run.status, run.output, run.error), (3, "given\n/\nword\n", "said\n"))
+        self.assertEqual(run.record, SMALL.read_text())
+
+    def test_a_program_that_a_signal_ends(self) -> None:
+        self.assertEqual(run_program(["sh", "-c", "kill -9 $$"], board=SMALL).status, -signal.SIGKILL)
+
+    def test_a_program_that_takes_too_long_is_killed_with_its_children(self) -> None:
+        with tempfile.TemporaryDirectory() as folder:
+            with self.assertRaises(ProgramTimedOut) as raised:
+                run_program(["sh", "-c", "echo said; (while :; do :; done) & echo $! > child; wait"], board=SMALL, folder=folder, timeout=1)
+            child = Path(folder, "child").read_text().strip()
+        error = raised.exception
+        self.assertEqual(error.run.output, "said\n")
+        self.assertEqual(str(error), "sh: killed after 1 s. The last line of its record: session")
+        self.assertEqual(str(pickle.loads(pickle.dumps(error))), str(error))
+        while runs(child):  # it was killed, but that isn't awaited
+            time.sleep(0.01)
+
+    def test_a_program_that_is_not_there(self) -> None:
+        with self.assertRaises(FileNotFoundError):
+            run_program(["./none"], board=SMALL)
+
+
+if __name__ == "__main__":
+    unittest.main()

@@ -1,0 +1,121 @@
+"""Unmodified programs that use Comedi, run on a modelled board.
+
+    run = run_program(["./logger", "-n", "3"], board=Board.named("ni_pci_6221"))
+    assert run.status == 0 and not run.lost
+
+The device library is loaded into the program, as `with_board` does, and what the program asked comes back as a job.
+"""
+from __future__ import annotations
+
+import os
+import re
+import subprocess
+import tempfile
+from dataclasses import dataclass, field
+from pathlib import Path
+from typing import IO, Dict, Mapping, Optional, Sequence, Tuple, Union
+
+from .answers import Done, Dry, End, end_of
+from .programs import find, kill
+from .refusals import TimedOut
+from .texts import Board, PathLike, Signals, head_of, write_file
+
+_END = re.compile(r"^# (\d+) end: (?:ok 0|err 32) (.*)$", re.M)
+
+
+@dataclass(frozen=True)
+class CommandEnd:
+    """How a command of a program ended, and the board's time in nanoseconds at which that was reported."""
+
+    time: int
+    end: End
+
+
+@dataclass(frozen=True)
+class ProgramRun:
+    """What a program did on a modelled board.
+
+    `status` is its exit status, or below 0 the signal that ended it. `output` and `error` are what it printed. `record` is
+    a job of `replay`: the board, the signals, and each line of the session that the program held. `ends` has the ends of
+    its commands that were reported to it.
+    """
+
+    status: int
+    output: str
+    error: str
+    record: str = field(repr=False)
+    ends: Tuple[CommandEnd, ...] = ()
+
+    @property
+    def lost(self) -> Tuple[CommandEnd, ...]:
+        """The ends at which a sample was lost, or a word was missing: overrun, fifo and underrun."""
+        return tuple(end for end in self.ends if not isinstance(end.end, (Done, Dry)))
+
+
+class ProgramTimedOut(TimedOut):
+    """A program on a modelled board that was killed. `run` has what it did by then."""
+
+    def __init__(self, name: str, timeout: float, run: ProgramRun) -> None:
+        super().__init__(name, timeout)
+        self.args = name, timeout, run
+        self.run = run
+
+    def __str__(self) -> str:
+        return "%s. The last line of its record: %s" % (super().__str__(), self.run.record.splitlines()[-1])
+
+
+def run_program(args: Sequence[PathLike], *, board: Union[Board, PathLike], signals: Union[Signals, str, None] = None,
+                call_ns: Optional[int] = None, timeout: float = 60.0, input: str = "", folder: Optional[PathLike] = None,
+                environment: Optional[Mapping[str, str]] = None) -> ProgramRun:
+    """Runs a program, to which the modelled board is `/dev/comedi0`, up to its end.
+
+    `board` and `signals` are as in `head_of`. Each call of the device file takes `call_ns` nanoseconds of the board's
+    time, 1000 where that isn't said. After `timeout` seconds the program is killed with its children, and
+    `ProgramTimedOut` is raised. `input` is what the program reads, `folder` where it runs. `environment` has variables besides those of this
+    process, as ZENDROUZ_WAKE (docs/CLIENTS.md has them all).
+    """
+    with tempfile.TemporaryDirectory(prefix="zendrouz_") as name:
+        files = Path(name)
+        head = head_of(board, signals)
+        write_file(files / "board", head)
+        write_file(files / "input", input)
+        variables = {**os.environ, **(environment or {})}
+        variables.update(_device(files, variables.get("LD_PRELOAD")))
+        if call_ns is not None:
+            variables["ZENDROUZ_CALL_NS"] = str(call_ns)
+        with open(files / "input", "rb") as given, open(files / "output", "wb") as output, open(files / "error", "wb") as error:
+            status, is_late = _run([os.fspath(arg) for arg in args], variables, folder, (given, output, error), timeout)
+        lines = _text(files / "log")
+        ends = [CommandEnd(int(time), end) for time, words in _END.findall(lines) for end in [end_of(words.split())] if end]
+        run = ProgramRun(status, _text(files / "output"), _text(files / "error"), head + lines, tuple(ends))
+    if is_late:
+        raise ProgramTimedOut(os.path.basename(args[0]), timeout, run)
+    return run
+
+
+def _device(files: Path, loaded: Optional[str]) -> Dict[str, str]:
+    """The variables by which the device library is loaded, finds its board and its core, and keeps its record."""
+    library = find("libzendrouz_comedi.so")
+    if re.search("[ :]", str(library)):  # where LD_PRELOAD would end the name
+        (files / "device.so").symlink_to(library)
+        library = files / "device.so"
+    return {"ZENDROUZ_BOARD": str(files / "board"), "ZENDROUZ_LOG": str(files / "log"),
+            "ZENDROUZ_CORE": str(find("comedi_serve")), "LD_PRELOAD": "%s:%s" % (loaded, library) if loaded else str(library)}
+
+
+def _run(words: Sequence[str], variables: Mapping[str, str], folder: Optional[PathLike],
+         files: Tuple[IO[bytes], IO[bytes], IO[bytes]], timeout: float) -> Tuple[int, bool]:
+    """The status of a program, and whether it had to be killed, with all that it started."""
+    started = subprocess.Popen(words, env=variables, cwd=folder, stdin=files[0], stdout=files[1], stderr=files[2],
+                               start_new_session=True)
+    try:
+        return started.wait(timeout), False
+    except subprocess.TimeoutExpired:
+        return kill(started), True
+    except BaseException:
+        kill(started)
+        raise
+
+
+def _text(path: Path) -> str:
+    return path.read_text(encoding="utf-8", errors="replace") if path.exists() else ""
