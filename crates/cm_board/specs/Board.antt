@@ -13,48 +13,17 @@ use Rattle.cm_board.specs.declared.board.Munge.TheVariants as munges
 use Rattle.cm_board.specs.declared.board.Range.{Range}
 use Rattle.cm_board.specs.declared.board.Forbid.{Forbid}
 use Rattle.cm_board.specs.declared.board.Fifo.{Fifo}
-
--- the sources that each trigger may have
-pub record Masks : Type 0 where
-  pub start : ℕ
-  pub scan_begin : ℕ
-  pub convert : ℕ
-  pub scan_end : ℕ
-  pub stop : ℕ
-
--- what a board says of one channel alone: its greatest code, its munge and its ranges, each only where it says it
-pub record ChanText : Type 0 where
-  pub chan : ℕ
-  pub maxdata : Option ℕ
-  pub munge : Option Munge
-  pub ranges : List Range
-
--- a subdevice as a plain record of numbers and lists
-pub record SubText : Type 0 where
-  pub kind : Kind
-  pub channels : ℕ
-  pub maxdata : ℕ
-  pub munge : Munge
-  pub ranges : List Range
-  pub masks : Masks
-  pub tick : ℕ
-  pub scan_min : ℕ
-  pub scan_max : ℕ
-  pub conv_min : ℕ
-  pub conv_max : ℕ
-  pub list_max : ℕ
-  pub scans_max : ℕ
-  pub lines : ℕ
-  pub buffer : ℕ
-  pub same_range : Bool
-  pub forbidden : List Forbid
-  pub chans : List ChanText
-  pub invert : Bool
-  pub fifo : Option Fifo
+use Rattle.cm_board.specs.BoardTable.{board_table}
+use Rattle.cm_board.specs.Kept.{IsWhole}
+use Rattle.cm_board.specs.Said.{head_of, sub_of}
+pub use Rattle.cm_board.specs.Kept.{is_among, is_source}
+pub use Rattle.cm_board.specs.Kinds.{has_levels, is_digital, is_dio, is_output, is_unused, may_command, may_fifo}
+pub use Rattle.cm_board.specs.Records.{ChanText, Masks, SubText, says_any}
 
 -- a subdevice of a kind that takes no commands, with this many channels, this greatest code and these ranges, and nothing else
 abbrev pub idle_sub : Kind → ℕ → ℕ → List Range → SubText
 idle_sub kind channels maxdata ranges = record {
+  version = 1;
   kind = kind;
   channels = channels;
   maxdata = maxdata;
@@ -75,6 +44,7 @@ idle_sub kind channels maxdata ranges = record {
   chans = [];
   invert = false;
   fifo = None;
+  block = [];
 }
 
 -- a place of a board that has no subdevice
@@ -140,48 +110,6 @@ line_of sub arg = if sub.invert then arg % 2 ^ 31 else arg
 abbrev pub is_fall : SubText → ℕ → Bool
 is_fall sub arg = sub.invert && arg / 2 ^ 31 % 2 == 1
 
--- whether a subdevice is there in name alone
-abbrev pub is_unused : Kind → Bool
-is_unused kinds.Unused = true
-is_unused kind = false
-
--- the kinds whose channels are one bit
-abbrev pub is_digital : Kind → Bool
-is_digital kinds.Di = true
-is_digital kinds.Do = true
-is_digital kinds.Dio = true
-is_digital kind = false
-
--- the kind whose channels can be made inputs or outputs
-abbrev pub is_dio : Kind → Bool
-is_dio kinds.Dio = true
-is_dio kind = false
-
--- the kinds whose samples go out
-abbrev pub is_output : Kind → Bool
-is_output kinds.Ao = true
-is_output kinds.Do = true
-is_output kind = false
-
--- the kinds whose channels have levels from outside
-abbrev pub has_levels : Kind → Bool
-has_levels kinds.Ai = true
-has_levels kinds.Di = true
-has_levels kinds.Dio = true
-has_levels kind = false
-
--- the kinds that may take commands
-abbrev pub may_command : Kind → Bool
-may_command kinds.Unused = false
-may_command kinds.Dio = false
-may_command kind = true
-
--- the kinds whose samples may come through a hardware FIFO
-abbrev pub may_fifo : Kind → Bool
-may_fifo kinds.Ai = true
-may_fifo kinds.Di = true
-may_fifo kind = false
-
 -- whether a munge swaps the two bytes of a word
 abbrev pub swaps : Munge → Bool
 swaps munges.Swap16 = true
@@ -218,10 +146,6 @@ fits_range r = is_int r.min && is_int r.max && nat_le r.unit 2
 abbrev pub is_fifo : Fifo → Bool
 is_fifo f = nat_le 2 f.depth && nat_le f.depth 4096 && f.depth % 2 == 0 && nat_le f.latency 1000000000
 
--- some sources of a set, and none but these
-abbrev pub is_among : ℕ → ℕ → Bool
-is_among set mask = not (mask == 0) && bit_and mask set == mask
-
 -- no trigger has a source
 abbrev pub are_empty : Masks → Bool
 are_empty m = m.start == 0 && m.scan_begin == 0 && m.convert == 0 && m.scan_end == 0 && m.stop == 0
@@ -245,10 +169,6 @@ is_idle s =
 -- an unused subdevice has no ranges, and its words are plain bits
 abbrev pub is_bare : SubText → Bool
 is_bare s = length s.ranges == 0 && s.maxdata == 1 && is_plain s.munge && length s.chans == 0 && is_idle s
-
--- one source
-abbrev pub is_source : ℕ → Bool
-is_source src = is_among 511 src && bit_and src (src - 1) == 0
 
 -- two different triggers, each with a source
 abbrev pub is_pair : Forbid → Bool
@@ -303,10 +223,6 @@ is_channel_ok s chan =
 unfoldable pub is_bits_ok : SubText → Bool
 is_bits_ok s = list_all (is_channel_ok s) (range_with_len 0 s.channels)
 
--- a channel says something of itself
-abbrev pub says_any : ChanText → Bool
-says_any c = is_some c.maxdata || is_some c.munge || nat_le 1 (length c.ranges)
-
 -- what a board may say of one of so many channels
 pub record IsSoundChan (channels : ℕ) (c : ChanText) : Type 0 where
   pub within : c.chan < channels
@@ -322,13 +238,14 @@ abbrev pub chans_rise : ℕ → List ChanText → Bool
 chans_rise least [] = true
 chans_rise least (c ∷ more) = nat_le least c.chan && chans_rise (c.chan + 1) more
 
--- what a board of version 1 can say: nothing of one channel alone, no stop at an edge, no inverted lines and no FIFO
-abbrev pub is_first : SubText → Bool
-is_first s = length s.chans == 0 && not (allows s.masks.stop ext) && not s.invert && not (is_some s.fifo)
+-- the lines of a block are whole, and the subdevice is what they say
+pub record IsSaid (sub : SubText) : Type 0 where
+  pub whole : IsWhole board_table (head_of sub) sub.block
+  pub says : sub_of (head_of sub) sub.block ≡ sub
 
--- a subdevice is one that a board of this version can have
-abbrev pub fits_version : ℕ → SubText → Bool
-fits_version version s = nat_le 2 version || is_first s
+-- that of a subdevice, which only its text looks at
+unfoldable pub IsBlock : SubText → Type 0
+IsBlock sub = IsSaid sub
 
 -- the limits of a block, and the rules over several of its lines
 pub record IsSoundSub (sub : SubText) : Type 0 where
@@ -354,6 +271,7 @@ pub record IsSoundSub (sub : SubText) : Type 0 where
   pub few_pairs : length sub.forbidden ≤ 16
   pub chans : All (IsSoundChan sub.channels) sub.chans
   pub rise : IsTrue (chans_rise 0 sub.chans)
+  pub block : IsBlock sub
 
 -- what holds of the numbers of each channel
 pub record IsChannel (maxdata : ℕ) (munge : Munge) (ranges : List Range) : Type 0 where
@@ -364,10 +282,10 @@ pub record IsChannel (maxdata : ℕ) (munge : Munge) (ranges : List Range) : Typ
   pub few : length ranges ≤ 16
   pub proper : All IsRange ranges
 
--- version 1 or 2, a name of 1 to 32 printable bytes, and 1 to 16 subdevices that the version can have
+-- version 1 or 2, a name of 1 to 32 printable bytes, and 1 to 16 subdevices of this version
 pub record IsSoundBoard (board : BoardText) : Type 0 where
   pub version : IsFrom1To 2 board.version
   pub name : IsFrom1To 32 (length board.name)
   pub printable : IsTrue (list_all is_printable board.name)
   pub subs : IsFrom1To 16 (length board.subs)
-  pub blocks : IsTrue (list_all (fits_version board.version) board.subs)
+  pub blocks : IsTrue (list_all (λ sub. sub.version == board.version) board.subs)

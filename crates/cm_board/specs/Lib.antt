@@ -1,4 +1,14 @@
 pub mod Board
+pub mod BoardTable
 pub mod BoardView
 pub mod ChanView
+pub mod ItemView
+pub mod Items
+pub mod Kept
+pub mod Kinds
+pub mod Records
+pub mod Rules
+pub mod Said
+pub mod Slots
+pub mod Table
 pub mod View

@@ -16,6 +16,7 @@ masks_of sources = record {
 -- a subdevice as contracts see it
 abbrev pub sub_text : Inside → SubText
 sub_text s = record {
+  version = s.version;
   kind = s.kind;
   channels = s.channels;
   maxdata = s.maxdata;
@@ -36,4 +37,5 @@ sub_text s = record {
   chans = s.chans.items;
   invert = s.invert;
   fifo = s.fifo;
+  block = s.block.items;
 }

@@ -1,6 +1,7 @@
 // Subdevices as plain data with the rules that each of them keeps.
 
 use crate::channels::{maxdata_by, munge_by, ranges_by};
+use crate::items::Item;
 use std::marker::Model;
 
 /// What a subdevice is (Comedi: `COMEDI_SUBD_*`).
@@ -86,6 +87,8 @@ pub struct Fifo {
 /// A subdevice (Comedi: `comedi_subdevice`). Times are in nanoseconds.
 #[derive(Drop)]
 pub struct Sub {
+    /// The version of the board, on which it depends what the lines of a block may say.
+    pub version: u32,
     pub kind: Kind,
     /// 1 to 64, and 0 where the kind is unused.
     pub channels: u32,
@@ -119,6 +122,9 @@ pub struct Sub {
     pub invert: bool,
     /// The FIFO of the board, where it has one.
     pub fifo: Option<Fifo>,
+    /// The lines of the subdevice's block, with those that hold without standing there, in the order
+    /// in which they are printed. All else here is what they say.
+    pub block: Vec<Item>,
 }
 
 impl Model for Sub {

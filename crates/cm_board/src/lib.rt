@@ -3,4 +3,8 @@
 
 pub mod board;
 pub mod channels;
+pub mod items;
 pub mod kind;
+pub mod lines;
+pub mod said;
+pub mod table;

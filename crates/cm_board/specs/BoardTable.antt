@@ -1,0 +1,100 @@
+-- The lines of a block: their rows and their forms.
+use Rattle.std.specs.Prelude.{ℕ, List, [], ◌∷◌, codes, true, false}
+use Rattle.cm_board.specs.Table.{FormText, TableText, WordText, Fixed, Number, Signed, Sources, Source, Name, Channel}
+use Rattle.cm_board.specs.declared.lines.TheConstants as lines
+use Rattle.cm_board.specs.declared.table.Absent.{Absent}
+use Rattle.cm_board.specs.declared.table.Absent.TheVariants as absents
+use Rattle.cm_board.specs.declared.table.Place.{Place}
+use Rattle.cm_board.specs.declared.table.Place.TheVariants as places
+use Rattle.cm_board.specs.declared.table.Row.{Row}
+use Rattle.cm_board.specs.declared.table.Rule.{Rule}
+use Rattle.cm_board.specs.declared.table.Rule.TheVariants as rules_of
+
+-- a number between two others
+abbrev pub from_to : ℕ → ℕ → WordText
+from_to least most = Number (record { least = least; most = most })
+
+-- a time between triggers: 1 nanosecond to 4 seconds
+abbrev pub time : WordText
+time = from_to 1 4000000000
+
+-- sources of a set that is the same in each version
+abbrev pub each_version : ℕ → WordText
+each_version set = Sources set set
+
+-- the sources that each trigger may have
+abbrev pub source_words : List WordText
+source_words =
+    Fixed (codes "sources") ∷ each_version 194 ∷ each_version 84 ∷ each_version 82 ∷ each_version 32 ∷ Sources 33 97 ∷ []
+
+-- a trigger of a command
+abbrev pub field : WordText
+field = Name (codes "start" ∷ codes "scan_begin" ∷ codes "convert" ∷ codes "scan_end" ∷ codes "stop" ∷ [])
+
+-- a line about the subdevice: how many there may be, since which version, in which blocks, and what holds without one
+abbrev pub row : ℕ → ℕ → Place → Absent → Row
+row most since place absent = record { most = most; since = since; place = place; absent = absent; of_channel = false }
+
+-- a line about one channel: how many there may be of each
+abbrev pub of_each : ℕ → Row
+of_each most = record { most = most; since = 2; place = places.Any; absent = absents.Nothing; of_channel = true }
+
+-- a form of a row: its words after these, and what its values keep together
+abbrev pub form : ℕ → List WordText → Rule → FormText
+form n words rule = record { row = n; words = words; rule = rule }
+
+-- the rows, in the order in which they are printed
+abbrev pub board_rows : List Row
+board_rows =
+    row 1 1 places.Any absents.Missing
+    ∷ row 1 1 places.Any (absents.Stands lines.MUNGE_NONE)
+    ∷ row 16 1 places.Any absents.Missing
+    ∷ row 1 1 places.Commands absents.MissingWithCommands
+    ∷ row 1 1 places.Commands absents.MissingWithCommands
+    ∷ row 1 1 places.Commands absents.MissingWithCommands
+    ∷ row 1 1 places.Commands absents.MissingWithCommands
+    ∷ row 1 1 places.Commands absents.MissingWithCommands
+    ∷ row 1 1 places.Commands (absents.Says lines.SCANS_SAID 1000000)
+    ∷ row 1 1 places.Commands (absents.Says lines.LINES_SAID 0)
+    ∷ row 1 1 places.Commands absents.MissingWithCommands
+    ∷ row 1 1 places.Commands absents.Nothing
+    ∷ row 16 1 places.Commands absents.Nothing
+    ∷ row 1 2 places.Commands absents.Nothing
+    ∷ row 1 2 places.Inputs absents.Nothing
+    ∷ of_each 1
+    ∷ of_each 1
+    ∷ of_each 16
+    ∷ []
+
+-- their forms
+abbrev pub board_forms : List FormText
+board_forms =
+    form lines.BITS (Fixed (codes "bits") ∷ from_to 1 24 ∷ []) rules_of.Free
+    ∷ form lines.MUNGE (Fixed (codes "munge") ∷ Fixed (codes "none") ∷ []) rules_of.Free
+    ∷ form lines.MUNGE (Fixed (codes "munge") ∷ Fixed (codes "offset") ∷ []) rules_of.Free
+    ∷ form lines.MUNGE (Fixed (codes "munge") ∷ Fixed (codes "swap16") ∷ []) rules_of.Free
+    ∷ form lines.MUNGE (Fixed (codes "munge") ∷ Fixed (codes "left") ∷ from_to 1 8 ∷ []) rules_of.Free
+    ∷ form lines.RANGE (Fixed (codes "range") ∷ Signed ∷ Signed ∷ from_to 0 2 ∷ []) rules_of.Below
+    ∷ form lines.SOURCES source_words rules_of.Free
+    ∷ form lines.TICK (Fixed (codes "tick") ∷ from_to 1 1000000000 ∷ []) rules_of.Free
+    ∷ form lines.SCAN (Fixed (codes "scan") ∷ time ∷ time ∷ []) rules_of.Rising
+    ∷ form lines.CONVERT (Fixed (codes "convert") ∷ time ∷ time ∷ []) rules_of.Rising
+    ∷ form lines.LIST (Fixed (codes "list") ∷ from_to 1 256 ∷ []) rules_of.Free
+    ∷ form lines.SCANS (Fixed (codes "scans") ∷ time ∷ []) rules_of.Free
+    ∷ form lines.LINES (Fixed (codes "lines") ∷ from_to 0 16 ∷ []) rules_of.Free
+    ∷ form lines.BUFFER (Fixed (codes "buffer") ∷ from_to 1 65536 ∷ []) rules_of.Free
+    ∷ form lines.SAME_RANGE (Fixed (codes "samerange") ∷ []) rules_of.Free
+    ∷ form lines.FORBID (Fixed (codes "forbid") ∷ field ∷ Source ∷ field ∷ Source ∷ []) rules_of.Apart
+    ∷ form lines.INVERT (Fixed (codes "invert") ∷ []) rules_of.Free
+    ∷ form lines.FIFO (Fixed (codes "fifo") ∷ from_to 2 4096 ∷ from_to 0 1000000000 ∷ []) rules_of.Even
+    ∷ form lines.CHAN_BITS (Fixed (codes "chan") ∷ Channel ∷ Fixed (codes "bits") ∷ from_to 1 24 ∷ []) rules_of.Free
+    ∷ form lines.CHAN_MUNGE (Fixed (codes "chan") ∷ Channel ∷ Fixed (codes "munge") ∷ Fixed (codes "none") ∷ []) rules_of.Free
+    ∷ form lines.CHAN_MUNGE (Fixed (codes "chan") ∷ Channel ∷ Fixed (codes "munge") ∷ Fixed (codes "offset") ∷ []) rules_of.Free
+    ∷ form lines.CHAN_MUNGE (Fixed (codes "chan") ∷ Channel ∷ Fixed (codes "munge") ∷ Fixed (codes "swap16") ∷ []) rules_of.Free
+    ∷ form lines.CHAN_MUNGE (Fixed (codes "chan") ∷ Channel ∷ Fixed (codes "munge") ∷ Fixed (codes "left") ∷ from_to 1 8 ∷ []) rules_of.Free
+    ∷ form lines.CHAN_RANGE (Fixed (codes "chan") ∷ Channel ∷ Fixed (codes "range") ∷ Signed ∷ Signed ∷ from_to 0 2 ∷ []) rules_of.Below
+    ∷ []
+
+-- the table
+abbrev pub board_table : TableText
+board_table = record { rows = board_rows; forms = board_forms }

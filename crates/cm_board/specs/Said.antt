@@ -1,0 +1,147 @@
+-- What the lines of a block say of its subdevice.
+use Rattle.std.specs.Prelude.{ℕ, ℤ, zero, suc, pos, ◌+◌, ◌-◌, ◌*◌, ◌^◌, min, not, Bool, List, [], ◌∷◌, filter, length, map, Option, Some, None}
+use Rattle.std.specs.List.{range_with_len}
+use Rattle.cm_board.specs.BoardTable.{board_rows}
+use Rattle.cm_board.specs.Items.{ItemText}
+use Rattle.cm_board.specs.Records.{ChanText, Masks, SubText, says_any}
+use Rattle.cm_board.specs.Slots.{is_empty, of_row}
+use Rattle.cm_board.specs.declared.board.Fifo.{Fifo}
+use Rattle.cm_board.specs.declared.board.Forbid.{Forbid}
+use Rattle.cm_board.specs.declared.board.Munge.{Munge}
+use Rattle.cm_board.specs.declared.board.Munge.TheVariants as munges
+use Rattle.cm_board.specs.declared.board.Range.{Range}
+use Rattle.cm_board.specs.declared.lines.TheConstants as lines
+use Rattle.cm_board.specs.declared.table.Head.{Head}
+use Rattle.cm_board.specs.declared.table.Value.{Value}
+use Rattle.cm_board.specs.declared.table.Value.TheVariants as values_of
+
+-- the number at a place of a line's values
+abbrev pub number_at : ℕ → List Value → ℕ
+number_at zero (values_of.Number n ∷ values) = n
+number_at (suc k) (v ∷ values) = number_at k values
+number_at k values = 0
+
+-- the signed number at a place
+abbrev pub signed_at : ℕ → List Value → ℤ
+signed_at zero (values_of.Signed z ∷ values) = z
+signed_at (suc k) (v ∷ values) = signed_at k values
+signed_at k values = pos 0
+
+-- the place of the name at a place
+abbrev pub name_at : ℕ → List Value → ℕ
+name_at zero (values_of.Name n ∷ values) = n
+name_at (suc k) (v ∷ values) = name_at k values
+name_at k values = 0
+
+-- the first of these
+abbrev pub first_of : {X : Type 0} → List X → Option X
+first_of [] = None
+first_of (x ∷ more) = Some x
+
+-- the first of these, or what holds without one
+abbrev pub first_or : {X : Type 0} → X → List X → X
+first_or default [] = default
+first_or default (x ∷ more) = x
+
+-- a number of the line of a row, or what holds without the line
+abbrev pub number_of : ℕ → ℕ → ℕ → List ItemText → ℕ
+number_of row word default items = first_or default (map (λ item. number_at word item.values) (of_row row items))
+
+-- whether the line of a row stands in the block
+abbrev pub has_line : ℕ → List ItemText → Bool
+has_line row items = not (is_empty (of_row row items))
+
+-- the greatest code of so many bits, 24 at most
+abbrev pub greatest : ℕ → ℕ
+greatest bits = 2 ^ min 24 bits - 1
+
+-- a munge by its number among the forms of its row, where the last shifts by so many bits, 8 at most
+abbrev pub munge_by_form : ℕ → ℕ → Munge
+munge_by_form zero bits = munges.Plain
+munge_by_form (suc zero) bits = munges.Offset
+munge_by_form (suc (suc zero)) bits = munges.Swap16
+munge_by_form kind bits = munges.Left (min 8 bits)
+
+-- the unit of a range, none but 0, 1 and 2
+abbrev pub unit_of : ℕ → ℕ
+unit_of n = min 2 n
+
+-- the ends of a range and its unit, from a place on
+abbrev pub range_said : ℕ → ItemText → Range
+range_said k item =
+    record { min = signed_at k item.values; max = signed_at (k + 1) item.values; unit = unit_of (number_at (k + 2) item.values) }
+
+-- two triggers that may not have these sources together; a trigger is one of five
+abbrev pub forbid_said : ItemText → Forbid
+forbid_said item = record {
+  field = min 4 (name_at 0 item.values);
+  src = number_at 1 item.values;
+  other = min 4 (name_at 2 item.values);
+  other_src = number_at 3 item.values;
+}
+
+-- a FIFO's depth and latency
+abbrev pub fifo_said : ItemText → Fifo
+fifo_said item = record { depth = number_at 0 item.values; latency = number_at 1 item.values }
+
+-- the place of a row of channels
+abbrev pub channel_place : ℕ → ℕ → ℕ
+channel_place chan row = (chan + 1) * length board_rows + row
+
+-- the munge that a line says, by the first form of its row and the place of a shift among its values
+abbrev pub munge_said : ℕ → ℕ → ItemText → Munge
+munge_said first k item = munge_by_form (item.form - first) (number_at k item.values)
+
+-- what is said of one channel
+abbrev pub set_said : List ItemText → ℕ → ChanText
+set_said items chan = record {
+  chan = chan;
+  maxdata = first_of (map (λ item. greatest (number_at 1 item.values)) (of_row (channel_place chan lines.CHAN_BITS) items));
+  munge = first_of (map (munge_said lines.CHAN_MUNGE_NONE 1) (of_row (channel_place chan lines.CHAN_MUNGE) items));
+  ranges = map (range_said 1) (of_row (channel_place chan lines.CHAN_RANGE) items);
+}
+
+-- the channels of which something is said, out of so many
+abbrev pub sets_said : ℕ → List ItemText → List ChanText
+sets_said channels items = filter says_any (map (set_said items) (range_with_len 0 channels))
+
+-- the sources that each trigger may have, none where no line says it
+abbrev pub masks_said : List ItemText → Masks
+masks_said items = record {
+  start = number_of lines.SOURCES 0 0 items;
+  scan_begin = number_of lines.SOURCES 1 0 items;
+  convert = number_of lines.SOURCES 2 0 items;
+  scan_end = number_of lines.SOURCES 3 0 items;
+  stop = number_of lines.SOURCES 4 0 items;
+}
+
+-- the subdevice that the lines of a whole block describe
+abbrev pub sub_of : Head → List ItemText → SubText
+sub_of head items = record {
+  version = head.version;
+  kind = head.kind;
+  channels = head.channels;
+  maxdata = greatest (number_of lines.BITS 0 1 items);
+  munge = first_or munges.Plain (map (munge_said lines.MUNGE_NONE 0) (of_row lines.MUNGE items));
+  ranges = map (range_said 0) (of_row lines.RANGE items);
+  masks = masks_said items;
+  tick = number_of lines.TICK 0 1 items;
+  scan_min = number_of lines.SCAN 0 1 items;
+  scan_max = number_of lines.SCAN 1 1 items;
+  conv_min = number_of lines.CONVERT 0 1 items;
+  conv_max = number_of lines.CONVERT 1 1 items;
+  list_max = number_of lines.LIST 0 1 items;
+  scans_max = number_of lines.SCANS 0 1 items;
+  lines = number_of lines.LINES 0 0 items;
+  buffer = number_of lines.BUFFER 0 1 items;
+  same_range = has_line lines.SAME_RANGE items;
+  forbidden = map forbid_said (of_row lines.FORBID items);
+  chans = sets_said head.channels items;
+  invert = has_line lines.INVERT items;
+  fifo = first_of (map fifo_said (of_row lines.FIFO items));
+  block = items;
+}
+
+-- the head of a subdevice's block
+abbrev pub head_of : SubText → Head
+head_of sub = record { version = sub.version; kind = sub.kind; channels = sub.channels }
