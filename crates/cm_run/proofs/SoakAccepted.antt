@@ -3,7 +3,7 @@ use Rattle.std.proofs.Common.{◌≡◌, ℕ, ◌+◌, ◌-◌, ◌≤◌, Bool,
 use Rattle.std.specs.Prelude.{max, min, not, ◌&&◌, if◌then◌else◌}
 use Rattle.std.proofs.lemmas.Bool.{eq-eqb}
 use Rattle.std.proofs.lemmas.List.Elements.{All-nil, All-push}
-use Rattle.cm_board.specs.Board.{IsRange, IsSoundBoard, IsSoundChan, IsSoundSub, SubText, has_text, is_bits_ok, maxdata_of, munge_of, ranges_of}
+use Rattle.cm_board.specs.Board.{IsRange, IsSoundBoard, IsSoundChan, IsSoundSub, SubText, IsBlock, has_text, is_bits_ok, maxdata_of, munge_of, ranges_of}
 use Rattle.cm_cmd.specs.Command.{CmdText}
 use Rattle.cm_test.specs.Questions.{is_compatible, is_narrow, is_rounded, is_within, tested}
 use Rattle.cm_test.specs.Steps.{narrowed, repaired, rounded}
@@ -11,7 +11,7 @@ use Rattle.cm_test.specs.ValidList.{is_valid_list}
 use Rattle.cm_run.specs.SoakJob.{soak_board, soak_cmd, soak_range, soak_sub}
 
 pub sub_sound : IsSoundSub soak_sub
-unfolding has_text is_bits_ok maxdata_of munge_of
+unfolding IsBlock has_text is_bits_ok maxdata_of munge_of
 sub_sound = record {
   text = refl;
   bits = refl;
@@ -35,6 +35,7 @@ sub_sound = record {
   few_pairs = omega arith;
   chans = All-nil (IsSoundChan 1);
   rise = refl;
+  block = record { whole = record { good = refl; few = refl; full = refl; same = refl }; says = refl };
 }
 
 pub board_sound : IsSoundBoard soak_board

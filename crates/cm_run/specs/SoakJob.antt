@@ -1,7 +1,10 @@
 -- The job of a soak of n conversions.
-use Rattle.std.specs.Prelude.{ℕ, ◌+◌, ◌/◌, ◌%◌, ◌==◌, nat_lt, pos, neg_ℤ, false, List, [], ◌∷◌, ◌++◌, codes, replicate, None, if◌then◌else◌}
+use Rattle.std.specs.Prelude.{ℕ, ◌+◌, ◌/◌, ◌%◌, ◌==◌, nat_lt, pos, neg_ℤ, false, List, [], ◌∷◌, ◌++◌, codes, map, replicate, None, if◌then◌else◌}
 use Rattle.cm_base.specs.Source as source
 use Rattle.cm_board.specs.Board.{BoardText, SubText}
+use Rattle.cm_board.specs.Items.{ItemText}
+use Rattle.cm_board.specs.declared.lines.TheConstants as lines
+use Rattle.cm_board.specs.declared.table.Value.TheVariants as values_of
 use Rattle.cm_board.specs.declared.board.Kind.TheVariants as kinds
 use Rattle.cm_board.specs.declared.board.Munge.TheVariants as munges
 use Rattle.cm_board.specs.declared.board.Range.{Range}
@@ -21,9 +24,44 @@ use Rattle.cm_job.specs.declared.line.RunLine.TheVariants.{Go}
 abbrev pub soak_range : Range
 soak_range = record { min = neg_ℤ (pos 10000000); max = pos 10000000; unit = 0 }
 
+-- a line of a block with numbers alone
+abbrev pub numbers : ℕ → ℕ → List ℕ → ItemText
+numbers row form values = record { row = row; form = form; values = map values_of.Number values }
+
+-- what the lines of its block say of codes: 16 bits in two's complement, and one range
+abbrev pub soak_codes : List ItemText
+soak_codes =
+    numbers lines.BITS 0 (16 ∷ [])
+    ∷ numbers lines.MUNGE 2 []
+    ∷ record { row = lines.RANGE; form = 5; values = values_of.Signed soak_range.min ∷ values_of.Signed soak_range.max ∷ values_of.Number 0 ∷ [] }
+    ∷ []
+
+-- of the sources and the times of commands
+abbrev pub soak_times : List ItemText
+soak_times =
+    numbers lines.SOURCES 6 (source.now ∷ source.timer ∷ source.now ∷ source.count ∷ source.count ∷ [])
+    ∷ numbers lines.TICK 7 (1 ∷ [])
+    ∷ numbers lines.SCAN 8 (1 ∷ 1000000 ∷ [])
+    ∷ numbers lines.CONVERT 9 (1 ∷ 1 ∷ [])
+    ∷ []
+
+-- of how much a command may ask for
+abbrev pub soak_sizes : List ItemText
+soak_sizes =
+    numbers lines.LIST 10 (1 ∷ [])
+    ∷ numbers lines.SCANS lines.SCANS_SAID (1000000 ∷ [])
+    ∷ numbers lines.LINES lines.LINES_SAID (0 ∷ [])
+    ∷ numbers lines.BUFFER 13 (256 ∷ [])
+    ∷ []
+
+-- all lines of the block
+abbrev pub soak_block : List ItemText
+soak_block = soak_codes ++ (soak_times ++ soak_sizes)
+
 -- an analog input with one channel of 16 bits in two's complement, whose buffer holds 256 samples
 abbrev pub soak_sub : SubText
 soak_sub = record {
+  version = 1;
   kind = kinds.Ai;
   channels = 1;
   maxdata = 65535;
@@ -44,6 +82,7 @@ soak_sub = record {
   chans = [];
   invert = false;
   fifo = None;
+  block = soak_block;
 }
 
 -- four of them

@@ -8,6 +8,12 @@ use cm_base::prover::shows;
 use cm_base::source::{COUNT, NOW, TIMER};
 use cm_base::transfer::NoMemory;
 use cm_board::board::{BoardDesc, Kind, Munge, Range, Sub};
+use cm_board::items::Item;
+use cm_board::lines::{
+    BITS, BUFFER, CONVERT, LINES, LINES_SAID, LIST, MUNGE, RANGE, SCAN, SCANS, SCANS_SAID, SOURCES,
+    TICK,
+};
+use cm_board::table::Value;
 use cm_cmd::command::{Cmd, Trig};
 use cm_cmd::entry::pack;
 use cm_job::job::RunJob;
@@ -31,11 +37,90 @@ fn ranges(alloc: Global) -> Result<Vec<Range>, AllocError>
     Ok(ranges)
 }
 
+// Adds a line of a block.
+fn put_line(
+    block: &mut Vec<Item>,
+    alloc: Global,
+    row: usize,
+    form: usize,
+    values: &[Value],
+) -> Result<(), AllocError>
+    ensures { OnOk result (block.new.items ≡ block.old.items ++ record { row = row; form = form; values = values.now } ∷ []) }
+{
+    block.push(Item::new(alloc, row, form, values)?)?;
+    Ok(())
+}
+
+// What the lines of its block say of codes.
+fn put_codes(block: &mut Vec<Item>, alloc: Global) -> Result<(), AllocError>
+    ensures { OnOk result (block.new.items ≡ block.old.items ++ spec.soak_codes) }
+{
+    let range = [
+        Value::Signed(-10_000_000),
+        Value::Signed(10_000_000),
+        Value::Number(0),
+    ];
+    put_line(block, alloc, BITS, 0, &[Value::Number(16)])?;
+    put_line(block, alloc, MUNGE, 2, &[])?;
+    put_line(block, alloc, RANGE, 5, &range)
+}
+
+// What they say of the sources and the times of commands.
+fn put_times(block: &mut Vec<Item>, alloc: Global) -> Result<(), AllocError>
+    ensures { OnOk result (block.new.items ≡ block.old.items ++ spec.soak_times) }
+{
+    let sources = [
+        Value::Number(NOW),
+        Value::Number(TIMER),
+        Value::Number(NOW),
+        Value::Number(COUNT),
+        Value::Number(COUNT),
+    ];
+    put_line(block, alloc, SOURCES, 6, &sources)?;
+    put_line(block, alloc, TICK, 7, &[Value::Number(1)])?;
+    put_line(
+        block,
+        alloc,
+        SCAN,
+        8,
+        &[Value::Number(1), Value::Number(1_000_000)],
+    )?;
+    put_line(
+        block,
+        alloc,
+        CONVERT,
+        9,
+        &[Value::Number(1), Value::Number(1)],
+    )
+}
+
+// What they say of how much a command may ask for.
+fn put_sizes(block: &mut Vec<Item>, alloc: Global) -> Result<(), AllocError>
+    ensures { OnOk result (block.new.items ≡ block.old.items ++ spec.soak_sizes) }
+{
+    put_line(block, alloc, LIST, 10, &[Value::Number(1)])?;
+    put_line(block, alloc, SCANS, SCANS_SAID, &[Value::Number(1_000_000)])?;
+    put_line(block, alloc, LINES, LINES_SAID, &[Value::Number(0)])?;
+    put_line(block, alloc, BUFFER, 13, &[Value::Number(256)])
+}
+
+// The lines of its block.
+fn soak_block(alloc: Global) -> Result<Vec<Item>, AllocError>
+    ensures { IfOk result (λ block. block.items ≡ spec.soak_block) }
+{
+    let mut block = Vec::new(alloc);
+    put_codes(&mut block, alloc)?;
+    put_times(&mut block, alloc)?;
+    put_sizes(&mut block, alloc)?;
+    Ok(block)
+}
+
 // An analog input with one channel.
 fn soak_sub(alloc: Global) -> Result<Sub, AllocError>
     ensures { IfOk result (λ sub. sub ≡ spec.soak_sub) }
 {
     Ok(Sub {
+        version: 1,
         kind: Kind::Ai,
         channels: 1,
         maxdata: 65_535,
@@ -56,6 +141,7 @@ fn soak_sub(alloc: Global) -> Result<Sub, AllocError>
         chans: Vec::new(alloc),
         invert: false,
         fifo: None,
+        block: soak_block(alloc)?,
     })
 }
 
