@@ -1,425 +1,323 @@
--- The lines of a block keep their limits together.
-use Rattle.std.proofs.Common.{◌≡◌, ℕ, suc, filter, ◌==◌, ◌+◌, ◌≤◌, Bool, true, false, cond, not, ◌&&◌, ◌||◌, List, [], ◌∷◌, ◌++◌, length, Option, Some, None, Result, Ok, Err, refl, sym, ap, ◌∙◌, subst, IsTrue, nat_le, nat_lt, arith, length-append, drop, map}
-use Rattle.std.proofs.lemmas.Bool.{and_right, eqb-true, ltb-true}
-use Rattle.cm_base.specs.Refusal.{next_number}
-use Rattle.cm_base.specs.Words.{one_word}
+-- What is read of a block is whole.
+use Rattle.std.proofs.Common.{◌≡◌, ℕ, zero, suc, ◌+◌, ◌<◌, ◌≤◌, Bool, true, false, cond, ◌&&◌, List, [], ◌∷◌, ◌++◌, length, Option, Some, None, option_to_list, Result, Ok, Err, refl, sym, ap, ◌∙◌, subst, nat_lt, ◌==◌, arith, append_assoc, append-nil, length-append, bit_and, ◌-◌}
 use Rattle.std.specs.Result.{IfOk}
-use Rattle.std.specs.List.{cons_option, filter_map, list_all}
-use Rattle.std.proofs.lemmas.Bool.Decides.{nat_tests}
-use Rattle.std.proofs.lemmas.Slice.Eq.{bytes_eq-Decides}
+use Rattle.std.specs.List.{list_all, list_any}
 use Rattle.std.specs.Str.{bytes_eq}
-use Rattle.std.specs.Prelude.{codes}
-use Rattle.std.proofs.lemmas.List.Elements.{filter_map-append}
+use Rattle.std.proofs.lemmas.Bool.{eqb-true, eq-eqb, lt-ltb, ltb-true}
+use Rattle.std.proofs.lemmas.List.Elements.{filter-append}
 use Rattle.std.proofs.lemmas.List.Folds.{list_all-append}
-use Rattle.cm_base.specs.Lines.{LineText, is_not_empty, is_printable, is_word}
+use Rattle.cm_base.specs.Lines.{LineText}
+use Rattle.cm_base.specs.Numbers.{number_of, signed_of}
 use Rattle.cm_base.specs.Reading.{◌>>=◌, at_line, read_each}
+use Rattle.cm_base.specs.Words.{is_int, limited, number_below, number_in, or_fault, signed_number, source_in, source_of, sources_in}
 use Rattle.cm_base.specs.declared.faults.Fault.{Fault}
-use Rattle.cm_base.specs.declared.faults.Refused.{Refused}
 use Rattle.cm_base.specs.declared.faults.Fault.TheVariants as faults
 use Rattle.cm_base.proofs.Bools.{and_true, both}
-use Rattle.cm_base.proofs.Refusal.{keyed}
-use Rattle.cm_board.specs.Board.{IsFrom1To, IsSoundBoard, SubText, are_full, fits_version, has_channels, is_among, is_source}
-use Rattle.cm_board_text.specs.Block.{admitted, as_range, block_of, count_of, fine_says, finished, is_board_ok, is_empty, is_fine, is_like, item_after, lacks, masks_said, most_of, most_said, said_of, same_sort, sub_of}
-use Rattle.cm_board_text.specs.Rows.{Block, Value, field, may_stand, row_of, said}
-use Rattle.cm_board_text.specs.declared.items.Row.{Row}
-use Rattle.cm_board_text.specs.declared.items.Row.TheVariants as rows
-use Rattle.cm_base.specs.Parts.{fixed, begins, begins_words}
-use Rattle.cm_board_text.specs.BoardPart.{any_words, block_lines, block_said, blocks_from, head_after, is_name, is_signals, is_subdevice, lines_after, next_block}
-use Rattle.cm_board_text.specs.Items.{head_words, item_of, stop_sources}
-use Rattle.cm_board_text.specs.Limits.{IsLimited, is_says, is_within, keeps}
-use Rattle.cm_board_text.proofs.LineLimits.{is_limited, limited_says, stands}
-use Rattle.cm_board.specs.declared.board.Range.{Range}
-use Rattle.cm_board_text.specs.declared.items.ChanLine.{ChanLine}
-use Rattle.cm_board_text.specs.declared.items.ChanSays.{ChanSays}
-use Rattle.cm_board_text.specs.declared.items.ChanSays.TheVariants as says
-use Rattle.cm_board_text.specs.declared.items.Head.{Head}
-use Rattle.cm_board_text.specs.declared.items.Item.{Item}
-use Rattle.cm_board_text.specs.declared.items.Item.TheVariants as items
-use Rattle.cm_board_text.proofs.Limited.{Any, IsHead, May, any_ok, head_may, item_may, limited_ok, then_ok, weaker}
-use Rattle.cm_board_text.proofs.Versions.{version_fits}
+use Rattle.cm_board.specs.Items.{ItemText}
+use Rattle.cm_board.specs.Kept.{IsWhole, are_kept, is_among, is_good, is_kept, is_source, is_within, keeps, set_in, slots}
+use Rattle.cm_board.specs.Rules.{keeps_rule}
+use Rattle.cm_board_text.specs.Reading.{Found, admitted, form_of, form_of_words, form_or, found_from, completed, is_begun, is_fixed, is_form, item_after, items_said, place_from, read_word, values_after}
+use Rattle.cm_board_text.specs.IsTable.{all_apart, are_rows, is_listed, is_table}
+use Rattle.cm_board_text.specs.Kept.{AreItems}
+use Rattle.cm_board.specs.Table.{FormText, TableText, WordText, Fixed, Number, Signed, Sources, Source, Name, Channel, form_at, laid, may_stand, place_of, row_at}
+use Rattle.cm_board.specs.Slots.{lacks, of_row, takes, whole}
+use Rattle.cm_board.specs.declared.table.Head.{Head}
+use Rattle.cm_board.specs.declared.table.Limits.{Limits}
+use Rattle.cm_board.specs.declared.table.Row.{Row}
+use Rattle.cm_board.specs.declared.table.Value.{Value}
+use Rattle.cm_board_text.proofs.Filled.{is_whole}
+use Rattle.cm_board_text.proofs.Laid.{IsPlaced, placed}
+use Rattle.cm_board_text.proofs.OfRow.{few_all, own}
 
--- a line that keeps its limits and its rule, in a block of its kind
-abbrev pub is_good : Head → Item → Bool
-is_good head item = is_limited head item && is_fine item && stands head item
+-- what holds of a value that is read from another
+then_ok : {E A B : Type 0} (Q : A → Type 0) (P : B → Type 0) (read : Result A E) (f : A → Result B E) → IfOk read Q → ((x : A) → Q x → IfOk (f x) P) →
+    IfOk (read >>= f) P
+then_ok Q P (Ok x) f h k = k x h
+then_ok Q P (Err e) f h k = tt
 
--- lines that are good each, and few
-pub record AreGood (head : Head) (items : List Item) : Type 0 where
-  pub good : list_all (is_good head) items ≡ true
-  pub few_ranges : length (filter_map (said rows.Ranges) items) ≤ 16
-  pub few_pairs : length (filter_map (said rows.Forbidden) items) ≤ 16
-  pub few_chan_ranges : (chan : ℕ) → length (filter_map (said_of as_range chan) (filter_map (said rows.Chans) items)) ≤ 16
+-- a form that is found is one of the table that may stand in the block
+record IsForm (rows : List Row) (head : Head) (n : ℕ) (forms : List FormText) (f : Found) : Type 0 where
+  pub k : ℕ
+  pub at : f.at ≡ n + k
+  pub below : k < length forms
+  pub form : form_at k forms ≡ f.form
+  pub stands : may_stand head (row_at f.form.row rows) ≡ true
 
-passed : (room fine : Bool) (item : Item) (fault : Fault) → IfOk (cond room (cond fine (Ok item) (Err faults.Bad)) (Err fault)) (λ x. (room ≡ true) × (fine ≡ true) × (x ≡ item))
-passed true true item fault = (refl, refl, refl)
-passed true false item fault = tt
-passed false fine item fault = tt
+some_is : (a b : Found) → ◌≡◌ {A = Option Found} (Some a) (Some b) → a ≡ b
+some_is a b e = cc
 
--- how many of some lines are of a form
-count_more : {X : Type 0} (f : Item → Option X) (before : List Item) (item : Item) → length (filter_map f (before ++ item ∷ [])) ≡ length (filter_map f before) + length (filter_map f (item ∷ []))
-count_more f before item = ap length (filter_map-append f before (item ∷ [])) ∙ length-append (filter_map f before) (filter_map f (item ∷ []))
-
--- one line more keeps the lists of those that may stand sixteen times short
-range_more : (before : List Item) (item : Item) → length (filter_map (said rows.Ranges) before) ≤ 16 → nat_lt (count_of item (block_of before)) (most_of item) ≡ true → length (filter_map (said rows.Ranges) (before ++ item ∷ [])) ≤ 16
-range_more before item h room = let k = split item room in omega (arith, count_more (said rows.Ranges) before item, k)
+found_is : (rows : List Row) (head : Head) (ws : List (List ℕ)) (n : ℕ) (forms : List FormText) (f : Found) → found_from rows head ws n forms ≡ Some f →
+    IsForm rows head n forms f
+found_is rows head ws n [] f e = cc
+found_is rows head ws n (form ∷ forms) f e = by (is_form form.words ws) (may_stand head (row_at form.row rows)) refl e (found_is rows head ws (n + 1) forms f)
   where
-    split : (i : Item) → nat_lt (count_of i (block_of before)) (most_of i) ≡ true → length (filter_map (said rows.Ranges) before) + length (filter_map (said rows.Ranges) (i ∷ [])) ≤ 16
-    split (items.Range r) e = grind (arith, nat_tests)
-    split other e = omega arith
+    later : IsForm rows head (n + 1) forms f → IsForm rows head n (form ∷ forms) f
+    later i = record { k = suc i.k; at = i.at ∙ omega arith; below = omega (arith, i.below); form = i.form; stands = i.stands }
 
-pair_more : (before : List Item) (item : Item) → length (filter_map (said rows.Forbidden) before) ≤ 16 → nat_lt (count_of item (block_of before)) (most_of item) ≡ true → length (filter_map (said rows.Forbidden) (before ++ item ∷ [])) ≤ 16
-pair_more before item h room = let k = split item room in omega (arith, count_more (said rows.Forbidden) before item, k)
+    by : (a b : Bool) → may_stand head (row_at form.row rows) ≡ b →
+        cond (a && b) (Some (record { at = n; form = form })) (found_from rows head ws (n + 1) forms) ≡ Some f →
+        (found_from rows head ws (n + 1) forms ≡ Some f → IsForm rows head (n + 1) forms f) → IsForm rows head n (form ∷ forms) f
+    by true true s e more =
+        let same : record { at = n; form = form } ≡ f = some_is (record { at = n; form = form }) f e in
+        record {
+          k = 0;
+          at = sym (ap (λ (g : Found). g.at) same) ∙ omega arith;
+          below = omega arith;
+          form = ap (λ (g : Found). g.form) same;
+          stands = ap (λ (g : Found). may_stand head (row_at g.form.row rows)) (sym same) ∙ s;
+        }
+    by true false s e more = later (more e)
+    by false b s e more = later (more e)
+
+-- the form of a line, with as many words as it has
+record IsLine (t : TableText) (head : Head) (words : List (List ℕ)) (f : Found) : Type 0 where
+  pub below : f.at < length t.forms
+  pub form : form_at f.at t.forms ≡ f.form
+  pub stands : may_stand head (row_at f.form.row t.rows) ≡ true
+  pub many : length words ≡ length f.form.words
+
+words_ok : (t : TableText) (head : Head) (ws : List (List ℕ)) → IfOk (form_of_words t head ws) (IsLine t head ws)
+words_ok t head ws = by (found_from t.rows head ws 0 t.forms) refl
   where
-    split : (i : Item) → nat_lt (count_of i (block_of before)) (most_of i) ≡ true → length (filter_map (said rows.Forbidden) before) + length (filter_map (said rows.Forbidden) (i ∷ [])) ≤ 16
-    split (items.Forbid f) e = grind (arith, nat_tests)
-    split other e = omega arith
+    count : (f : Found) (b : Bool) → IsForm t.rows head 0 t.forms f → (length ws == length f.form.words) ≡ b →
+        IfOk (cond b (Ok f) (Err faults.BadLine)) (IsLine t head ws)
+    count f true i e =
+        let same : i.k ≡ f.at = omega (arith, i.at) in
+        record { below = omega (arith, i.below, same); form = ap (λ (m : ℕ). form_at m t.forms) (sym same) ∙ i.form; stands = i.stands; many = eqb-true (length ws) (length f.form.words) e }
+    count f false i e = tt
 
-same_test : (a b : ℕ) → (a == b) ≡ (b == a)
-same_test a b = by (a == b) (b == a) refl refl
+    by : (o : Option Found) → found_from t.rows head ws 0 t.forms ≡ o →
+        IfOk (form_or (cond (list_any (is_begun t.rows head ws) t.forms) faults.BadLine faults.Unknown) ws o) (IsLine t head ws)
+    by None e = tt
+    by (Some f) e = count f (length ws == length f.form.words) (found_is t.rows head ws 0 t.forms f e) refl
+
+line_ok : (t : TableText) (head : Head) (line : LineText) → IfOk (form_of t head line) (IsLine t head line.words)
+line_ok t head line = by line.bad
   where
-    by : (t u : Bool) → (a == b) ≡ t → (b == a) ≡ u → t ≡ u
-    by true true e f = refl
-    by true false e f = absurd (grind (arith, nat_tests, e, f))
-    by false true e f = absurd (grind (arith, nat_tests, e, f))
-    by false false e f = refl
+    by : (b : Bool) → IfOk (cond b (Err faults.BadLine) (form_of_words t head line.words)) (IsLine t head line.words)
+    by true = tt
+    by false = words_ok t head line.words
 
--- the lines that give a channel a range are those like one that does
-like_ranges : (line : ChanLine) (r : Range) (xs : List ChanLine) → line.says ≡ says.Range r → length (filter_map (said_of as_range line.chan) xs) ≡ length (filter (is_like line) xs)
-like_ranges line r [] e = refl
-like_ranges line r (x ∷ xs) e =
-    step (x.chan == line.chan) (line.chan == x.chan) x.says (same_test x.chan line.chan) (like_ranges line r xs e)
-    ∙ ap (λ (s : ChanSays). length (cond (line.chan == x.chan && same_sort s x.says) (x ∷ filter (is_like line) xs) (filter (is_like line) xs))) (sym e)
+-- what a word may say
+SaidBy : Head → WordText → Option Value → Type 0
+SaidBy head kind None = is_fixed kind ≡ true
+SaidBy head kind (Some v) = is_kept head kind v ≡ true
+
+any : {E A : Type 0} (read : Result A E) → IfOk read (λ x. Unit {0})
+any (Ok x) = tt
+any (Err e) = tt
+
+-- a value that is read within a test, then said
+tested : {A : Type 0} (test : A → Bool) (x : A) → IfOk (limited (test x) x) (λ y. test y ≡ true)
+tested test x = by (test x) refl
   where
-    step : (b d : Bool) (s : ChanSays) → b ≡ d → length (filter_map (said_of as_range line.chan) xs) ≡ length (filter (is_like line) xs) →
-        length (cons_option (cond b (as_range s) None) (filter_map (said_of as_range line.chan) xs)) ≡ length (cond (d && same_sort (says.Range r) s) (x ∷ filter (is_like line) xs) (filter (is_like line) xs))
-    step true true (says.Bits k) same later = later
-    step true true (says.Munge m) same later = later
-    step true true (says.Range q) same later = ap suc later
-    step false false s same later = later
-    step true false s same later = cc
-    step false true s same later = cc
+    by : (b : Bool) → test x ≡ b → IfOk (limited b x) (λ y. test y ≡ true)
+    by true e = e
+    by false e = tt
 
-chan_more : (before : List Item) (item : Item) (chan : ℕ) → length (filter_map (said_of as_range chan) (filter_map (said rows.Chans) before)) ≤ 16 → nat_lt (count_of item (block_of before)) (most_of item) ≡ true →
-    length (filter_map (said_of as_range chan) (filter_map (said rows.Chans) (before ++ item ∷ []))) ≤ 16
-chan_more before item chan h room =
-    let k = split item room in
-    omega (arith, ap (λ (xs : List ChanLine). length (filter_map (said_of as_range chan) xs)) (filter_map-append (said rows.Chans) before (item ∷ [])), ap length (filter_map-append (said_of as_range chan) lines (filter_map (said rows.Chans) (item ∷ []))), length-append (filter_map (said_of as_range chan) lines) (filter_map (said_of as_range chan) (filter_map (said rows.Chans) (item ∷ []))), k)
+number_ok : (l : Limits) (w : List ℕ) → IfOk (number_in l.least l.most w) (λ n. is_within l n ≡ true)
+number_ok l w = then_ok (λ n. Unit {0}) (λ n. is_within l n ≡ true) (or_fault faults.BadNumber (number_of w)) _ (any _) (λ n u. tested (is_within l) n)
+
+signed_ok : (w : List ℕ) → IfOk (signed_number w) (λ z. is_int z ≡ true)
+signed_ok w = then_ok (λ z. Unit {0}) (λ z. is_int z ≡ true) (or_fault faults.BadNumber (signed_of w)) _ (any _) (λ z u. tested is_int z)
+
+sources_ok : (set : ℕ) (w : List ℕ) → IfOk (sources_in set w) (λ n. is_among set n ≡ true)
+sources_ok set w = then_ok (λ n. Unit {0}) (λ n. is_among set n ≡ true) (source_of w) _ (any _) (λ n u. tested (is_among set) n)
+
+source_ok : (w : List ℕ) → IfOk (source_in 511 w) (λ n. is_source n ≡ true)
+source_ok w =
+    then_ok (λ n. is_among 511 n ≡ true) (λ n. is_source n ≡ true) (sources_in 511 w) _ (sources_ok 511 w) (λ n among. one n among (bit_and n (n - 1) == 0) refl)
   where
-    lines : List ChanLine
-    lines = filter_map (said rows.Chans) before
+    one : (n : ℕ) → is_among 511 n ≡ true → (b : Bool) → (bit_and n (n - 1) == 0) ≡ b → IfOk (limited b n) (λ n. is_source n ≡ true)
+    one n among true e = and_true _ _ among e
+    one n among false e = tt
 
-    one : (line : ChanLine) (b : Bool) (s : ChanSays) → (line.chan == chan) ≡ b → line.says ≡ s → nat_lt (length (filter (is_like line) lines)) (most_said line.says) ≡ true → length (filter_map (said_of as_range chan) lines) + length (cons_option (cond b (as_range s) None) []) ≤ 16
-    one line false s e f few = omega arith
-    one line true (says.Bits k) e f few = omega arith
-    one line true (says.Munge m) e f few = omega arith
-    one line true (says.Range r) e f few =
-        let same : line.chan ≡ chan = eqb-true line.chan chan e in
-        let all = ap (λ (c : ℕ). length (filter_map (said_of as_range c) lines)) same in
-        let most : nat_lt (length (filter (is_like line) lines)) 16 ≡ true = ap (λ (s : ChanSays). nat_lt (length (filter (is_like line) lines)) (most_said s)) (sym f) ∙ few in
-        let less = ltb-true (length (filter (is_like line) lines)) 16 most in
-        omega (arith, like_ranges line r lines f, all, less)
+channel_ok : (limit : ℕ) (w : List ℕ) → IfOk (number_below limit w) (λ n. nat_lt n limit ≡ true)
+channel_ok limit w =
+    then_ok (λ n. Unit {0}) (λ n. nat_lt n limit ≡ true) (or_fault faults.BadNumber (number_of w)) _ (any _) (λ n u. tested (λ m. nat_lt m limit) n)
 
-    split : (i : Item) → nat_lt (count_of i (block_of before)) (most_of i) ≡ true → length (filter_map (said_of as_range chan) lines) + length (filter_map (said_of as_range chan) (filter_map (said rows.Chans) (i ∷ []))) ≤ 16
-    split (items.Chan line) e = one line (line.chan == chan) line.says refl refl e
-    split other e = omega arith
+place_ok : (n : ℕ) (w : List ℕ) (names : List (List ℕ)) → IfOk (or_fault faults.Unknown (place_from n w names)) (λ m. m < n + length names)
+place_ok n w [] = tt
+place_ok n w (name ∷ names) = by (bytes_eq w name) (place_from (n + 1) w names) (place_ok (n + 1) w names)
+  where
+    weaker : (o : Option ℕ) → IfOk (or_fault faults.Unknown o) (λ m. m < n + 1 + length names) →
+        IfOk (or_fault faults.Unknown o) (λ m. m < n + length (name ∷ names))
+    weaker None h = tt
+    weaker (Some m) h = omega (arith, h)
 
-one_good : (head : Head) (before : List Item) (item : Item) → AreGood head before → IsTrue (is_limited head item) → IsTrue (stands head item) → IsTrue (is_fine item) → nat_lt (count_of item (block_of before)) (most_of item) ≡ true → AreGood head (before ++ item ∷ [])
-one_good head before item h limit stand fine room = record {
-  good = list_all-append (is_good head) before (item ∷ []) ∙ and_true _ _ h.good (and_true _ true (and_true _ _ (and_true _ _ limit fine) stand) refl);
-  few_ranges = range_more before item h.few_ranges room;
-  few_pairs = pair_more before item h.few_pairs room;
-  few_chan_ranges = λ chan. chan_more before item chan (h.few_chan_ranges chan) room;
+    by : (b : Bool) (o : Option ℕ) → IfOk (or_fault faults.Unknown o) (λ m. m < n + 1 + length names) →
+        IfOk (or_fault faults.Unknown (cond b (Some n) o)) (λ m. m < n + length (name ∷ names))
+    by true o h = omega arith
+    by false o h = weaker o h
+
+word_ok : (head : Head) (kind : WordText) (w : List ℕ) → IfOk (read_word head kind w) (SaidBy head kind)
+unfolding SaidBy
+word_ok head (Fixed key) w = refl
+word_ok head (Number l) w = then_ok (λ n. is_within l n ≡ true) (SaidBy head (Number l)) (number_in l.least l.most w) _ (number_ok l w) (λ n h. h)
+word_ok head Signed w = then_ok (λ z. is_int z ≡ true) (SaidBy head Signed) (signed_number w) _ (signed_ok w) (λ z h. h)
+word_ok head (Sources first second) w =
+    then_ok (λ n. is_among (set_in head first second) n ≡ true) (SaidBy head (Sources first second)) (sources_in (set_in head first second) w) _ (sources_ok (set_in head first second) w) (λ n h. h)
+word_ok head Source w = then_ok (λ n. is_source n ≡ true) (SaidBy head Source) (source_in 511 w) _ (source_ok w) (λ n h. h)
+word_ok head (Name names) w =
+    then_ok (λ m. m < 0 + length names) (SaidBy head (Name names)) (or_fault faults.Unknown (place_from 0 w names)) _ (place_ok 0 w names) (λ m h. lt-ltb m (length names) (omega (arith, h)))
+word_ok head Channel w =
+    then_ok (λ n. nat_lt n head.channels ≡ true) (SaidBy head Channel) (number_below head.channels w) _ (channel_ok head.channels w) (λ n h. h)
+
+-- values that are read are ones that their words may say
+record AreRead (head : Head) (before : List Value) (kinds : List WordText) (values : List Value) : Type 0 where
+  pub more : List Value
+  pub parts : values ≡ before ++ more
+  pub kept : are_kept head kinds more ≡ true
+
+never_fixed : (head : Head) (kind : WordText) (kinds : List WordText) (v : Value) (more : List Value) → is_kept head kind v ≡ true →
+    are_kept head kinds more ≡ true → are_kept head (kind ∷ kinds) (v ∷ more) ≡ true
+never_fixed head (Fixed key) kinds v more h k = cc
+never_fixed head kind kinds v more h k = and_true _ _ h k
+
+fixed_kept : (head : Head) (kind : WordText) (kinds : List WordText) (more : List Value) → is_fixed kind ≡ true → are_kept head kinds more ≡ true →
+    are_kept head (kind ∷ kinds) more ≡ true
+fixed_kept head (Fixed key) kinds more h k = k
+fixed_kept head (Number l) kinds more h k = cc
+fixed_kept head Signed kinds more h k = cc
+fixed_kept head (Sources first second) kinds more h k = cc
+fixed_kept head Source kinds more h k = cc
+fixed_kept head (Name names) kinds more h k = cc
+fixed_kept head Channel kinds more h k = cc
+
+read_more : (head : Head) (kind : WordText) (kinds : List WordText) (before : List Value) (o : Option Value) (read : Result (List Value) Fault) →
+    SaidBy head kind o → IfOk read (AreRead head (before ++ option_to_list o) kinds) → IfOk read (AreRead head before (kind ∷ kinds))
+unfolding SaidBy
+read_more head kind kinds before o (Err fault) s r = tt
+read_more head kind kinds before None (Ok values) s r =
+    record { more = r.more; parts = r.parts ∙ ap (λ (xs : List Value). xs ++ r.more) (append-nil before); kept = fixed_kept head kind kinds r.more s r.kept }
+read_more head kind kinds before (Some v) (Ok values) s r =
+    record { more = v ∷ r.more; parts = r.parts ∙ append_assoc before (v ∷ []) r.more; kept = never_fixed head kind kinds v r.more s r.kept }
+
+values_ok : (head : Head) (before : List Value) (kinds : List WordText) (ws : List (List ℕ)) → length ws ≡ length kinds →
+    IfOk (values_after head before kinds ws) (AreRead head before kinds)
+values_ok head before [] [] e = record { more = []; parts = sym (append-nil before); kept = refl }
+values_ok head before [] (w ∷ ws) e = absurd (omega (arith, e))
+values_ok head before (kind ∷ kinds) [] e = absurd (omega (arith, e))
+values_ok head before (kind ∷ kinds) (w ∷ ws) e =
+    then_ok (SaidBy head kind) (AreRead head before (kind ∷ kinds)) (read_word head kind w) _ (word_ok head kind w)
+    (λ o s. read_more head kind kinds before o (values_after head (before ++ option_to_list o) kinds ws) s (values_ok head (before ++ option_to_list o) kinds ws (omega (arith, e))))
+
+-- a line that is read may stand in its block, and is not one too many
+record IsItem (t : TableText) (head : Head) (before : List ItemText) (item : ItemText) : Type 0 where
+  pub good : is_good t head item ≡ true
+  pub below : item.row < length (laid head.channels t.rows)
+  pub room : length (of_row item.row before) < (row_at item.row (laid head.channels t.rows)).most
+
+-- the forms of a table
+listed_at : (t : TableText) (n : ℕ) (forms : List FormText) → list_all (is_listed t) forms ≡ true → n < length forms → is_listed t (form_at n forms) ≡ true
+listed_at t n [] h below = absurd (omega arith)
+listed_at t zero (form ∷ forms) h below = (both (is_listed t form) (list_all (is_listed t) forms) h).0
+listed_at t (suc n) (form ∷ forms) h below = listed_at t n forms (both (is_listed t form) (list_all (is_listed t) forms) h).1 (omega arith)
+
+admit_ok : (t : TableText) (head : Head) (before : List ItemText) (ws : List (List ℕ)) (f : Found) (values : List Value) → is_table t ≡ true →
+    IsLine t head ws f → are_kept head f.form.words values ≡ true →
+    IfOk (admitted t.rows before f values) (IsItem t head before)
+admit_ok t head before ws f values check i w =
+    by (nat_lt (length (of_row (place_of t.rows f.form values) before)) (row_at f.form.row t.rows).most) (keeps_rule f.form.rule values) refl refl
+  where
+    forms : list_all (is_listed t) t.forms ≡ true
+    forms =
+        (both (list_all (is_listed t) t.forms) (all_apart t.forms) (both (list_all (is_listed t) t.forms && all_apart t.forms) (are_rows t 0 t.rows) check).0).0
+
+    at : IsPlaced t head f.form values
+    at = placed t head f.form values (ap (is_listed t) (sym i.form) ∙ listed_at t f.at t.forms forms i.below) w
+
+    known : place_of t.rows (form_at f.at t.forms) values ≡ place_of t.rows f.form values
+    known = ap (λ (g : FormText). place_of t.rows g values) i.form
+
+    by : (a b : Bool) → nat_lt (length (of_row (place_of t.rows f.form values) before)) (row_at f.form.row t.rows).most ≡ a →
+        keeps_rule f.form.rule values ≡ b →
+        IfOk (cond a (cond b (Ok (record { row = place_of t.rows f.form values; form = f.at; values = values })) (Err faults.Bad)) (Err (cond ((row_at f.form.row t.rows).most == 1) faults.Double faults.Limit))) (IsItem t head before)
+    by true true r k =
+        let room : length (of_row (place_of t.rows f.form values) before) < (row_at f.form.row t.rows).most = ltb-true _ _ r in
+        record {
+          good = and_true _ _
+              (and_true _ _ (and_true _ _ (lt-ltb f.at (length t.forms) i.below) (eq-eqb (place_of t.rows (form_at f.at t.forms) values) (place_of t.rows f.form values) known))
+              (ap (λ (g : FormText). may_stand head (row_at g.row t.rows)) i.form ∙ i.stands))
+              (ap (λ (g : FormText). keeps head g values) i.form ∙ and_true _ _ w k);
+          below = at.below;
+          room = subst (λ (r : Row). length (of_row (place_of t.rows f.form values) before) < r.most) (sym at.row) room;
+        }
+    by true false r k = tt
+    by false b r k = tt
+
+item_ok : (t : TableText) (head : Head) (before : List ItemText) (line : LineText) → is_table t ≡ true →
+    IfOk (item_after t head before line) (IsItem t head before)
+item_ok t head before line check =
+    then_ok (IsLine t head line.words) (IsItem t head before) (form_of t head line) _ (line_ok t head line)
+    (λ f i. then_ok (AreRead head [] f.form.words) (IsItem t head before) (values_after head [] f.form.words line.words) _ (values_ok head [] f.form.words line.words i.many)
+    (λ values r. admit_ok t head before line.words f values check i (ap (are_kept head f.form.words) r.parts ∙ r.kept)))
+
+-- lines that are read may stand in their block, and none is one too many
+record AreRight (t : TableText) (head : Head) (items : List ItemText) : Type 0 where
+  pub good : list_all (is_good t head) items ≡ true
+  pub few : (k : ℕ) → k < length (laid head.channels t.rows) → length (of_row k items) ≤ (row_at k (laid head.channels t.rows)).most
+
+item_more : (t : TableText) (head : Head) (before : List ItemText) (item : ItemText) → AreRight t head before → IsItem t head before item →
+    AreRight t head (before ++ item ∷ [])
+item_more t head before item a i = record {
+  good = list_all-append (is_good t head) before (item ∷ []) ∙ and_true _ _ a.good (and_true _ true i.good refl);
+  few = λ k below. by k (item.row == k) refl (a.few k below);
 }
-
-line_good : (head : Head) (before : List Item) (line : LineText) → AreGood head before → IfOk (item_after head before line) (λ item. AreGood head (before ++ item ∷ []))
-line_good head before line h =
-    then_ok (May head) (λ item. AreGood head (before ++ item ∷ [])) (item_of head line) (admitted (block_of before)) (item_may head line)
-    (λ item may. reported item (admitted (block_of before) item) may (passed (nat_lt (count_of item (block_of before)) (most_of item)) (is_fine item) item _))
   where
-    reported : (item : Item) (read : Result Item Fault) → May head item → IfOk read (λ x. (nat_lt (count_of item (block_of before)) (most_of item) ≡ true) × (is_fine item ≡ true) × (x ≡ item)) → IfOk read (λ item. AreGood head (before ++ item ∷ []))
-    reported item (Err fault) may p = tt
-    reported item (Ok x) may p = subst (λ (y : Item). AreGood head (before ++ y ∷ [])) (sym p.2) (one_good head before item h may.0 may.1 p.1 p.0)
+    parts : (k : ℕ) → length (of_row k (before ++ item ∷ [])) ≡ length (of_row k before) + length (of_row k (item ∷ []))
+    parts k = ap length (filter-append (own k) before (item ∷ [])) ∙ length-append (of_row k before) (of_row k (item ∷ []))
 
-pub at_line_keeps : {X : Type 0} (P : X → Type 0) (number : ℕ) (read : Result X Fault) → IfOk read P → IfOk (at_line number read) P
+    by : (k : ℕ) (b : Bool) → (item.row == k) ≡ b → length (of_row k before) ≤ (row_at k (laid head.channels t.rows)).most →
+        length (of_row k (before ++ item ∷ [])) ≤ (row_at k (laid head.channels t.rows)).most
+    by k true e h =
+        let same : item.row ≡ k = eqb-true item.row k e in
+        let room : length (of_row k before) < (row_at k (laid head.channels t.rows)).most = subst (λ (m : ℕ). length (of_row m before) < (row_at m (laid head.channels t.rows)).most) same i.room in
+        let one : length (of_row k (item ∷ [])) ≡ 1 = ap (λ b. length (cond b (item ∷ []) [])) e in
+        omega (arith, parts k, one, room)
+    by k false e h =
+        let one : length (of_row k (item ∷ [])) ≡ 0 = ap (λ b. length (cond b (item ∷ []) [])) e in
+        omega (arith, parts k, one, h)
+
+at_line_keeps : {X : Type 0} (P : X → Type 0) (number : ℕ) (read : Result X Fault) → IfOk read P → IfOk (at_line number read) P
 at_line_keeps P number (Ok x) h = h
 at_line_keeps P number (Err fault) h = tt
 
-each_good : (head : Head) (before : List Item) (lines : List LineText) → AreGood head before → IfOk (read_each (item_after head) before lines) (AreGood head)
-each_good head before [] h = h
-each_good head before (line ∷ rest) h =
-    then_ok (λ item. AreGood head (before ++ item ∷ [])) (AreGood head) (at_line line.number (item_after head before line)) _
-    (at_line_keeps (λ item. AreGood head (before ++ item ∷ [])) line.number (item_after head before line) (line_good head before line h))
-    (λ item good. each_good head (before ++ item ∷ []) rest good)
+all_right : (t : TableText) (head : Head) (before : List ItemText) (lines : List LineText) → is_table t ≡ true → AreRight t head before →
+    IfOk (read_each (item_after t head) before lines) (AreRight t head)
+all_right t head before [] check a = a
+all_right t head before (line ∷ lines) check a =
+    then_ok (IsItem t head before) (AreRight t head) (at_line line.number (item_after t head before line)) _
+    (at_line_keeps (IsItem t head before) line.number (item_after t head before line) (item_ok t head before line check))
+    (λ item i. all_right t head (before ++ item ∷ []) lines check (item_more t head before item a i))
 
--- what is kept of the items that have something to say
-unfoldable pub passes : {X : Type 0} → (X → Bool) → Option X → Bool
-passes q None = true
-passes q (Some x) = q x
+none_yet : (t : TableText) (head : Head) → AreRight t head []
+none_yet t head = record { good = refl; few = λ k below. omega arith }
 
-pub kept : {X Y : Type 0} (p : Y → Bool) (q : X → Bool) (f : Y → Option X) → ((i : Y) → p i ≡ true → passes q (f i) ≡ true) → (items : List Y) → list_all p items ≡ true → list_all q (filter_map f items) ≡ true
-unfolding passes
-kept p q f sub [] h = refl
-kept {X = X} {Y = Y} p q f sub (i ∷ items) h = let b = both (p i) (list_all p items) h in said (f i) (sub i b.0) (kept p q f sub items b.1)
+right_items : (t : TableText) (head : Head) (items : List ItemText) → AreRight t head items → AreItems t head items
+right_items t head items a = record { good = a.good; few = few_all 0 (laid head.channels t.rows) items few }
   where
-    said : (o : Option X) → passes q o ≡ true → list_all q (filter_map f items) ≡ true → list_all q (cons_option o (filter_map f items)) ≡ true
-    said None e later = later
-    said (Some x) e later = and_true (q x) _ e later
+    few : (k : ℕ) → k < length (laid head.channels t.rows) → length (of_row (0 + k) items) ≤ (row_at k (laid head.channels t.rows)).most
+    few k below =
+        let h = a.few k below in
+        let same : length (of_row (0 + k) items) ≡ length (of_row k items) = ap (λ (m : ℕ). length (of_row m items)) (omega arith) in
+        omega (arith, h, same)
 
--- what a good line keeps
-good_limit : (head : Head) (item : Item) → is_good head item ≡ true → is_limited head item ≡ true
-good_limit head item h = (both (is_limited head item) (is_fine item) (both (is_limited head item && is_fine item) (stands head item) h).0).0
+ok_map : {E A : Type 0} (P Q : A → Type 0) (read : Result A E) → ((x : A) → P x → Q x) → IfOk read P → IfOk read Q
+ok_map P Q (Ok x) f h = f x h
+ok_map P Q (Err e) f h = tt
 
-good_fine : (head : Head) (item : Item) → is_good head item ≡ true → is_fine item ≡ true
-good_fine head item h = (both (is_limited head item) (is_fine item) (both (is_limited head item && is_fine item) (stands head item) h).0).1
+-- lines that are read may stand in their block, and none of them too often
+pub items_ok : (t : TableText) (head : Head) (lines : List LineText) → is_table t ≡ true → IfOk (items_said t head lines) (AreItems t head)
+items_ok t head lines check =
+    ok_map (AreRight t head) (AreItems t head) (items_said t head lines) (right_items t head) (all_right t head [] lines check (none_yet t head))
 
-good_stands : (head : Head) (item : Item) → is_good head item ≡ true → stands head item ≡ true
-good_stands head item h = (both (is_limited head item && is_fine item) (stands head item) h).1
-
-fine_kept : (what : ChanSays) → limited_says what ≡ true → fine_says what ≡ true → is_says what ≡ true
-fine_kept (says.Bits k) h f = h
-fine_kept (says.Munge m) h f = h
-fine_kept (says.Range r) h f = and_true _ _ h f
-
--- what a line says keeps what its form asks
-value_kept : (head : Head) (row : Row) (item : Item) → is_good head item ≡ true → passes (keeps row) (said row item) ≡ true
-unfolding passes
-value_kept head rows.Bits (items.Bits k) h = good_limit head (items.Bits k) h
-value_kept head rows.Munge (items.Munge m) h = good_limit head (items.Munge m) h
-value_kept head rows.Ranges (items.Range r) h = and_true _ _ (good_limit head (items.Range r) h) (good_fine head (items.Range r) h)
-value_kept head rows.Sources (items.Sources s) h = (both (are_full (masks_said s)) (is_among (stop_sources head.version) s.stop) (good_limit head (items.Sources s) h)).0
-value_kept head rows.Tick (items.Tick n) h = good_limit head (items.Tick n) h
-value_kept head rows.Scan (items.Scan s) h = and_true _ _ (good_limit head (items.Scan s) h) (good_fine head (items.Scan s) h)
-value_kept head rows.Convert (items.Convert s) h = and_true _ _ (good_limit head (items.Convert s) h) (good_fine head (items.Convert s) h)
-value_kept head rows.List (items.List n) h = good_limit head (items.List n) h
-value_kept head rows.Scans (items.Scans n) h = good_limit head (items.Scans n) h
-value_kept head rows.Lines (items.Lines n) h = good_limit head (items.Lines n) h
-value_kept head rows.Buffer (items.Buffer n) h = good_limit head (items.Buffer n) h
-value_kept head rows.SameRange items.SameRange h = refl
-value_kept head rows.Forbidden (items.Forbid f) h =
-    let l = both (nat_lt f.field 5 && nat_lt f.other 5 && is_source f.src) (is_source f.other_src) (good_limit head (items.Forbid f) h) in
-    let m = both (nat_lt f.field 5 && nat_lt f.other 5) (is_source f.src) l.0 in
-    and_true _ _ (and_true _ _ (and_true _ _ m.0 (good_fine head (items.Forbid f) h)) m.1) l.1
-value_kept head rows.Invert items.Invert h = refl
-value_kept head rows.Fifo (items.Fifo f) h =
-    let l = both (is_within 2 4096 f.depth) (is_within 0 1000000000 f.latency) (good_limit head (items.Fifo f) h) in
-    let d = both (nat_le 2 f.depth) (nat_le f.depth 4096) l.0 in
-    and_true _ _ (and_true _ _ (and_true _ _ d.0 d.1) (good_fine head (items.Fifo f) h)) (both (nat_le 0 f.latency) (nat_le f.latency 1000000000) l.1).1
-value_kept head rows.Chans (items.Chan c) h = fine_kept c.says (both (nat_lt c.chan head.channels) (limited_says c.says) (good_limit head (items.Chan c) h)).1 (good_fine head (items.Chan c) h)
-value_kept head row other h = refl
-
--- a stop's sources are those of the version
-stop_kept : (head : Head) (item : Item) → is_good head item ≡ true → passes (λ s. is_among (stop_sources head.version) s.stop) (said rows.Sources item) ≡ true
-unfolding passes
-stop_kept head (items.Sources s) h = (both (are_full (masks_said s)) (is_among (stop_sources head.version) s.stop) (good_limit head (items.Sources s) h)).1
-stop_kept head other h = refl
-
--- what no line of a list says
-none_of : {X : Type 0} (p : Item → Bool) (f : Item → Option X) → ((i : Item) → p i ≡ true → f i ≡ None) → (before : List Item) → list_all p before ≡ true → filter_map f before ≡ []
-none_of {X = X} p f sub [] h = refl
-none_of {X = X} p f sub (i ∷ before) h =
-    let b = both (p i) (list_all p before) h in
-    ap (λ o. cons_option o (filter_map f before)) (sub i b.0) ∙ none_of p f sub before b.1
-
--- a line that may stand says nothing in a form that may not
-not_in : (head : Head) (row : Row) → may_stand head row ≡ false → (item : Item) → may_stand head (row_of item) ≡ true → said row item ≡ None
-not_in head rows.Bits c (items.Bits k) e = cc
-not_in head rows.Munge c (items.Munge m) e = cc
-not_in head rows.Ranges c (items.Range r) e = cc
-not_in head rows.Sources c (items.Sources s) e = cc
-not_in head rows.Tick c (items.Tick n) e = cc
-not_in head rows.Scan c (items.Scan s) e = cc
-not_in head rows.Convert c (items.Convert s) e = cc
-not_in head rows.List c (items.List n) e = cc
-not_in head rows.Scans c (items.Scans n) e = cc
-not_in head rows.Lines c (items.Lines n) e = cc
-not_in head rows.Buffer c (items.Buffer n) e = cc
-not_in head rows.SameRange c items.SameRange e = cc
-not_in head rows.Forbidden c (items.Forbid f) e = cc
-not_in head rows.Invert c items.Invert e = cc
-not_in head rows.Fifo c (items.Fifo f) e = cc
-not_in head rows.Chans c (items.Chan l) e = cc
-not_in head row c other e = refl
-
-field_said : (row : Row) (its : List Item) → field row (block_of its) ≡ filter_map (said row) its
-field_said rows.Bits its = refl
-field_said row its = refl
-
--- a form has lines only where it may stand
-stand_kept : (head : Head) (row : Row) (its : List Item) → list_all (is_good head) its ≡ true → IsTrue (may_stand head row || is_empty (field row (block_of its)))
-stand_kept head row its h = by (may_stand head row) refl
+-- what they say at their end is a whole block
+pub completed_ok : (t : TableText) (head : Head) (items : List ItemText) → is_table t ≡ true → AreItems t head items →
+    IfOk (completed t head items) (IsWhole t head)
+completed_ok t head items check a = by (lacks head (takes (slots t head items)) (slots t head items)) refl
   where
-    by : (b : Bool) → may_stand head row ≡ b → (b || is_empty (field row (block_of its))) ≡ true
-    by true e = refl
-    by false e = ap (λ (xs : List (Value row)). is_empty xs) (field_said row its ∙ none_of (is_good head) (said row) (λ i good. not_in head row e i (good_stands head i good)) its h)
-
--- good lines make a block that keeps its limits
-limited_block : (head : Head) (before : List Item) → AreGood head before → IsLimited head (block_of before)
-limited_block head before h = record {
-  each = λ row. each row;
-  few_ranges = h.few_ranges;
-  few_pairs = h.few_pairs;
-  few_chan_ranges = h.few_chan_ranges;
-  stand = λ row. stand_kept head row before h.good;
-  stops = kept (is_good head) (λ s. is_among (stop_sources head.version) s.stop) (said rows.Sources) (stop_kept head) before h.good;
-}
-  where
-    each : (row : Row) → IsTrue (list_all (keeps row) (field row (block_of before)))
-    each rows.Bits = kept (is_good head) (keeps rows.Bits) (said rows.Bits) (value_kept head rows.Bits) before h.good
-    each row = kept (is_good head) (keeps row) (said row) (value_kept head row) before h.good
-
--- what the lines after a head say together keeps its limits
-pub block_limited : (head : Head) (lines : List LineText) → IfOk (block_said head lines) (IsLimited head)
-block_limited head lines =
-    then_ok (AreGood head) (IsLimited head) (read_each (item_after head) [] lines) _
-    (each_good head [] lines (record { good = refl; few_ranges = omega arith; few_pairs = omega arith; few_chan_ranges = λ chan. omega arith }))
-    (λ before good. limited_block head before good)
-
-pub ok_keeps : {X : Type 0} (P : X → Type 0) (read : Result X Refused) (x : X) → read ≡ Ok x → IfOk read P → P x
-ok_keeps {X = X} P read x e h = let Q : Result X Refused → Type 0 = λ r. IfOk r P in subst Q e h
-
-pub block_keeps : (head : Head) (lines : List LineText) (block : Block) → block_said head lines ≡ Ok block → IsLimited head block
-block_keeps head lines block e = ok_keeps (IsLimited head) (block_said head lines) block e (block_limited head lines)
-
--- a head that at most 15 blocks stand before
-IsHeadAfter : ℕ → ℕ → Head → Type 0
-IsHeadAfter version count head = IsHead version head × IsTrue (nat_lt count 16)
-
-head_after_keeps : (number version count : ℕ) (line : LineText) → IfOk (at_line number (head_after version count line)) (IsHeadAfter version count)
-unfolding IsHeadAfter
-head_after_keeps number version count line =
-    at_line_keeps (IsHeadAfter version count) number (head_after version count line)
-    (then_ok (IsHead version) (IsHeadAfter version count) (head_words version (drop 1 line.words)) _ (head_may version (drop 1 line.words))
-    (λ h is. limited_ok (IsHeadAfter version count) (nat_lt count 16) h (λ few. (is, few))))
-
--- a head has the channels that its kind may have, at most 15 blocks before it, and its board's version
-pub head_keeps : (number version count : ℕ) (line : LineText) (head : Head) → at_line number (head_after version count line) ≡ Ok head → IsTrue (has_channels head.kind head.channels) × IsTrue (nat_lt count 16) × (head.version ≡ version)
-unfolding IsHeadAfter
-head_keeps number version count line head e =
-    let h = ok_keeps (IsHeadAfter version count) (at_line number (head_after version count line)) head e (head_after_keeps number version count line) in
-    (h.0.0, h.1, h.0.1)
-
-const_ok : {E X P : Type 0} (read : Result X E) → P → IfOk read (λ x. P)
-const_ok (Ok x) h = h
-const_ok (Err e) h = tt
-
--- what a block says at its end
-finished_fits : (head : Head) (b : Block) → IsLimited head b → IfOk (finished head b) (λ sub. IsTrue (fits_version head.version sub))
-finished_fits head b h = by (lacks head.kind b) (is_board_ok (sub_of head b))
-  where
-    by : (lacking ok : Bool) → IfOk (cond lacking (Err faults.Missing) (cond ok (Ok (sub_of head b)) (Err faults.Bad))) (λ sub. IsTrue (fits_version head.version sub))
-    by true ok = tt
-    by false true = version_fits head b h
-    by false false = tt
-
--- a block that is read has at most 15 before it, and is one of its board's version
-IsBlock : ℕ → ℕ → SubText → Type 0
-IsBlock version count sub = IsTrue (nat_lt count 16) × IsTrue (fits_version version sub)
-
-block_ok : (version end count : ℕ) (line : LineText) (rest : List LineText) → IfOk (next_block version end count line rest) (IsBlock version count)
-unfolding IsBlock IsHeadAfter
-block_ok version end count line rest =
-    then_ok (IsHeadAfter version count) (IsBlock version count) (at_line line.number (head_after version count line)) _ (head_after_keeps line.number version count line)
-    (λ head is. then_ok (IsLimited head) (IsBlock version count) (block_said head (block_lines rest)) _ (block_limited head (block_lines rest))
-    (λ block limits. at_line_keeps (IsBlock version count) (next_number end (lines_after rest)) (finished head block)
-    (weaker (λ sub. IsTrue (fits_version head.version sub)) (IsBlock version count) (λ sub fits. (is.1, ap (λ (v : ℕ). fits_version v sub) (sym is.0.1) ∙ fits)) (finished head block) (finished_fits head block limits))))
-
-one_more_room : (count : ℕ) → IsTrue (nat_lt count 16) → count + 1 ≤ 16
-one_more_room count few = grind (arith, nat_tests)
-
--- blocks after others, each of the board's version
-AreBlocks : ℕ → ℕ → List SubText → Type 0
-AreBlocks version count subs = (count + length subs ≤ 16) × IsTrue (list_all (fits_version version) subs)
-
-one_less : (version count : ℕ) (subs : List SubText) (sub : SubText) → IsBlock version count sub → AreBlocks version (count + 1) subs → AreBlocks version count (sub ∷ subs)
-unfolding IsBlock AreBlocks
-one_less version count subs sub b k = (omega (arith, k.0), and_true _ _ b.1 k.1)
-
-blocks_ok : (version end count : ℕ) (lines : List LineText) → count ≤ 16 → IfOk (blocks_from version end count lines) (AreBlocks version count)
-unfolding AreBlocks IsBlock
-blocks_ok version end count [] h = tt
-blocks_ok version end count (line ∷ rest) h = split (is_signals line) (is_subdevice line) (blocks_ok version end count rest h) (blocks_ok version end (count + 1) rest)
-  where
-    split : (signals subdevice : Bool) → IfOk (blocks_from version end count rest) (AreBlocks version count) → (count + 1 ≤ 16 → IfOk (blocks_from version end (count + 1) rest) (AreBlocks version (count + 1))) →
-        IfOk (cond signals (Ok []) (cond subdevice (next_block version end count line rest >>= λ sub. blocks_from version end (count + 1) rest >>= λ subs. Ok (sub ∷ subs)) (blocks_from version end count rest))) (AreBlocks version count)
-    split true subdevice other later = (omega arith, refl)
-    split false false other later = other
-    split false true other later =
-        then_ok (IsBlock version count) (AreBlocks version count) (next_block version end count line rest) _ (block_ok version end count line rest)
-        (λ sub b. then_ok (AreBlocks version (count + 1)) (AreBlocks version count) (blocks_from version end (count + 1) rest) _ (later (one_more_room count b.0)) (λ subs k. one_less version count subs sub b k))
-
--- a line begins with one word
-pub one_key : (words : List (List ℕ)) (key other : List ℕ) → (key ≡ other → ⊥) → begins_words key words ≡ true → begins_words other words ≡ false
-one_key [] key other apart h = refl
-one_key (word ∷ words) key other apart h = differs (bytes_eq word other) refl
-  where
-    differs : (b : Bool) → bytes_eq word other ≡ b → b ≡ false
-    differs true e = absurd (apart (sym ((bytes_eq-Decides word key).0 h) ∙ (bytes_eq-Decides word other).0 e))
-    differs false e = refl
-
-subdevice_signals : codes "subdevice" ≡ codes "signals" → ⊥
-subdevice_signals e = cc
-
--- what a first line says of its block, by whether it is bad and begins with the one word
-abbrev any_keyed : LineText → Bool → Bool → Result Bool Refused
-any_keyed line bad begun = at_line line.number (keyed line bad begun) >>= λ words. at_line words.0 (any_words words.1)
-
--- where the first line is a block's there is a block
-blocks_some : (version end : ℕ) (lines : List LineText) (any : Bool) → fixed end (codes "subdevice") any_words lines ≡ Ok any → IfOk (blocks_from version end 0 lines) (λ subs. 1 ≤ length subs)
-blocks_some version end [] any e = cc
-blocks_some version end (line ∷ rest) any e = begins_one line.bad refl e
-  where
-    read_one : (subs : List SubText) (sub : SubText) → 1 ≤ length (sub ∷ subs)
-    read_one subs sub = omega arith
-
-    at_block : (signals subdevice : Bool) → signals ≡ false → subdevice ≡ true → IfOk (cond signals (Ok []) (cond subdevice (next_block version end 0 line rest >>= λ sub. blocks_from version end (0 + 1) rest >>= λ subs. Ok (sub ∷ subs)) (blocks_from version end 0 rest))) (λ subs. 1 ≤ length subs)
-    at_block true subdevice p q = cc
-    at_block false false p q = cc
-    at_block false true p q =
-        then_ok Any (λ subs. 1 ≤ length subs) (next_block version end 0 line rest) _ (any_ok _) (λ sub any. then_ok Any (λ subs. 1 ≤ length subs) (blocks_from version end (0 + 1) rest) _ (any_ok _) (λ subs any. read_one subs sub))
-
-    key_begins : (b : Bool) → begins (codes "subdevice") line ≡ b → any_keyed line false b ≡ Ok any → begins (codes "subdevice") line ≡ true
-    key_begins true is e = is
-    key_begins false is e = cc
-
-    begins_one : (bad : Bool) → line.bad ≡ bad → any_keyed line bad (begins (codes "subdevice") line) ≡ Ok any → IfOk (blocks_from version end 0 (line ∷ rest)) (λ subs. 1 ≤ length subs)
-    begins_one true is e = cc
-    begins_one false is e =
-        let good = key_begins (begins (codes "subdevice") line) refl e in
-        let word = both (not line.bad) (begins_words (codes "subdevice") line.words) good in
-        at_block (is_signals line) (is_subdevice line)
-        (and_right (not line.bad) _ (one_key line.words (codes "subdevice") (codes "signals") subdevice_signals word.1)) good
-
--- the subdevices that are read are 1 to 16
-pub subs_keep : (version end : ℕ) (lines : List LineText) (any : Bool) (subs : List SubText) → fixed end (codes "subdevice") any_words lines ≡ Ok any → blocks_from version end 0 lines ≡ Ok subs → IsFrom1To 16 (length subs) × IsTrue (list_all (fits_version version) subs)
-unfolding AreBlocks
-subs_keep version end lines any subs e f =
-    let few = ok_keeps (AreBlocks version 0) (blocks_from version end 0 lines) subs f (blocks_ok version end 0 lines (omega arith)) in (
-      record {
-        low = ok_keeps (λ (s : List SubText). 1 ≤ length s) (blocks_from version end 0 lines) subs f (blocks_some version end lines any e);
-        high = omega (arith, few.0);
-      },
-      few.1,
-    )
-
-name_size : (name : List ℕ) → is_name name ≡ true → IsFrom1To 32 (length name)
-name_size name h =
-    let n = both (is_word name) (nat_le (length name) 32) h in
-    let w = both (is_not_empty name) (list_all is_printable name) n.0 in
-    record { low = grind (arith, nat_tests, w.0); high = grind (arith, nat_tests, n.1) }
-
--- a board that is read is one
-pub board_keeps : (end version : ℕ) (lines : List LineText) (any : Bool) (name : List ℕ) (subs : List SubText) → IsFrom1To 2 version → is_name name ≡ true → fixed end (codes "subdevice") any_words lines ≡ Ok any → blocks_from version end 0 lines ≡ Ok subs → IsSoundBoard (record { version = version; name = name; subs = subs })
-board_keeps end version lines any name subs v h e f = record {
-  version = v;
-  name = name_size name h;
-  printable = (both (is_not_empty name) (list_all is_printable name) (both (is_word name) (nat_le (length name) 32) h).0).1;
-  subs = (subs_keep version end lines any subs e f).0;
-  blocks = (subs_keep version end lines any subs e f).1;
-}
-
--- the one word is a name
-pub name_is : {X : Type 0} (now : X → List ℕ) (words : List X) (name : List ℕ) → list_all (λ w. is_word (now w)) words ≡ true → one_word (map now words) ≡ Ok name → length name ≤ 32 → IsTrue (is_name name)
-name_is now [] name h e k = cc
-name_is now (w ∷ []) name h e k =
-    let same : now w ≡ name = cc in
-    and_true _ _ (sym (ap is_word same) ∙ (both (is_word (now w)) true h).0) (grind (arith, nat_tests))
-name_is now (w ∷ v ∷ more) name h e k = cc
+    by : (b : Bool) → lacks head (takes (slots t head items)) (slots t head items) ≡ b →
+        IfOk (cond b (Err faults.Missing) (Ok (whole head (takes (slots t head items)) (slots t head items)))) (IsWhole t head)
+    by true e = tt
+    by false e = is_whole t head items check a.good a.few e

@@ -13,7 +13,7 @@ use Rattle.cm_base.proofs.Bools.{both, neither, not_true}
 use Rattle.cm_base.proofs.Refusal.{keyed}
 use Rattle.cm_board.specs.Board.{BoardText, SubText}
 use Rattle.cm_board_text.specs.BoardPart.{any_words, block_at, block_lines, blocks_from, board_of, ends_block, is_signals, is_subdevice, lines_after, name_words, next_block, version_words}
-use Rattle.cm_board_text.proofs.Good.{one_key}
+use Rattle.cm_board_text.proofs.BoardKept.{one_key}
 
 -- the lines up to the first `signals` line, and that line
 part_lines : List LineText → List LineText

@@ -15,12 +15,14 @@ use Rattle.cm_base.specs.declared.faults.Refused.{Refused}
 use Rattle.cm_base.proofs.Bools.{and_true, both, not_true}
 use Rattle.cm_base.proofs.Refusal.{each_refused, each_refuses, err_is, fixed_number, keyed}
 use Rattle.cm_board.specs.Board.{BoardText, SubText}
-use Rattle.cm_board_text.specs.Block.{block_of, finished, item_after}
-use Rattle.cm_board_text.specs.BoardPart.{any_words, block_at, block_lines, block_said, blocks_from, board_of, ends_block, head_after, is_between, is_signals, is_subdevice, lines_after, name_words, version_words}
+use Rattle.cm_board.specs.BoardTable.{board_table}
+use Rattle.cm_board.specs.Items.{ItemText}
+use Rattle.cm_board.specs.declared.table.Head.{Head}
+use Rattle.cm_board_text.specs.Block.{finished}
+use Rattle.cm_board_text.specs.BoardPart.{any_words, block_at, block_lines, blocks_from, board_of, ends_block, head_after, is_between, is_signals, is_subdevice, lines_after, name_words, version_words}
 use Rattle.cm_board_text.specs.Refusal.{FirstIsRefused, IsFirstFault}
-use Rattle.cm_board_text.specs.declared.items.Head.{Head}
-use Rattle.cm_board_text.specs.declared.items.Item.{Item}
-use Rattle.cm_board_text.proofs.Lines.{between_blocks, first_of_two, none_pass, skip_block}
+use Rattle.cm_board_text.specs.Reading.{item_after, items_said}
+use Rattle.cm_board_text.proofs.Blocks.{between_blocks, first_of_two, none_pass, skip_block}
 use Rattle.cm_board_text.proofs.Prefix.{after_end, after_more, inside_end, inside_more}
 
 ok_no_error : {X : Type 0} {x : X} {refused : Refused} → Ok x ≡ Err refused → ⊥
@@ -67,7 +69,7 @@ number_next end [] = refl
 number_next end (line ∷ rest) = refl
 
 -- a block with its head and its lines
-record IsBlock (line : LineText) (inside : List LineText) : Type 0 where
+record IsHeaded (line : LineText) (inside : List LineText) : Type 0 where
   ends : ends_block line ≡ true
   other : is_signals line ≡ false
   none : none_pass ends_block inside ≡ true
@@ -79,14 +81,14 @@ and_after version end count x read = read >>= λ sub. blocks_from version end (c
 abbrev then_blocks : ℕ → ℕ → ℕ → LineText → List LineText → List LineText → Result (List SubText) Refused
 then_blocks version end count line inside x = and_after version end count x (block_at version (next_number end x) count line inside)
 
-block_cut : (version end count : ℕ) (line : LineText) (inside x : List LineText) → IsBlock line inside → is_between x ≡ true → blocks_from version end count (line ∷ (inside ++ x)) ≡ then_blocks version end count line inside x
+block_cut : (version end count : ℕ) (line : LineText) (inside x : List LineText) → IsHeaded line inside → is_between x ≡ true → blocks_from version end count (line ∷ (inside ++ x)) ≡ then_blocks version end count line inside x
 block_cut version end count line inside x a b =
     first_of_two (is_signals line) (is_subdevice line) _ _ _ a.ends a.other
     ∙ ap₂ (λ (after lines : List LineText). block_at version (next_number end after) count line lines >>= λ sub. blocks_from version end (count + 1) (inside ++ x) >>= λ subs. Ok (sub ∷ subs)) (cut_after inside x a.none b) (cut_inside inside x a.none b)
     ∙ ap (λ r. block_at version (next_number end x) count line inside >>= λ sub. r >>= λ subs. Ok (sub ∷ subs)) (skip_block version end (count + 1) (inside ++ x) ∙ ap (blocks_from version end (count + 1)) (cut_after inside x a.none b))
 
 -- a block that nothing comes after
-last_cut : (version end count : ℕ) (line : LineText) (inside : List LineText) → IsBlock line inside → blocks_from version end count (line ∷ inside) ≡ then_blocks version end count line inside []
+last_cut : (version end count : ℕ) (line : LineText) (inside : List LineText) → IsHeaded line inside → blocks_from version end count (line ∷ inside) ≡ then_blocks version end count line inside []
 last_cut version end count line inside a = ap (λ (ls : List LineText). blocks_from version end count (line ∷ ls)) (sym (append-nil inside)) ∙ block_cut version end count line inside [] a refl
 
 -- the first line that fails among blocks
@@ -99,7 +101,7 @@ record BlocksFail (version end count : ℕ) (lines : List LineText) (refused : R
   here : blocks_from version end count (good ++ take 1 rest) ≡ Err refused
 
 -- its head fails
-head_fails : (version end count : ℕ) (line : LineText) (rest : List LineText) (cause : Fault) (refused : Refused) → IsBlock line [] → head_after version count line ≡ Err cause → record { line = line.number; cause = cause } ≡ refused → BlocksFail version end count (line ∷ rest) refused
+head_fails : (version end count : ℕ) (line : LineText) (rest : List LineText) (cause : Fault) (refused : Refused) → IsHeaded line [] → head_after version count line ≡ Err cause → record { line = line.number; cause = cause } ≡ refused → BlocksFail version end count (line ∷ rest) refused
 head_fails version end count line rest cause refused a h same = record {
   good = [];
   rest = line ∷ rest;
@@ -107,22 +109,22 @@ head_fails version end count line rest cause refused a h same = record {
   line = ap (λ (r : Refused). r.line) (sym same);
   before = λ other. (faults.Missing, refl);
   here = last_cut version end count line [] a
-      ∙ ap (λ r. (at_line line.number r >>= λ head. block_said head [] >>= λ block. at_line end (finished head block)) >>= λ sub. blocks_from version end (count + 1) [] >>= λ subs. Ok (sub ∷ subs)) h
+      ∙ ap (λ r. (at_line line.number r >>= λ head. items_said board_table head [] >>= λ items. at_line end (finished head items)) >>= λ sub. blocks_from version end (count + 1) [] >>= λ subs. Ok (sub ∷ subs)) h
       ∙ ap (λ (r : Refused). Err r) same;
 }
 
 -- what a block says at its end, where its head and its lines are read
-ended : (version stop count : ℕ) (line : LineText) (inside : List LineText) (head : Head) (items : List Item) → head_after version count line ≡ Ok head → read_each (item_after head) [] inside ≡ Ok items → block_at version stop count line inside ≡ at_line stop (finished head (block_of items))
+ended : (version stop count : ℕ) (line : LineText) (inside : List LineText) (head : Head) (items : List ItemText) → head_after version count line ≡ Ok head → read_each (item_after board_table head) [] inside ≡ Ok items → block_at version stop count line inside ≡ at_line stop (finished head items)
 ended version stop count line inside head items h s =
-    ap (λ r. at_line line.number r >>= λ head. block_said head inside >>= λ block. at_line stop (finished head block)) h
-    ∙ ap (λ r. (r >>= λ items. Ok (block_of items)) >>= λ block. at_line stop (finished head block)) s
+    ap (λ r. at_line line.number r >>= λ head. items_said board_table head inside >>= λ items. at_line stop (finished head items)) h
+    ∙ ap (λ r. r >>= λ items. at_line stop (finished head items)) s
 
 -- a block whose head and lines are read is refused at its end, or the next one is missing there
-last_fails : (version count : ℕ) (line : LineText) (inside : List LineText) (head : Head) (items : List Item) → IsBlock line inside → head_after version count line ≡ Ok head → read_each (item_after head) [] inside ≡ Ok items →
+last_fails : (version count : ℕ) (line : LineText) (inside : List LineText) (head : Head) (items : List ItemText) → IsHeaded line inside → head_after version count line ≡ Ok head → read_each (item_after board_table head) [] inside ≡ Ok items →
     (other : ℕ) → (cause : Fault) × (blocks_from version other count (line ∷ inside) ≡ Err (record { line = other; cause = cause }))
-last_fails version count line inside head items a h s other = by (finished head (block_of items)) refl
+last_fails version count line inside head items a h s other = by (finished head items) refl
   where
-    by : (said : Result SubText Fault) → finished head (block_of items) ≡ said → (cause : Fault) × (blocks_from version other count (line ∷ inside) ≡ Err (record { line = other; cause = cause }))
+    by : (said : Result SubText Fault) → finished head items ≡ said → (cause : Fault) × (blocks_from version other count (line ∷ inside) ≡ Err (record { line = other; cause = cause }))
     by (Err cause) e = (cause, last_cut version other count line inside a ∙ ap (λ r. r >>= λ sub. blocks_from version other (count + 1) [] >>= λ subs. Ok (sub ∷ subs)) (ended version other count line inside head items h s ∙ ap (at_line other) e))
     by (Ok sub) e = (faults.Missing, last_cut version other count line inside a ∙ ap (λ r. r >>= λ sub. blocks_from version other (count + 1) [] >>= λ subs. Ok (sub ∷ subs)) (ended version other count line inside head items h s ∙ ap (at_line other) e))
 
@@ -135,12 +137,12 @@ none_through : (good : List LineText) (line : LineText) → none_pass ends_block
 none_through good line h e = list_all-append (λ l. not (ends_block l)) good (line ∷ []) ∙ and_true _ _ h (and_true _ _ (ap not e) refl)
 
 -- one of its lines fails
-item_fails : (version end count : ℕ) (line : LineText) (inside after : List LineText) (head : Head) (refused : Refused) → IsBlock line inside → head_after version count line ≡ Ok head →
-    FirstFault (read_each (item_after head) []) (item_after head) inside refused → BlocksFail version end count (line ∷ (inside ++ after)) refused
+item_fails : (version end count : ℕ) (line : LineText) (inside after : List LineText) (head : Head) (refused : Refused) → IsHeaded line inside → head_after version count line ≡ Ok head →
+    FirstFault (read_each (item_after board_table head) []) (item_after board_table head) inside refused → BlocksFail version end count (line ∷ (inside ++ after)) refused
 item_fails version end count line inside after head refused a h f =
     let n = none_before f.good f.line f.rest inside f.parts a.none in
-    let good : IsBlock line f.good = record { ends = a.ends; other = a.other; none = n.0 } in
-    let through : IsBlock line (f.good ++ f.line ∷ []) = record { ends = a.ends; other = a.other; none = none_through f.good f.line n.0 n.1 } in
+    let good : IsHeaded line f.good = record { ends = a.ends; other = a.other; none = n.0 } in
+    let through : IsHeaded line (f.good ++ f.line ∷ []) = record { ends = a.ends; other = a.other; none = none_through f.good f.line n.0 n.1 } in
     record {
       good = line ∷ f.good;
       rest = f.line ∷ (f.rest ++ after);
@@ -148,13 +150,13 @@ item_fails version end count line inside after head refused a h f =
       line = f.number;
       before = last_fails version count line f.good head f.said good h f.before;
       here = last_cut version end count line (f.good ++ f.line ∷ []) through
-          ∙ ap (λ r. (at_line line.number r >>= λ head. block_said head (f.good ++ f.line ∷ []) >>= λ block. at_line end (finished head block)) >>= λ sub. blocks_from version end (count + 1) [] >>= λ subs. Ok (sub ∷ subs)) h
-          ∙ ap (λ r. ((r >>= λ items. Ok (block_of items)) >>= λ block. at_line end (finished head block)) >>= λ sub. blocks_from version end (count + 1) [] >>= λ subs. Ok (sub ∷ subs)) (each_refuses (item_after head) [] inside [] refused f);
+          ∙ ap (λ r. (at_line line.number r >>= λ head. items_said board_table head (f.good ++ f.line ∷ []) >>= λ items. at_line end (finished head items)) >>= λ sub. blocks_from version end (count + 1) [] >>= λ subs. Ok (sub ∷ subs)) h
+          ∙ ap (λ r. (r >>= λ items. at_line end (finished head items)) >>= λ sub. blocks_from version end (count + 1) [] >>= λ subs. Ok (sub ∷ subs)) (each_refuses (item_after board_table head) [] inside [] refused f);
     }
 
 -- its end fails
-end_fails : (version end count : ℕ) (line : LineText) (inside after : List LineText) (head : Head) (items : List Item) (cause : Fault) (refused : Refused) → IsBlock line inside → is_between after ≡ true → head_after version count line ≡ Ok head →
-    read_each (item_after head) [] inside ≡ Ok items → finished head (block_of items) ≡ Err cause → record { line = next_number end after; cause = cause } ≡ refused → BlocksFail version end count (line ∷ (inside ++ after)) refused
+end_fails : (version end count : ℕ) (line : LineText) (inside after : List LineText) (head : Head) (items : List ItemText) (cause : Fault) (refused : Refused) → IsHeaded line inside → is_between after ≡ true → head_after version count line ≡ Ok head →
+    read_each (item_after board_table head) [] inside ≡ Ok items → finished head items ≡ Err cause → record { line = next_number end after; cause = cause } ≡ refused → BlocksFail version end count (line ∷ (inside ++ after)) refused
 end_fails version end count line inside after head items cause refused a b h s f same = record {
   good = line ∷ inside;
   rest = after;
@@ -168,7 +170,7 @@ end_fails version end count line inside after head items cause refused a b h s f
 }
 
 -- a block is read, and one after it is not
-later_fails : (version end count : ℕ) (line : LineText) (inside after : List LineText) (sub : SubText) (refused : Refused) → IsBlock line inside → is_between after ≡ true → ((stop : ℕ) → block_at version stop count line inside ≡ Ok sub) →
+later_fails : (version end count : ℕ) (line : LineText) (inside after : List LineText) (sub : SubText) (refused : Refused) → IsHeaded line inside → is_between after ≡ true → ((stop : ℕ) → block_at version stop count line inside ≡ Ok sub) →
     BlocksFail version end (count + 1) after refused → BlocksFail version end count (line ∷ (inside ++ after)) refused
 later_fails version end count line inside after sub refused a b h f = record {
   good = line ∷ (inside ++ f.good);
@@ -192,11 +194,11 @@ err_more sub (Ok subs) refused e = cc
 err_more sub (Err r) refused e = cc
 
 -- one block, and those after it
-block_fails : (version end count : ℕ) (line : LineText) (inside after : List LineText) (refused : Refused) → IsBlock line inside → is_between after ≡ true → then_blocks version end count line inside after ≡ Err refused →
+block_fails : (version end count : ℕ) (line : LineText) (inside after : List LineText) (refused : Refused) → IsHeaded line inside → is_between after ≡ true → then_blocks version end count line inside after ≡ Err refused →
     (blocks_from version end (count + 1) after ≡ Err refused → BlocksFail version end (count + 1) after refused) → BlocksFail version end count (line ∷ (inside ++ after)) refused
 block_fails version end count line inside after refused a b e later = by_head (head_after version count line) refl
   where
-    by_end : (head : Head) (items : List Item) → head_after version count line ≡ Ok head → read_each (item_after head) [] inside ≡ Ok items → (said : Result SubText Fault) → finished head (block_of items) ≡ said → BlocksFail version end count (line ∷ (inside ++ after)) refused
+    by_end : (head : Head) (items : List ItemText) → head_after version count line ≡ Ok head → read_each (item_after board_table head) [] inside ≡ Ok items → (said : Result SubText Fault) → finished head items ≡ said → BlocksFail version end count (line ∷ (inside ++ after)) refused
     by_end head items h s (Err cause) f =
         end_fails version end count line inside after head items cause refused a b h s f
         (err_is _ _ (sym (ap (and_after version end count after) (ended version (next_number end after) count line inside head items h s ∙ ap (at_line (next_number end after)) f)) ∙ e))
@@ -204,19 +206,19 @@ block_fails version end count line inside after refused a b e later = by_head (h
         let read : (stop : ℕ) → block_at version stop count line inside ≡ Ok sub = λ stop. ended version stop count line inside head items h s ∙ ap (at_line stop) f in
         later_fails version end count line inside after sub refused a b read (later (err_more sub (blocks_from version end (count + 1) after) refused (sym (ap (and_after version end count after) (read (next_number end after))) ∙ e)))
 
-    by_items : (head : Head) → head_after version count line ≡ Ok head → (said : Result (List Item) Refused) → read_each (item_after head) [] inside ≡ said → BlocksFail version end count (line ∷ (inside ++ after)) refused
-    by_items head h (Ok items) s = by_end head items h s (finished head (block_of items)) refl
+    by_items : (head : Head) → head_after version count line ≡ Ok head → (said : Result (List ItemText) Refused) → read_each (item_after board_table head) [] inside ≡ said → BlocksFail version end count (line ∷ (inside ++ after)) refused
+    by_items head h (Ok items) s = by_end head items h s (finished head items) refl
     by_items head h (Err r) s =
         let same : r ≡ refused = err_is _ _ (sym (
-        ap (λ r. and_after version end count after (at_line line.number r >>= λ head. block_said head inside >>= λ block. at_line (next_number end after) (finished head block))) h
-        ∙ ap (λ r. and_after version end count after ((r >>= λ items. Ok (block_of items)) >>= λ block. at_line (next_number end after) (finished head block))) s) ∙ e) in
-        item_fails version end count line inside after head refused a h (each_refused (item_after head) [] inside refused (s ∙ ap (λ (r : Refused). Err r) same))
+        ap (λ r. and_after version end count after (at_line line.number r >>= λ head. items_said board_table head inside >>= λ items. at_line (next_number end after) (finished head items))) h
+        ∙ ap (λ r. and_after version end count after (r >>= λ items. at_line (next_number end after) (finished head items))) s) ∙ e) in
+        item_fails version end count line inside after head refused a h (each_refused (item_after board_table head) [] inside refused (s ∙ ap (λ (r : Refused). Err r) same))
 
     by_head : (said : Result Head Fault) → head_after version count line ≡ said → BlocksFail version end count (line ∷ (inside ++ after)) refused
-    by_head (Ok head) h = by_items head h (read_each (item_after head) [] inside) refl
+    by_head (Ok head) h = by_items head h (read_each (item_after board_table head) [] inside) refl
     by_head (Err cause) h =
         head_fails version end count line (inside ++ after) cause refused (record { ends = a.ends; other = a.other; none = refl }) h
-        (err_is _ _ (sym (ap (λ r. and_after version end count after (at_line line.number r >>= λ head. block_said head inside >>= λ block. at_line (next_number end after) (finished head block))) h) ∙ e))
+        (err_is _ _ (sym (ap (λ r. and_after version end count after (at_line line.number r >>= λ head. items_said board_table head inside >>= λ items. at_line (next_number end after) (finished head items))) h) ∙ e))
 
 blocks_fail : (n version end count : ℕ) (lines : List LineText) (refused : Refused) → length lines ≤ n → is_between lines ≡ true → blocks_from version end count lines ≡ Err refused → BlocksFail version end count lines refused
 blocks_fail n version end count [] refused k b e = record {
@@ -236,7 +238,7 @@ blocks_fail (suc n) version end count (line ∷ rest) refused k b e = by (is_sig
     by : (signals : Bool) → is_signals line ≡ signals → (blocks_from version end (count + 1) (lines_after rest) ≡ Err refused → BlocksFail version end (count + 1) (lines_after rest) refused) → BlocksFail version end count (line ∷ rest) refused
     by true s later = absurd (ok_no_error (sym (cond-true (is_signals line) (Ok []) _ s) ∙ e))
     by false s later =
-        let a : IsBlock line (block_lines rest) = record { ends = b; other = s; none = none_inside rest } in
+        let a : IsHeaded line (block_lines rest) = record { ends = b; other = s; none = none_inside rest } in
         let whole : line ∷ rest ≡ line ∷ (block_lines rest ++ lines_after rest) = ap (λ (ls : List LineText). line ∷ ls) (two_parts rest) in
         subst (λ (ls : List LineText). BlocksFail version end count ls refused) (sym whole)
         (block_fails version end count line (block_lines rest) (lines_after rest) refused a (between_blocks rest)

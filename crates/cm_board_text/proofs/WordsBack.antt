@@ -1,61 +1,37 @@
--- A printed line is read as what it says.
-use Rattle.std.proofs.Common.{◌≡◌, ℕ, ◌-◌, ◌^◌, ◌<◌, ◌≤◌, Bool, true, false, cond, ◌&&◌, [], ◌∷◌, Result, Ok, Err, refl, ap, ◌∙◌, nat_le, nat_lt, ◌==◌, arith, decimal, bit_and}
-use Rattle.std.specs.Fmt.{signed_decimal}
-use Rattle.std.specs.List.{list_all, range_with_len}
+-- The words of a printed line are read as what they say.
+use Rattle.std.proofs.Common.{◌≡◌, ℕ, zero, suc, ◌+◌, ◌-◌, ◌^◌, ◌<◌, ◌≤◌, Bool, true, false, cond, not, ◌&&◌, ◌||◌, List, [], ◌∷◌, ◌++◌, length, Option, Some, None, option_to_list, Ok, refl, sym, ap, ◌∙◌, nat_le, nat_lt, ◌==◌, arith, append_assoc, append-nil, bit_and, decimal}
+use Rattle.std.specs.List.{list_all}
+use Rattle.std.specs.Str.{bytes_eq}
+use Rattle.std.proofs.lemmas.Bool.{eqb-true, ltb-true}
 use Rattle.std.proofs.lemmas.Bool.Decides.{nat_tests}
-use Rattle.std.proofs.lemmas.Bool.{le-leb, leb-true, ltb-true}
+use Rattle.std.proofs.lemmas.Nat.{and_le_r}
 use Rattle.cm_base.specs.Lines.{is_word}
 use Rattle.cm_base.specs.Reading.{◌>>=◌}
 use Rattle.cm_base.specs.SourceText.{source_text}
-use Rattle.cm_base.specs.Words.{is_int, keyword, limited, number_below, number_in, one, signed_number, source_in, sources_in, two}
-use Rattle.cm_base.specs.WrittenLines.{is_line}
-use Rattle.cm_base.specs.declared.faults.Fault.{Fault}
-use Rattle.cm_base.specs.declared.faults.Fault.TheVariants.{Unknown}
+use Rattle.cm_base.specs.Words.{limited, number_below, or_fault, source_in, sources_in}
+use Rattle.cm_base.specs.declared.faults.Fault.TheVariants as faults
 use Rattle.cm_base.proofs.Bools.{and_true, both}
 use Rattle.cm_base.proofs.NumbersBack.{number_in-decimal, number_of-decimal, signed_number-decimal, word-decimal, word-signed_decimal}
-use Rattle.cm_base.proofs.SourcesBack.{each_below, reads_ok, source_back, word-source, reads_as}
-use Rattle.cm_board_text.specs.Block.{masks_said}
-use Rattle.cm_board.specs.Board.{are_full, fits_range, is_among, is_munge, is_source}
-use Rattle.cm_board_text.specs.Items.{chan_words, field_word, item_words, key_of, keys, munge_later, range_said, span, stop_sources, time_word, within_ok, words_of}
-use Rattle.cm_board_text.specs.Rows.{may_stand, row_of}
-use Rattle.cm_board_text.specs.Limits.{is_time, is_within}
-use Rattle.cm_board_text.proofs.LineLimits.{is_limited, limited_says, stands}
-use Rattle.cm_board_text.proofs.SourceMasks.{few_bits}
-use Rattle.cm_board_text.specs.Printed.{field_text, item_text, munge_text, range_text, says_text, values_text}
-use Rattle.cm_board.specs.declared.board.Munge.{Munge}
-use Rattle.cm_board.specs.declared.board.Munge.TheVariants as munges
-use Rattle.cm_board.specs.declared.board.Range.{Range}
-use Rattle.cm_board_text.specs.declared.items.ChanSays.{ChanSays}
-use Rattle.cm_board_text.specs.declared.items.ChanSays.TheVariants as says
-use Rattle.cm_board_text.specs.declared.items.Head.{Head}
-use Rattle.cm_board_text.specs.declared.items.Row.{Row}
-use Rattle.cm_board_text.specs.declared.items.Row.TheVariants as rows
-use Rattle.cm_board_text.specs.declared.items.Span.{Span}
-use Rattle.cm_board_text.specs.declared.items.Item.{Item}
-use Rattle.cm_board_text.specs.declared.items.Item.TheVariants as items
+use Rattle.cm_base.proofs.SourcesBack.{source_back, word-source}
+use Rattle.cm_board.specs.Kept.{are_kept, is_among, is_kept, is_source, is_within, set_in}
+use Rattle.cm_board_text.specs.IsTable.{are_apart, are_names, differ, is_place, is_proper}
+use Rattle.cm_board_text.specs.Printed.{name_at, value_text, words_text}
+use Rattle.cm_board_text.specs.Reading.{fixed_is, is_fixed, is_form, place_from, read_word, values_after}
+use Rattle.cm_board.specs.Table.{WordText, Fixed, Number, Signed, Sources, Source, Name, Channel}
+use Rattle.cm_board.specs.declared.table.Head.{Head}
+use Rattle.cm_board.specs.declared.table.Limits.{Limits}
+use Rattle.cm_board.specs.declared.table.Value.{Value}
+use Rattle.cm_board.specs.declared.table.Value.TheVariants as values_of
 
--- each form by its first word
-key_back : (row : Row) → keyword keys (key_of row) ≡ Ok row
-key_back rows.Bits = refl
-key_back row = refl
+-- a mask of the nine sources is less than 512
+few_bits : (set mask : ℕ) → set < 512 → is_among set mask ≡ true → mask < 512
+few_bits set mask k h =
+    let e = (both (not (mask == 0)) (bit_and mask set == mask) h).1 in
+    let same : bit_and mask set ≡ mask = grind (arith, nat_tests, e) in
+    let less : bit_and mask set ≤ set = and_le_r mask set in
+    omega arith
 
--- a printed line has its form in a block where it may stand
-form_back : (head : Head) (item : Item) → stands head item ≡ true → item_words head (item_text item) ≡ words_of head (row_of item) (values_text item)
-form_back head item s =
-    ap (λ x. (x >>= λ row. cond (may_stand head row) (Ok row) (Err Unknown)) >>= λ row. words_of head row (values_text item)) (key_back (row_of item))
-    ∙ ap (λ b. cond b (Ok (row_of item)) (Err Unknown) >>= λ row. words_of head row (values_text item)) s
-
--- the words
-small : (least most n : ℕ) → most < 2 ^ 32 → is_within least most n ≡ true → n < 2 ^ 32
-small least most n k h = let e = (both (nat_le least n) (nat_le n most) h).1 in grind (arith, nat_tests, e)
-
-number_back : (least most n : ℕ) → most < 2 ^ 32 → is_within least most n ≡ true → number_in least most (decimal n) ≡ Ok n
-number_back least most n k h = number_in-decimal least most n (small least most n k h) h
-
-one_back : {X : Type 0} (make : ℕ → X) (least most n : ℕ) → most < 2 ^ 32 → is_within least most n ≡ true → one make (number_in least most) (decimal n ∷ []) ≡ Ok (make n)
-one_back make least most n k h = ap (λ r. r >>= λ x. Ok (make x)) (number_back least most n k h)
-
-sources_back : (set mask : ℕ) → set < 2 ^ 9 → is_among set mask ≡ true → sources_in set (source_text mask) ≡ Ok mask
+sources_back : (set mask : ℕ) → set < 512 → is_among set mask ≡ true → sources_in set (source_text mask) ≡ Ok mask
 sources_back set mask k h = ap (λ r. r >>= λ bits. limited (is_among set bits) bits) (source_back mask (few_bits set mask k h)) ∙ ap (λ b. limited b mask) h
 
 source_in_back : (src : ℕ) → is_source src ≡ true → source_in 511 (source_text src) ≡ Ok src
@@ -63,170 +39,180 @@ source_in_back src h =
     let b = both (is_among 511 src) (bit_and src (src - 1) == 0) h in
     ap (λ r. r >>= λ bits. limited (bit_and bits (bits - 1) == 0) bits) (sources_back 511 src (omega arith) b.0) ∙ ap (λ t. limited t src) b.1
 
-every_field : list_all (λ n. reads_as n (field_word (field_text n)) && is_word (field_text n)) (range_with_len 0 5) ≡ true
-every_field = refl
+-- a name is found at its place
+record IsName (names : List (List ℕ)) (n : ℕ) : Type 0 where
+  pub found : place_from 0 (name_at n names) names ≡ Some n
+  pub word : is_word (name_at n names) ≡ true
 
-field_back : (n : ℕ) → nat_lt n 5 ≡ true → (field_word (field_text n) ≡ Ok n) × (is_word (field_text n) ≡ true)
-field_back n h =
-    let b = both (reads_as n (field_word (field_text n))) (is_word (field_text n)) (each_below (λ n. reads_as n (field_word (field_text n)) && is_word (field_text n)) 5 every_field n (grind (arith, nat_tests))) in
-    (reads_ok n (field_word (field_text n)) b.0, b.1)
+place_is : (n : ℕ) (o : Option ℕ) → is_place n o ≡ true → o ≡ Some n
+place_is n None h = cc
+place_is n (Some m) h = ap (λ (k : ℕ). Some k) (eqb-true m n h)
 
-munge_back : (munge : Munge) → is_munge munge ≡ true → munge_later (munge_text munge) ≡ Ok (Ok munge)
-munge_back munges.Plain h = refl
-munge_back munges.Offset h = refl
-munge_back munges.Swap16 h = refl
-munge_back (munges.Left bits) h = ap (λ r. Ok (within_ok munges.Left r)) (number_back 1 8 bits (omega arith) h)
+name_from : (all : List (List ℕ)) (n k : ℕ) (names : List (List ℕ)) → are_names all n names ≡ true → k < length names →
+    (place_from 0 (name_at k names) all ≡ Some (n + k)) × (is_word (name_at k names) ≡ true)
+name_from all n k [] h below = absurd (omega arith)
+name_from all n zero (name ∷ names) h below =
+    let b = both (is_place n (place_from 0 name all) && is_word name) (are_names all (n + 1) names) h in
+    let a = both (is_place n (place_from 0 name all)) (is_word name) b.0 in
+    (place_is n (place_from 0 name all) a.0 ∙ ap (λ (m : ℕ). Some m) (omega arith), a.1)
+name_from all n (suc k) (name ∷ names) h below =
+    let b = both (is_place n (place_from 0 name all) && is_word name) (are_names all (n + 1) names) h in
+    let later = name_from all (n + 1) k names b.1 (omega arith) in
+    (later.0 ∙ ap (λ (m : ℕ). Some m) (omega arith), later.1)
 
-range_back : (r : Range) → fits_range r ≡ true → range_said (signed_decimal r.min, signed_decimal r.max, decimal r.unit) ≡ Ok r
-range_back r h =
-    let b = both (is_int r.min && is_int r.max) (nat_le r.unit 2) h in
-    let ends = both (is_int r.min) (is_int r.max) b.0 in
-    ap (λ x. x >>= λ min. signed_number (signed_decimal r.max) >>= λ max. number_in 0 2 (decimal r.unit) >>= λ unit. Ok (record { min = min; max = max; unit = unit })) (signed_number-decimal r.min ends.0)
-    ∙ ap (λ x. x >>= λ max. number_in 0 2 (decimal r.unit) >>= λ unit. Ok (record { min = r.min; max = max; unit = unit })) (signed_number-decimal r.max ends.1)
-    ∙ ap (λ x. x >>= λ unit. Ok (record { min = r.min; max = r.max; unit = unit })) (number_back 0 2 r.unit (omega arith) (and_true _ _ (le-leb 0 r.unit (omega arith)) b.1))
+name_back : (names : List (List ℕ)) (n : ℕ) → are_names names 0 names ≡ true → nat_lt n (length names) ≡ true → IsName names n
+name_back names n h below =
+    let f = name_from names 0 n names h (ltb-true n (length names) below) in record { found = f.0 ∙ ap (λ (m : ℕ). Some m) (omega arith); word = f.1 }
 
-times_back : (make : Span → Item) (t : Span) → (is_time t.min && is_time t.max) ≡ true → two (λ a b. make (span a b)) time_word time_word (decimal t.min ∷ decimal t.max ∷ []) ≡ Ok (make t)
-times_back make t h =
-    let b = both (is_time t.min) (is_time t.max) h in
-    ap (λ x. x >>= λ min. number_in 1 4000000000 (decimal t.max) >>= λ max. Ok (make (record { min = min; max = max }))) (number_back 1 4000000000 t.min (omega arith) b.0)
-    ∙ ap (λ x. x >>= λ max. Ok (make (record { min = t.min; max = max }))) (number_back 1 4000000000 t.max (omega arith) b.1)
+small_number : (l : Limits) (n : ℕ) → nat_lt l.most 4294967296 ≡ true → is_within l n ≡ true → n < 2 ^ 32
+small_number l n k h = let e = (both (nat_le l.least n) (nat_le n l.most) h).1 in grind (arith, nat_tests, e, k)
 
--- a channel below 64 is read as its number
-below_back : (channels chan : ℕ) → channels ≤ 64 → nat_lt chan channels ≡ true → number_below channels (decimal chan) ≡ Ok chan
-below_back channels chan few h = rw (number_of-decimal chan (omega (arith, ltb-true chan channels h)), h) refl
-
--- what is said of a channel, after the channel
-said_back : (channels chan : ℕ) (said : Result ChanSays Fault) (what : ChanSays) → channels ≤ 64 → nat_lt chan channels ≡ true → said ≡ Ok what → (number_below channels (decimal chan) >>= λ c. said >>= λ w. Ok (items.Chan (record { chan = c; says = w }))) ≡ Ok (items.Chan (record { chan = chan; says = what }))
-said_back channels chan said what few h e =
-    ap (λ x. x >>= λ c. said >>= λ w. Ok (items.Chan (record { chan = c; says = w }))) (below_back channels chan few h)
-    ∙ ap (λ x. x >>= λ w. Ok (items.Chan (record { chan = chan; says = w }))) e
-
-chan_back : (channels chan : ℕ) (what : ChanSays) → channels ≤ 64 → nat_lt chan channels ≡ true → limited_says what ≡ true → chan_words channels (decimal chan ∷ says_text what) ≡ Ok (items.Chan (record { chan = chan; says = what }))
-chan_back channels chan (says.Bits k) few n h =
-    said_back channels chan (within_ok says.Bits (number_in 1 24 (decimal k))) (says.Bits k) few n (ap (within_ok says.Bits) (number_back 1 24 k (omega arith) h))
-chan_back channels chan (says.Munge m) few n h =
-    ap (λ x. (x >>= λ munge. Ok (within_ok says.Munge munge)) >>= λ said. number_below channels (decimal chan) >>= λ c. said >>= λ w. Ok (items.Chan (record { chan = c; says = w }))) (munge_back m h)
-    ∙ said_back channels chan (Ok (says.Munge m)) (says.Munge m) few n refl
-chan_back channels chan (says.Range r) few n h =
-    said_back channels chan (within_ok says.Range (range_said (signed_decimal r.min, signed_decimal r.max, decimal r.unit))) (says.Range r) few n (ap (within_ok says.Range) (range_back r h))
-
-stop_small : (version : ℕ) → stop_sources version < 2 ^ 9
-stop_small version = by (nat_le 2 version)
+small_set : (head : Head) (first second : ℕ) → (nat_lt first 512 && nat_lt second 512) ≡ true → set_in head first second < 512
+small_set head first second h = by (nat_le 2 head.version)
   where
-    by : (b : Bool) → cond b 97 33 < 2 ^ 9
-    by true = omega arith
-    by false = omega arith
+    by : (b : Bool) → cond b second first < 512
+    by true = ltb-true second 512 (both (nat_lt first 512) (nat_lt second 512) h).1
+    by false = ltb-true first 512 (both (nat_lt first 512) (nat_lt second 512) h).0
 
--- its words are read as what it says
-values_back : (head : Head) (item : Item) → head.channels ≤ 64 → is_limited head item ≡ true → words_of head (row_of item) (values_text item) ≡ Ok item
-values_back head (items.Bits k) few h = one_back items.Bits 1 24 k (omega arith) h
-values_back head (items.Munge m) few h = ap (λ r. r >>= λ munge. within_ok items.Munge munge) (munge_back m h)
-values_back head (items.Range r) few h = ap (within_ok items.Range) (range_back r h)
-values_back head (items.Sources m) few h =
-    let h0 = both (are_full (masks_said m)) (is_among (stop_sources head.version) m.stop) h in
-    let h1 = both _ (is_among 97 m.stop) h0.0 in
-    let h2 = both _ (is_among 32 m.scan_end) h1.0 in
-    let h3 = both _ (is_among 82 m.convert) h2.0 in
-    let h4 = both (is_among 194 m.start) (is_among 84 m.scan_begin) h3.0 in
-    let stops : ℕ = stop_sources head.version in
-    ap (λ x. x >>= λ a. sources_in 84 (source_text m.scan_begin) >>= λ b. sources_in 82 (source_text m.convert) >>= λ c. sources_in 32 (source_text m.scan_end) >>= λ d. sources_in stops (source_text m.stop) >>= λ e. Ok (items.Sources (record { start = a; scan_begin = b; convert = c; scan_end = d; stop = e }))) (sources_back 194 m.start (omega arith) h4.0)
-    ∙ ap (λ x. x >>= λ b. sources_in 82 (source_text m.convert) >>= λ c. sources_in 32 (source_text m.scan_end) >>= λ d. sources_in stops (source_text m.stop) >>= λ e. Ok (items.Sources (record { start = m.start; scan_begin = b; convert = c; scan_end = d; stop = e }))) (sources_back 84 m.scan_begin (omega arith) h4.1)
-    ∙ ap (λ x. x >>= λ c. sources_in 32 (source_text m.scan_end) >>= λ d. sources_in stops (source_text m.stop) >>= λ e. Ok (items.Sources (record { start = m.start; scan_begin = m.scan_begin; convert = c; scan_end = d; stop = e }))) (sources_back 82 m.convert (omega arith) h3.1)
-    ∙ ap (λ x. x >>= λ d. sources_in stops (source_text m.stop) >>= λ e. Ok (items.Sources (record { start = m.start; scan_begin = m.scan_begin; convert = m.convert; scan_end = d; stop = e }))) (sources_back 32 m.scan_end (omega arith) h2.1)
-    ∙ ap (λ x. x >>= λ e. Ok (items.Sources (record { start = m.start; scan_begin = m.scan_begin; convert = m.convert; scan_end = m.scan_end; stop = e }))) (sources_back stops m.stop (stop_small head.version) h0.1)
-values_back head (items.Tick n) few h = one_back items.Tick 1 1000000000 n (omega arith) h
-values_back head (items.Scan t) few h = times_back items.Scan t h
-values_back head (items.Convert t) few h = times_back items.Convert t h
-values_back head (items.List n) few h = one_back items.List 1 256 n (omega arith) h
-values_back head (items.Scans n) few h = one_back items.Scans 1 4000000000 n (omega arith) h
-values_back head (items.Lines n) few h = one_back items.Lines 0 16 n (omega arith) h
-values_back head (items.Buffer n) few h = one_back items.Buffer 1 65536 n (omega arith) h
-values_back head items.SameRange few h = refl
-values_back head (items.Forbid f) few h =
-    let h1 = both _ (is_source f.other_src) h in
-    let h2 = both (nat_lt f.field 5 && nat_lt f.other 5) (is_source f.src) h1.0 in
-    let h3 = both (nat_lt f.field 5) (nat_lt f.other 5) h2.0 in
-    ap (λ x. x >>= λ a. source_in 511 (source_text f.src) >>= λ b. field_word (field_text f.other) >>= λ c. source_in 511 (source_text f.other_src) >>= λ d. Ok (items.Forbid (record { field = a; src = b; other = c; other_src = d }))) (field_back f.field h3.0).0
-    ∙ ap (λ x. x >>= λ b. field_word (field_text f.other) >>= λ c. source_in 511 (source_text f.other_src) >>= λ d. Ok (items.Forbid (record { field = f.field; src = b; other = c; other_src = d }))) (source_in_back f.src h2.1)
-    ∙ ap (λ x. x >>= λ c. source_in 511 (source_text f.other_src) >>= λ d. Ok (items.Forbid (record { field = f.field; src = f.src; other = c; other_src = d }))) (field_back f.other h3.1).0
-    ∙ ap (λ x. x >>= λ d. Ok (items.Forbid (record { field = f.field; src = f.src; other = f.other; other_src = d }))) (source_in_back f.other_src h1.1)
-values_back head items.Invert few h = refl
-values_back head (items.Fifo f) few h =
-    let b = both (is_within 2 4096 f.depth) (is_within 0 1000000000 f.latency) h in
-    ap (λ x. x >>= λ d. number_in 0 1000000000 (decimal f.latency) >>= λ l. Ok (items.Fifo (record { depth = d; latency = l }))) (number_back 2 4096 f.depth (omega arith) b.0)
-    ∙ ap (λ x. x >>= λ l. Ok (items.Fifo (record { depth = f.depth; latency = l }))) (number_back 0 1000000000 f.latency (omega arith) b.1)
-values_back head (items.Chan c) few h =
-    let b = both (nat_lt c.chan head.channels) (limited_says c.says) h in
-    chan_back head.channels c.chan c.says few b.0 b.1
+-- a channel of a block
+channel_back : (limit n : ℕ) → limit < 2 ^ 32 → nat_lt n limit ≡ true → number_below limit (decimal n) ≡ Ok n
+channel_back limit n s h =
+    let below : n < limit = ltb-true n limit h in
+    ap (λ o. or_fault faults.BadNumber o >>= λ m. limited (nat_lt m limit) m) (number_of-decimal n (omega arith)) ∙ ap (λ b. limited b n) h
 
--- a printed line is read as its item
-pub item_back : (head : Head) (item : Item) → head.channels ≤ 64 → is_limited head item ≡ true → stands head item ≡ true → item_words head (item_text item) ≡ Ok item
-item_back head item few h s = form_back head item s ∙ values_back head item few h
+-- a word that is not fixed is read as its value
+record IsBack (head : Head) (kind : WordText) (v : Value) : Type 0 where
+  pub read : read_word head kind (value_text kind v) ≡ Ok (Some v)
+  pub word : is_word (value_text kind v) ≡ true
 
--- its words may stand in a line
-word_number : (least most n : ℕ) → most < 2 ^ 32 → is_within least most n ≡ true → is_word (decimal n) ≡ true
-word_number least most n k h = word-decimal n (small least most n k h)
+word_back : (head : Head) (kind : WordText) (v : Value) → head.channels < 2 ^ 32 → is_proper kind ≡ true → is_kept head kind v ≡ true → IsBack head kind v
+word_back head (Fixed key) v s p h = cc
+word_back head (Number l) (values_of.Number n) s p h =
+    let small = small_number l n p h in
+    record { read = ap (λ r. r >>= λ m. Ok (Some (values_of.Number m))) (number_in-decimal l.least l.most n small h); word = word-decimal n small }
+word_back head (Number l) (values_of.Signed z) s p h = cc
+word_back head (Number l) (values_of.Name n) s p h = cc
+word_back head Signed (values_of.Signed z) s p h =
+    record { read = ap (λ r. r >>= λ m. Ok (Some (values_of.Signed m))) (signed_number-decimal z h); word = word-signed_decimal z h }
+word_back head Signed (values_of.Number n) s p h = cc
+word_back head Signed (values_of.Name n) s p h = cc
+word_back head (Sources first second) (values_of.Number n) s p h =
+    let small = small_set head first second p in
+    record { read = ap (λ r. r >>= λ m. Ok (Some (values_of.Number m))) (sources_back (set_in head first second) n small h); word = word-source n (few_bits (set_in head first second) n small h) }
+word_back head (Sources first second) (values_of.Signed z) s p h = cc
+word_back head (Sources first second) (values_of.Name n) s p h = cc
+word_back head Source (values_of.Number n) s p h = record {
+  read = ap (λ r. r >>= λ m. Ok (Some (values_of.Number m))) (source_in_back n h);
+  word = word-source n (few_bits 511 n (omega arith) (both (is_among 511 n) (bit_and n (n - 1) == 0) h).0);
+}
+word_back head Source (values_of.Signed z) s p h = cc
+word_back head Source (values_of.Name n) s p h = cc
+word_back head (Name names) (values_of.Name n) s p h =
+    let i = name_back names n p h in
+    record { read = ap (λ o. or_fault faults.Unknown o >>= λ m. Ok (Some (values_of.Name m))) i.found; word = i.word }
+word_back head (Name names) (values_of.Number n) s p h = cc
+word_back head (Name names) (values_of.Signed z) s p h = cc
+word_back head Channel (values_of.Number n) s p h =
+    let below : n < head.channels = ltb-true n head.channels h in
+    record { read = ap (λ r. r >>= λ m. Ok (Some (values_of.Number m))) (channel_back head.channels n s h); word = word-decimal n (omega arith) }
+word_back head Channel (values_of.Signed z) s p h = cc
+word_back head Channel (values_of.Name n) s p h = cc
 
-word_sources : (set mask : ℕ) → set < 2 ^ 9 → is_among set mask ≡ true → is_word (source_text mask) ≡ true
-word_sources set mask k h = word-source mask (few_bits set mask k h)
+-- what the words of a line are
+pub record AreBack (head : Head) (kinds : List WordText) (vs : List Value) : Type 0 where
+  pub read : (before : List Value) → values_after head before kinds (words_text kinds vs) ≡ Ok (before ++ vs)
+  pub words : list_all is_word (words_text kinds vs) ≡ true
+  pub form : is_form kinds (words_text kinds vs) ≡ true
+  pub many : length (words_text kinds vs) ≡ length kinds
 
-word_source_of : (src : ℕ) → is_source src ≡ true → is_word (source_text src) ≡ true
-word_source_of src h = word_sources 511 src (omega arith) (both (is_among 511 src) (bit_and src (src - 1) == 0) h).0
+value_more : (head : Head) (kind : WordText) (kinds : List WordText) (v : Value) (vs : List Value) → is_fixed kind ≡ false → IsBack head kind v →
+    AreBack head kinds vs → (before : List Value) → values_after head before (kind ∷ kinds) (value_text kind v ∷ words_text kinds vs) ≡ Ok (before ++ v ∷ vs)
+value_more head kind kinds v vs f b a before =
+    ap (λ r. r >>= λ o. values_after head (before ++ option_to_list o) kinds (words_text kinds vs)) b.read ∙ a.read (before ++ v ∷ [])
+    ∙ ap Ok (append_assoc before (v ∷ []) vs)
 
-munge_words_good : (munge : Munge) → is_munge munge ≡ true → list_all is_word (munge_text munge) ≡ true
-munge_words_good munges.Plain h = refl
-munge_words_good munges.Offset h = refl
-munge_words_good munges.Swap16 h = refl
-munge_words_good (munges.Left bits) h = and_true _ true (word_number 1 8 bits (omega arith) h) refl
+fixed_more : (head : Head) (key : List ℕ) (kinds : List WordText) (vs : List Value) → is_proper (Fixed key) ≡ true → AreBack head kinds vs →
+    AreBack head (Fixed key ∷ kinds) vs
+fixed_more head key kinds vs p a =
+    let b = both (is_word key) (bytes_eq key key) p in
+    record {
+      read = λ before. ap (λ (xs : List Value). values_after head xs kinds (words_text kinds vs)) (append-nil before) ∙ a.read before;
+      words = and_true _ _ b.0 a.words;
+      form = and_true _ _ b.1 a.form;
+      many = ap suc a.many;
+    }
 
-range_words_good : (r : Range) → fits_range r ≡ true → list_all is_word (range_text r) ≡ true
-range_words_good r h =
-    let b = both (is_int r.min && is_int r.max) (nat_le r.unit 2) h in
-    let ends = both (is_int r.min) (is_int r.max) b.0 in
-    and_true _ _ (word-signed_decimal r.min ends.0) (and_true _ _ (word-signed_decimal r.max ends.1) (and_true _ true (word-decimal r.unit (omega (arith, leb-true r.unit 2 b.1))) refl))
+words_back : (head : Head) (kinds : List WordText) (vs : List Value) → head.channels < 2 ^ 32 → list_all is_proper kinds ≡ true →
+    are_kept head kinds vs ≡ true → AreBack head kinds vs
+words_back head [] [] s p h = record { read = λ before. ap Ok (sym (append-nil before)); words = refl; form = refl; many = refl }
+words_back head [] (v ∷ vs) s p h = cc
+words_back head (Fixed key ∷ kinds) vs s p h =
+    let q = both (is_proper (Fixed key)) (list_all is_proper kinds) p in
+    fixed_more head key kinds vs q.0 (words_back head kinds vs s q.1 h)
+words_back head (kind ∷ kinds) [] s p h = cc
+words_back head (kind ∷ kinds) (v ∷ vs) s p h =
+    let q = both (is_proper kind) (list_all is_proper kinds) p in
+    let b = both (is_kept head kind v) (are_kept head kinds vs) h in
+    let here = word_back head kind v s q.0 b.0 in
+    let more = words_back head kinds vs s q.1 b.1 in
+    record { read = value_more head kind kinds v vs refl here more; words = and_true _ _ here.word more.words; form = more.form; many = ap suc more.many }
 
-one_word_line : (n least most : ℕ) → most < 2 ^ 32 → is_within least most n ≡ true → list_all is_word (decimal n ∷ []) ≡ true
-one_word_line n least most k h = and_true _ true (word_number least most n k h) refl
+pub kept_back : (head : Head) (kinds : List WordText) (vs : List Value) → head.channels < 2 ^ 32 → list_all is_proper kinds ≡ true →
+    are_kept head kinds vs ≡ true → AreBack head kinds vs
+kept_back = words_back
 
-two_times_line : (a b : ℕ) → (is_time a && is_time b) ≡ true → list_all is_word (decimal a ∷ decimal b ∷ []) ≡ true
-two_times_line a b h =
-    let t = both (is_time a) (is_time b) h in
-    and_true _ _ (word_number 1 4000000000 a (omega arith) t.0) (one_word_line b 1 4000000000 (omega arith) t.1)
+-- a line of one form has no other that is apart from it
+not_both : (a : Bool) → (a && false) ≡ false
+not_both true = refl
+not_both false = refl
 
-says_words_good : (what : ChanSays) → limited_says what ≡ true → list_all is_word (says_text what) ≡ true
-says_words_good (says.Bits k) h = one_word_line k 1 24 (omega arith) h
-says_words_good (says.Munge m) h = munge_words_good m h
-says_words_good (says.Range r) h = range_words_good r h
+not_fixed : (a : Bool) → not a ≡ true → a ≡ false
+not_fixed true e = cc
+not_fixed false e = refl
 
-pub item_line : (head : Head) (item : Item) → head.channels ≤ 64 → is_limited head item ≡ true → is_line (item_text item) ≡ true
-item_line head (items.Bits k) few h = one_word_line k 1 24 (omega arith) h
-item_line head (items.Munge m) few h = munge_words_good m h
-item_line head (items.Range r) few h = range_words_good r h
-item_line head (items.Sources m) few h =
-    let h0 = both (are_full (masks_said m)) (is_among (stop_sources head.version) m.stop) h in
-    let h1 = both _ (is_among 97 m.stop) h0.0 in
-    let h2 = both _ (is_among 32 m.scan_end) h1.0 in
-    let h3 = both _ (is_among 82 m.convert) h2.0 in
-    let h4 = both (is_among 194 m.start) (is_among 84 m.scan_begin) h3.0 in
-    and_true _ _ (word_sources 194 m.start (omega arith) h4.0) (and_true _ _ (word_sources 84 m.scan_begin (omega arith) h4.1) (and_true _ _ (word_sources 82 m.convert (omega arith) h3.1)
-    (and_true _ _ (word_sources 32 m.scan_end (omega arith) h2.1) (and_true _ true (word_sources 97 m.stop (omega arith) h1.1) refl))))
-item_line head (items.Tick n) few h = one_word_line n 1 1000000000 (omega arith) h
-item_line head (items.Scan t) few h = two_times_line t.min t.max h
-item_line head (items.Convert t) few h = two_times_line t.min t.max h
-item_line head (items.List n) few h = one_word_line n 1 256 (omega arith) h
-item_line head (items.Scans n) few h = one_word_line n 1 4000000000 (omega arith) h
-item_line head (items.Lines n) few h = one_word_line n 0 16 (omega arith) h
-item_line head (items.Buffer n) few h = one_word_line n 1 65536 (omega arith) h
-item_line head items.SameRange few h = refl
-item_line head (items.Forbid f) few h =
-    let h1 = both _ (is_source f.other_src) h in
-    let h2 = both (nat_lt f.field 5 && nat_lt f.other 5) (is_source f.src) h1.0 in
-    let h3 = both (nat_lt f.field 5) (nat_lt f.other 5) h2.0 in
-    and_true _ _ (field_back f.field h3.0).1 (and_true _ _ (word_source_of f.src h2.1) (and_true _ _ (field_back f.other h3.1).1 (and_true _ true (word_source_of f.other_src h1.1) refl)))
-item_line head items.Invert few h = refl
-item_line head (items.Fifo f) few h =
-    let b = both (is_within 2 4096 f.depth) (is_within 0 1000000000 f.latency) h in
-    and_true _ _ (word_number 2 4096 f.depth (omega arith) b.0) (one_word_line f.latency 0 1000000000 (omega arith) b.1)
-item_line head (items.Chan c) few h =
-    let b = both (nat_lt c.chan head.channels) (limited_says c.says) h in
-    and_true _ _ (word-decimal c.chan (omega (arith, ltb-true c.chan head.channels b.0))) (says_words_good c.says b.1)
+fixed_apart : (g : WordText) (key : List ℕ) → differ g (Fixed key) ≡ true → fixed_is g key ≡ false
+fixed_apart (Fixed a) key h = not_fixed (bytes_eq key a) h
+fixed_apart (Number l) key h = cc
+fixed_apart Signed key h = cc
+fixed_apart (Sources first second) key h = cc
+fixed_apart Source key h = cc
+fixed_apart (Name names) key h = cc
+fixed_apart Channel key h = cc
+
+never_differ : (g kind : WordText) → is_fixed kind ≡ false → differ g kind ≡ false
+never_differ g (Fixed key) h = cc
+never_differ (Fixed a) (Number l) h = refl
+never_differ (Fixed a) Signed h = refl
+never_differ (Fixed a) (Sources first second) h = refl
+never_differ (Fixed a) Source h = refl
+never_differ (Fixed a) (Name names) h = refl
+never_differ (Fixed a) Channel h = refl
+never_differ g other h = refl
+
+or_right : (a b : Bool) → a ≡ false → (a || b) ≡ true → b ≡ true
+or_right true b e h = cc
+or_right false b e h = h
+
+-- the first word of two that differ, or the words after them
+apart_word : (head : Head) (g kind : WordText) (gs kinds : List WordText) (w : List ℕ) (ws : List (List ℕ)) → (differ g kind ≡ true → fixed_is g w ≡ false) →
+    (are_apart gs kinds ≡ true → is_form gs ws ≡ false) → (differ g kind || are_apart gs kinds) ≡ true → (fixed_is g w && is_form gs ws) ≡ false
+apart_word head g kind gs kinds w ws here more h = by (differ g kind) refl h
+  where
+    by : (d : Bool) → differ g kind ≡ d → (d || are_apart gs kinds) ≡ true → (fixed_is g w && is_form gs ws) ≡ false
+    by true e h = ap (λ b. b && is_form gs ws) (here e)
+    by false e h = ap (λ b. fixed_is g w && b) (more h) ∙ not_both (fixed_is g w)
+
+other_form : (head : Head) (gs kinds : List WordText) (vs : List Value) → are_apart gs kinds ≡ true → are_kept head kinds vs ≡ true →
+    is_form gs (words_text kinds vs) ≡ false
+other_form head [] kinds vs a h = cc
+other_form head (g ∷ gs) [] vs a h = cc
+other_form head (g ∷ gs) (Fixed key ∷ kinds) vs a h =
+    apart_word head g (Fixed key) gs kinds key (words_text kinds vs) (fixed_apart g key) (λ b. other_form head gs kinds vs b h) a
+other_form head (g ∷ gs) (kind ∷ kinds) [] a h = cc
+other_form head (g ∷ gs) (kind ∷ kinds) (v ∷ vs) a h =
+    let b = both (is_kept head kind v) (are_kept head kinds vs) h in
+    apart_word head g kind gs kinds (value_text kind v) (words_text kinds vs) (λ d. let n = never_differ g kind refl in cc) (λ c. other_form head gs kinds vs c b.1) a
+
+pub apart_back : (head : Head) (gs kinds : List WordText) (vs : List Value) → are_apart gs kinds ≡ true → are_kept head kinds vs ≡ true →
+    is_form gs (words_text kinds vs) ≡ false
+apart_back = other_form

@@ -3,18 +3,18 @@ use Rattle.std.specs.Prelude.{ℕ, ◌+◌, Bool, true, ◌&&◌, ◌||◌, nat_
 use Rattle.std.specs.List.{before_first, position_or_len}
 use Rattle.cm_base.specs.Lines.{LineText, is_word}
 use Rattle.cm_base.specs.Parts.{begins, fixed}
-use Rattle.cm_base.specs.Reading.{◌>>=◌, at_line, read_each}
+use Rattle.cm_base.specs.Reading.{◌>>=◌, at_line}
 use Rattle.cm_base.specs.Refusal.{next_number}
 use Rattle.cm_base.specs.Words.{Form, limited, number_in, one, one_word}
 use Rattle.cm_base.specs.declared.faults.Fault.{Fault}
 use Rattle.cm_base.specs.declared.faults.Fault.TheVariants.{Missing}
 use Rattle.cm_base.specs.declared.faults.Refused.{Refused}
 use Rattle.cm_board.specs.Board.{BoardText, SubText}
-use Rattle.cm_board_text.specs.Block.{block_of, finished, item_after}
-use Rattle.cm_board_text.specs.Rows.{Block}
-use Rattle.cm_board_text.specs.Items.{head_words}
-use Rattle.cm_board_text.specs.declared.items.Head.{Head}
-use Rattle.cm_board_text.specs.declared.items.Item.{Item}
+use Rattle.cm_board.specs.BoardTable.{board_table}
+use Rattle.cm_board.specs.declared.table.Head.{Head}
+use Rattle.cm_board_text.specs.Block.{finished}
+use Rattle.cm_board_text.specs.Heads.{head_words}
+use Rattle.cm_board_text.specs.Reading.{items_said}
 
 -- a line that starts the block of a subdevice
 abbrev pub is_subdevice : LineText → Bool
@@ -40,20 +40,12 @@ block_lines = before_first ends_block
 abbrev pub lines_after : List LineText → List LineText
 lines_after lines = drop (position_or_len ends_block lines) lines
 
--- what lines say together after others of their block
-abbrev pub said_after : Head → List Item → List LineText → Result Block Refused
-said_after head before lines = read_each (item_after head) before lines >>= λ items. Ok (block_of items)
-
--- what the lines after a head say together
-abbrev pub block_said : Head → List LineText → Result Block Refused
-block_said head lines = said_after head [] lines
-
 -- the subdevice that a head and the lines after it describe on a board of this version, with `count` blocks before and the line `stop` after
 abbrev pub block_at : ℕ → ℕ → ℕ → LineText → List LineText → Result SubText Refused
 block_at version stop count line inside =
     at_line line.number (head_after version count line) >>= λ head.
-    block_said head inside >>= λ block.
-    at_line stop (finished head block)
+    items_said board_table head inside >>= λ items.
+    at_line stop (finished head items)
 
 -- the subdevice that a head and the lines after it up to the block's end describe
 abbrev pub next_block : ℕ → ℕ → ℕ → LineText → List LineText → Result SubText Refused

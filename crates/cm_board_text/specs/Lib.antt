@@ -1,10 +1,11 @@
 pub mod Block
 pub mod BoardPart
-pub mod DraftView
-pub mod Items
-pub mod Limits
+pub mod FoundView
+pub mod Heads
+pub mod IsTable
+pub mod Kept
 pub mod Printed
 pub mod PrintedReads
+pub mod Reading
 pub mod Refusal
-pub mod Rows
 pub mod UncheckedView

@@ -1,22 +1,23 @@
 -- How contracts see a subdevice before the rules over its lines are asked.
 use Rattle.cm_board.specs.Board.{SubText}
-use Rattle.cm_board_text.specs.Block.{masks_said}
+use Rattle.cm_board.specs.View.{masks_of}
 use Rattle.cm_board_text.specs.declared.unchecked.Unchecked.{Unchecked}
 
 -- a subdevice whose limits are not tested yet, as contracts see it
 abbrev pub unchecked_text : Unchecked → SubText
 unchecked_text s = record {
+  version = s.version;
   kind = s.kind;
   channels = s.channels;
   maxdata = s.maxdata;
   munge = s.munge;
   ranges = s.ranges.items;
-  masks = masks_said s.sources;
+  masks = masks_of s.sources;
   tick = s.tick;
-  scan_min = s.scan.min;
-  scan_max = s.scan.max;
-  conv_min = s.convert.min;
-  conv_max = s.convert.max;
+  scan_min = s.scan_min;
+  scan_max = s.scan_max;
+  conv_min = s.conv_min;
+  conv_max = s.conv_max;
   list_max = s.list_max;
   scans_max = s.scans_max;
   lines = s.lines;
@@ -26,4 +27,5 @@ unchecked_text s = record {
   chans = s.chans.items;
   invert = s.invert;
   fifo = s.fifo;
+  block = s.block.items;
 }

@@ -1,11 +1,12 @@
 // A board as a text: read, refused at its first failing line, and printed.
 #![tactic(auto)]
 
-pub mod chan_lines;
-pub mod draft;
-pub mod forms;
-pub mod items;
+pub mod heads;
 pub mod law;
+pub mod line_text;
+pub mod lines;
 pub mod printing;
 pub mod reading;
+pub mod said;
 pub mod unchecked;
+pub mod whole;

@@ -5,24 +5,26 @@ ghost use Rattle.cm_base.specs.Refusal.{next_number};
 ghost use Rattle.cm_base.specs.LineView.{line_view};
 ghost use Rattle.cm_base.specs.ReadStop.{Gives};
 ghost use Rattle.cm_base.specs.Reading.{at_line, read_each, seen};
-ghost use Rattle.cm_board_text.specs.Block.{block_of, finished, item_after};
+ghost use Rattle.cm_board_text.specs.Block.{finished};
 ghost use Rattle.cm_base.specs.Parts as parts;
-ghost use Rattle.cm_board_text.specs.BoardPart.{block_at, block_lines, block_said, blocks_from, is_between, is_part_end, lines_after, next_block, board_of, any_words, ends_block, head_after, is_name, is_signals, name_words, version_words};
-ghost use Rattle.std.specs.Prelude.{List};
-ghost use Rattle.cm_board_text.specs.declared.items.Item.{Item};
-ghost use Rattle.cm_board_text.specs.DraftView.{block_view};
-ghost use Rattle.cm_board_text.specs.Limits.{IsLimited};
+ghost use Rattle.cm_board_text.specs.BoardPart.{block_at, block_lines, blocks_from, is_between, is_part_end, lines_after, next_block, board_of, any_words, ends_block, head_after, is_name, is_signals, name_words, version_words};
 ghost use Rattle.cm_board.specs.Board.{IsSoundBoard, has_channels};
+ghost use Rattle.cm_board.specs.BoardTable.{board_table};
+ghost use Rattle.cm_board_text.specs.Kept.{AreItems};
 ghost use Rattle.cm_base.specs.Lines.{is_word};
 
-use crate::draft::Draft;
-use crate::forms::{read_head, read_item};
-use crate::items::{Head, Item};
+use crate::heads::read_head;
+use crate::lines::read_items;
+use crate::said::describe_sub;
+use crate::whole::complete;
 use cm_base::faults::{Fault, ReadStop};
 use cm_base::lines::{Line, Lines};
 use cm_base::parts::{after_key, begins, fixed, refused};
 use cm_base::words::{at_line, number_in, one};
 use cm_board::board::{BoardDesc, Sub};
+use cm_board::items::Item;
+use cm_board::lines::board_table;
+use cm_board::table::Head;
 use std::alloc::{AllocError, Global};
 
 // Whether the line ends the block before it.
@@ -70,27 +72,6 @@ fn head_after(version: u32, count: usize, line: &Line<'_>) -> Result<Head, Fault
     }
 }
 
-// A line's item, where it may stand after those of the draft.
-fn item_after(head: &Head, draft: &Draft, line: &Line<'_>) -> Result<Item, Fault>
-    ensures { (items : List Item) → block_view draft.now ≡ block_of items → result ≡ item_after head.now items (line_view line.now) }
-{
-    let item = read_item(head, line)?;
-    draft.check(&item)?;
-    Ok(item)
-}
-
-// What the lines of a block say together.
-fn read_items(alloc: Global, head: &Head, lines: &[Line<'_>]) -> Result<Draft, ReadStop>
-    ensures { Gives block_view result (block_said head.now (map line_view lines.now)) }
-{
-    let mut draft = Draft::new(alloc);
-    for line in lines {
-        let item = at_line(line.number, item_after(head, &draft, line))?;
-        draft.put(item)?;
-    }
-    Ok(draft)
-}
-
 // The lines of a block after its head, and those after the block.
 fn cut_block<'a, 'b>(lines: &'a [Line<'b>]) -> (&'a [Line<'b>], &'a [Line<'b>])
     ensures inside { map line_view result.0.now ≡ block_lines (map line_view lines.now) }
@@ -109,25 +90,28 @@ fn read_block(
     head: &Line<'_>,
     inside: &[Line<'_>],
 ) -> Result<Sub, ReadStop>
+    requires { 1 ≤ version }
     ensures { Gives (λ sub. sub) result (block_at version stop count (line_view head.now) (map line_view inside.now)) }
 {
     let line = head.number;
     let head = at_line(line, head_after(version, count, head))?;
-    let draft = read_items(alloc, &head, inside)?;
-    let sub = finish(alloc, draft, head)?;
+    let items = read_items(alloc, &board_table(), &head, inside)?;
+    let sub = finish(alloc, &head, &items)?;
     at_line(stop, sub)
 }
 
 // What a block says at its end.
-fn finish(alloc: Global, draft: Draft, head: Head) -> Result<Result<Sub, Fault>, AllocError>
-    requires limits { IsLimited head (block_view draft) }
-    requires channels { IsTrue (has_channels head.kind head.channels) }
-    ensures { IfOk result (λ sub. sub ≡ finished head (block_view draft)) }
+fn finish(alloc: Global, head: &Head, items: &[Item]) -> Result<Result<Sub, Fault>, AllocError>
+    requires items { AreItems board_table head.now items.now }
+    requires channels { IsTrue (has_channels head.now.kind head.now.channels) }
+    requires version { 1 ≤ head.now.version }
+    ensures { IfOk result (λ sub. sub ≡ finished head.now items.now) }
 {
-    if draft.lacks(head.kind) {
-        return Ok(Err(Fault::Missing));
-    }
-    let sub = draft.fill(alloc, head)?;
+    let all = match complete(alloc, &board_table(), head, items)? {
+        Ok(all) => all,
+        Err(fault) => return Ok(Err(fault)),
+    };
+    let sub = describe_sub(alloc, head, all)?;
     if sub.is_board_ok() {
         Ok(Ok(sub.into_sub()))
     } else {
@@ -152,7 +136,8 @@ fn read_blocks(
     lines: &[Line<'_>],
     end: u32,
 ) -> Result<Vec<Sub>, ReadStop>
-    requires { IsTrue (is_between (map line_view lines.now)) }
+    requires lines { IsTrue (is_between (map line_view lines.now)) }
+    requires version { 1 ≤ version }
     ensures { Gives (λ subs. subs.items) result (blocks_from version end 0 (map line_view lines.now)) }
 {
     let mut subs = Vec::new(alloc);
@@ -182,6 +167,7 @@ fn next_sub(
     after: &[Line<'_>],
     end: u32,
 ) -> Result<Sub, ReadStop>
+    requires { 1 ≤ version }
     ensures { Gives (λ sub. sub) result (next_block version end count (line_view head.now) (map line_view after.now)) }
 {
     let (inside, others) = cut_block(after);

@@ -3,23 +3,26 @@ ghost use Rattle.std.specs.Prelude.{◌≡◌};
 ghost use Rattle.cm_board_text.specs.Block.{has_line};
 ghost use Rattle.cm_board.specs.Board.{swaps};
 
-use crate::items::{Sources, Span};
 use cm_base::source::EXT;
 use cm_board::board::{ChanSet, Fifo, Forbid, Kind, Munge, Range, Sub};
 use cm_board::channels::{maxdata_by, munge_by};
+use cm_board::items::Item;
 
 /// A subdevice whose numbers keep their limits one by one, and maybe not the rules over them.
 #[derive(Drop)]
 pub struct Unchecked {
+    pub version: u32,
     pub kind: Kind,
     pub channels: u32,
     pub maxdata: u32,
     pub munge: Munge,
     pub ranges: Vec<Range>,
-    pub sources: Sources,
+    pub sources: [u32; 5],
     pub tick: u32,
-    pub scan: Span,
-    pub convert: Span,
+    pub scan_min: u32,
+    pub scan_max: u32,
+    pub conv_min: u32,
+    pub conv_max: u32,
     pub list_max: u32,
     pub scans_max: u32,
     pub lines: u32,
@@ -29,6 +32,7 @@ pub struct Unchecked {
     pub chans: Vec<ChanSet>,
     pub invert: bool,
     pub fifo: Option<Fifo>,
+    pub block: Vec<Item>,
 }
 
 impl Unchecked {
@@ -50,25 +54,20 @@ impl Unchecked {
         requires { IsSoundSub (unchecked_text self) }
         ensures { result ≡ unchecked_text self }
     {
-        let masks = self.sources;
+        let sources = self.sources;
         Sub {
+            version: self.version,
             kind: self.kind,
             channels: self.channels,
             maxdata: self.maxdata,
             munge: self.munge,
             ranges: self.ranges,
-            sources: [
-                masks.start,
-                masks.scan_begin,
-                masks.convert,
-                masks.scan_end,
-                masks.stop,
-            ],
+            sources,
             tick: self.tick,
-            scan_min: self.scan.min,
-            scan_max: self.scan.max,
-            conv_min: self.convert.min,
-            conv_max: self.convert.max,
+            scan_min: self.scan_min,
+            scan_max: self.scan_max,
+            conv_min: self.conv_min,
+            conv_max: self.conv_max,
             list_max: self.list_max,
             scans_max: self.scans_max,
             lines: self.lines,
@@ -78,6 +77,7 @@ impl Unchecked {
             chans: self.chans,
             invert: self.invert,
             fifo: self.fifo,
+            block: self.block,
         }
     }
 
@@ -103,29 +103,29 @@ impl Unchecked {
         requires { 0 < self.now.tick }
         ensures { result ≡ is_ticks_ok (unchecked_text self.now) }
     {
-        self.scan.min % self.tick == 0
-            && self.scan.max % self.tick == 0
-            && self.convert.min % self.tick == 0
-            && self.convert.max % self.tick == 0
+        self.scan_min % self.tick == 0
+            && self.scan_max % self.tick == 0
+            && self.conv_min % self.tick == 0
+            && self.conv_max % self.tick == 0
     }
 
     // All conversions of the longest list fit into the longest scan.
     fn is_list_ok(&self) -> bool
         ensures { result ≡ is_list_ok (unchecked_text self.now) }
     {
-        self.convert.min as u64 * self.list_max as u64 <= self.scan.max as u64
+        self.conv_min as u64 * self.list_max as u64 <= self.scan_max as u64
     }
 
     // Where an external source may stand there is an external line.
     fn is_lines_ok(&self) -> bool
         ensures { result ≡ is_lines_ok (unchecked_text self.now) }
     {
-        let sources = &self.sources;
-        has_line(self.lines, sources.start)
-            && has_line(self.lines, sources.scan_begin)
-            && has_line(self.lines, sources.convert)
-            && has_line(self.lines, sources.scan_end)
-            && has_line(self.lines, sources.stop)
+        let [start, scan_begin, convert, scan_end, stop] = self.sources;
+        has_line(self.lines, start)
+            && has_line(self.lines, scan_begin)
+            && has_line(self.lines, convert)
+            && has_line(self.lines, scan_end)
+            && has_line(self.lines, stop)
     }
 }
 

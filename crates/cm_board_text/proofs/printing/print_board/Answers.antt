@@ -6,7 +6,7 @@ use Rattle.cm_board.specs.Board.{BoardText, IsSoundSub, IsSoundBoard, SubText}
 use Rattle.cm_board_text.specs.BoardPart.{board_of}
 use Rattle.cm_board_text.specs.Printed.{block_text, name_line, printed_board, version_line}
 use Rattle.cm_board_text.proofs.BoardBack.{printed_reads}
-use Rattle.cm_board_text.proofs.Written.{three_pieces}
+use Rattle.cm_board_text.proofs.BoardPieces.{three_pieces}
 use Rattle.cm_board_text.proofs.printing.print_board.Goals as goal
 
 pub returns-clause-text : goal.returns-clause-text

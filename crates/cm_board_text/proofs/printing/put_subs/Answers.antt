@@ -3,7 +3,7 @@ use Rattle.std.proofs.lemmas.Grind.{common_steps}
 use Rattle.std.proofs.lemmas.List.Elements.{All-more}
 use Rattle.cm_board.specs.Board.{IsSoundSub}
 use Rattle.cm_board_text.specs.Printed.{block_text}
-use Rattle.cm_board_text.proofs.Written.{all_written}
+use Rattle.cm_board_text.proofs.BoardPieces.{all_written}
 use Rattle.cm_board_text.proofs.printing.put_subs.Goals as goal
 
 pub loop-sub-preserved : goal.loop-sub-preserved

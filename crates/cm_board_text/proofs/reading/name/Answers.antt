@@ -1,5 +1,5 @@
 use Rattle.std.proofs.Common.{arith, sym}
-use Rattle.cm_board_text.proofs.Good.{name_is}
+use Rattle.cm_board_text.proofs.BoardKept.{name_is}
 use Rattle.cm_board_text.proofs.reading.name.Goals as goal
 
 pub returns-then-name-le32-clause-word : goal.returns-then-name-le32-clause-word

@@ -4,7 +4,7 @@ use Rattle.cm_base.specs.LineView.{line_view}
 use Rattle.cm_base.specs.ReadStop.{Stops}
 use Rattle.cm_base.specs.declared.lines.Line.{Line}
 use Rattle.cm_board_text.specs.BoardPart.{ends_block, is_part_end, next_block}
-use Rattle.cm_board_text.proofs.Lines.{Stands, at_signals, block_between, block_stops, block_reported, left_over, stops_same, sub_pushed, within_lines}
+use Rattle.cm_board_text.proofs.Blocks.{Stands, at_signals, block_between, block_stops, block_reported, left_over, stops_same, sub_pushed, within_lines}
 use Rattle.cm_board_text.proofs.reading.read_blocks.Goals as goal
 
 pub returns-in-Err : goal.returns-in-Err

@@ -1,7 +1,7 @@
 use Rattle.std.proofs.Common.{◌≡◌, ◌≤◌, ◌-◌, IsTrue, drop, length, map}
 use Rattle.cm_base.specs.LineView.{line_view}
 use Rattle.cm_board_text.specs.BoardPart.{blocks_from, is_between}
-use Rattle.cm_board_text.proofs.Lines.{with_prefix}
+use Rattle.cm_board_text.proofs.Blocks.{with_prefix}
 use Rattle.cm_board_text.proofs.reading.read_blocks.Given as goal
 
 -- the blocks so far before those that are left

@@ -1,6 +1,6 @@
 use Rattle.std.proofs.Common.{map, true}
 use Rattle.cm_base.specs.LineView.{line_view}
-use Rattle.cm_board_text.proofs.Good.{board_keeps}
+use Rattle.cm_board_text.proofs.BoardKept.{board_keeps}
 use Rattle.cm_board_text.proofs.reading.read_part.Goals as goal
 
 pub describe-requires : goal.describe-requires

@@ -1,0 +1,79 @@
+-- The rows of a table, and the lines of each.
+use Rattle.std.proofs.Common.{◌≡◌, ℕ, zero, suc, ◌+◌, ◌<◌, ◌≤◌, Bool, true, false, cond, List, [], ◌∷◌, length, refl, ap, ◌∙◌, arith, ◌==◌, nat_le}
+use Rattle.std.specs.List.{list_all}
+use Rattle.std.proofs.lemmas.Bool.{leb-true, le-leb}
+use Rattle.std.proofs.lemmas.Bool.Decides.{nat_tests}
+use Rattle.cm_base.proofs.Bools.{and_true, both}
+use Rattle.cm_board.specs.Items.{ItemText}
+use Rattle.cm_board.specs.Kept.{is_few}
+use Rattle.cm_board.specs.Table.{row_at}
+use Rattle.cm_board.specs.declared.table.Row.{Row}
+use Rattle.cm_board.specs.Slots.{of_row, slots_from}
+
+-- no row has too many lines
+pub few_at : (n k : ℕ) (rows : List Row) (items : List ItemText) → list_all is_few (slots_from n rows items) ≡ true → k < length rows →
+    length (of_row (n + k) items) ≤ (row_at k rows).most
+few_at n k [] items h below = absurd (omega arith)
+few_at n zero (row ∷ rows) items h below =
+    let here = leb-true (length (of_row n items)) row.most (both (nat_le (length (of_row n items)) row.most) (list_all is_few (slots_from (n + 1) rows items)) h).0 in
+    let same : length (of_row (n + 0) items) ≡ length (of_row n items) = ap (λ (m : ℕ). length (of_row m items)) (omega arith) in
+    omega (arith, here, same)
+few_at n (suc k) (row ∷ rows) items h below =
+    let later = few_at (n + 1) k rows items (both (nat_le (length (of_row n items)) row.most) (list_all is_few (slots_from (n + 1) rows items)) h).1 (omega arith) in
+    let same : length (of_row (n + suc k) items) ≡ length (of_row (n + 1 + k) items) = ap (λ (m : ℕ). length (of_row m items)) (omega arith) in
+    omega (arith, later, same)
+
+pub few_all : (n : ℕ) (rows : List Row) (items : List ItemText) → ((k : ℕ) → k < length rows → length (of_row (n + k) items) ≤ (row_at k rows).most) →
+    list_all is_few (slots_from n rows items) ≡ true
+few_all n [] items h = refl
+few_all n (row ∷ rows) items h =
+    and_true _ _ (le-leb (length (of_row n items)) row.most (first (h 0 (omega arith))))
+    (few_all (n + 1) rows items (λ k below. next k (h (suc k) (omega arith))))
+  where
+    first : length (of_row (n + 0) items) ≤ row.most → length (of_row n items) ≤ row.most
+    first h =
+        let same : length (of_row (n + 0) items) ≡ length (of_row n items) = ap (λ (m : ℕ). length (of_row m items)) (omega arith) in omega (arith, h, same)
+
+    next : (k : ℕ) → length (of_row (n + suc k) items) ≤ (row_at k rows).most → length (of_row (n + 1 + k) items) ≤ (row_at k rows).most
+    next k h =
+        let same : length (of_row (n + suc k) items) ≡ length (of_row (n + 1 + k) items) = ap (λ (m : ℕ). length (of_row m items)) (omega arith) in omega (arith, h, same)
+
+-- lines that all are of one row
+abbrev pub own : ℕ → ItemText → Bool
+own n item = item.row == n
+
+pub own_same : (n : ℕ) (items : List ItemText) → list_all (own n) items ≡ true → of_row n items ≡ items
+own_same n [] h = refl
+own_same n (item ∷ items) h =
+    let b = both (own n item) (list_all (own n) items) h in
+    ap (λ t. cond t (item ∷ of_row n items) (of_row n items)) b.0 ∙ ap (λ (xs : List ItemText). item ∷ xs) (own_same n items b.1)
+
+not_own : (a m n : ℕ) → (a == n) ≡ true → (m == n) ≡ false → (a == m) ≡ false
+not_own a m n h k = by (a == m) refl
+  where
+    by : (t : Bool) → (a == m) ≡ t → t ≡ false
+    by true e = absurd (grind (arith, nat_tests, e, h, k))
+    by false e = refl
+
+pub own_other : (m n : ℕ) (items : List ItemText) → list_all (own n) items ≡ true → (m == n) ≡ false → of_row m items ≡ []
+own_other m n [] h k = refl
+own_other m n (item ∷ items) h k =
+    let b = both (own n item) (list_all (own n) items) h in
+    ap (λ t. cond t (item ∷ of_row m items) (of_row m items)) (not_own item.row m n b.0 k) ∙ own_other m n items b.1 k
+
+pub all_own : (n : ℕ) (items : List ItemText) → list_all (own n) (of_row n items) ≡ true
+all_own n [] = refl
+all_own n (item ∷ items) = by (own n item) refl (all_own n items)
+  where
+    by : (b : Bool) → own n item ≡ b → list_all (own n) (of_row n items) ≡ true → list_all (own n) (cond b (item ∷ of_row n items) (of_row n items)) ≡ true
+    by true e later = and_true _ _ e later
+    by false e later = later
+
+-- what holds of all lines holds of those of one row
+pub all_row : (p : ItemText → Bool) (n : ℕ) (items : List ItemText) → list_all p items ≡ true → list_all p (of_row n items) ≡ true
+all_row p n [] h = refl
+all_row p n (item ∷ items) h = let b = both (p item) (list_all p items) h in by (own n item) b.0 (all_row p n items b.1)
+  where
+    by : (t : Bool) → p item ≡ true → list_all p (of_row n items) ≡ true → list_all p (cond t (item ∷ of_row n items) (of_row n items)) ≡ true
+    by true e later = and_true _ _ e later
+    by false e later = later

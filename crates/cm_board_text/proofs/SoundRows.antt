@@ -1,0 +1,312 @@
+-- What the good lines of each row say.
+use Rattle.std.proofs.Common.{◌+◌, ◌≡◌, ℕ, cond, ap₂, bit_and, ◌||◌, ◌-◌, ◌%◌, ◌≤◌, Bool, true, false, not, ◌&&◌, List, [], ◌∷◌, refl, ap, ◌∙◌, min, nat_le, nat_lt, ◌==◌, arith}
+use Rattle.std.specs.Prelude.{codes, int_lt}
+use Rattle.std.specs.List.{list_all, range_with_len}
+use Rattle.std.proofs.lemmas.Bool.{eqb-true, le-leb, leb-true, ltb-true}
+use Rattle.std.proofs.lemmas.Nat.{and_le_r}
+use Rattle.cm_base.specs.Words.{is_int}
+use Rattle.cm_base.proofs.Bools.{and_true, both}
+use Rattle.cm_base.proofs.SourcesBack.{each_below}
+use Rattle.cm_board.specs.Board.{Masks, are_full, fits_range, is_fifo, is_munge, is_pair}
+use Rattle.cm_board.specs.BoardTable.{board_forms, board_table, from_to}
+use Rattle.cm_board.specs.Items.{ItemText}
+use Rattle.cm_board.specs.Kept.{are_kept, is_among, is_good, is_kept, is_within}
+use Rattle.cm_board.specs.Rules.{keeps_rule}
+use Rattle.cm_board.specs.Said.{channel_place, fifo_said, forbid_said, munge_by_form, name_at, number_at, range_said, signed_at}
+use Rattle.cm_board.specs.Slots.{of_row}
+use Rattle.cm_board.specs.Table.{FormText, WordText, Fixed, Number, Signed, Source, Name, Channel, form_at}
+use Rattle.cm_board.specs.declared.board.Munge.TheVariants as munges
+use Rattle.cm_board.specs.declared.board.Range.{Range}
+use Rattle.cm_board.specs.declared.lines.TheConstants as lines
+use Rattle.cm_board.specs.declared.table.Head.{Head}
+use Rattle.cm_board.specs.declared.table.Limits.{Limits}
+use Rattle.cm_board.specs.declared.table.Rule.TheVariants as rules_of
+use Rattle.cm_board.specs.declared.table.Value.{Value}
+use Rattle.cm_board.specs.declared.table.Value.TheVariants as values_of
+use Rattle.cm_board_text.proofs.Shapes.{chan_lands, kept_at, own_lands, row_keeps, said_at}
+
+pub second : (a b : Bool) → (a && b) ≡ true → b ≡ true
+second true b e = e
+second false b e = cc
+
+-- what the rules say of values that their words keep
+pub rising : (head : Head) (l m : Limits) (kinds : List WordText) (vs : List Value) → are_kept head (Number l ∷ Number m ∷ kinds) vs ≡ true →
+    keeps_rule rules_of.Rising vs ≡ true → nat_le (number_at 0 vs) (number_at 1 vs) ≡ true
+rising head l m kinds [] h r = cc
+rising head l m kinds (values_of.Signed z ∷ vs) h r = cc
+rising head l m kinds (values_of.Name n ∷ vs) h r = cc
+rising head l m kinds (values_of.Number a ∷ []) h r = let e = second (is_within l a) false h in cc
+rising head l m kinds (values_of.Number a ∷ values_of.Number b ∷ vs) h r = r
+rising head l m kinds (values_of.Number a ∷ values_of.Signed z ∷ vs) h r = let e = second (is_within l a) false h in cc
+rising head l m kinds (values_of.Number a ∷ values_of.Name n ∷ vs) h r = let e = second (is_within l a) false h in cc
+
+pub below_own : (head : Head) (kinds : List WordText) (vs : List Value) → are_kept head (Signed ∷ Signed ∷ kinds) vs ≡ true →
+    keeps_rule rules_of.Below vs ≡ true → int_lt (signed_at 0 vs) (signed_at 1 vs) ≡ true
+below_own head kinds [] h r = cc
+below_own head kinds (values_of.Number n ∷ vs) h r = cc
+below_own head kinds (values_of.Name n ∷ vs) h r = cc
+below_own head kinds (values_of.Signed a ∷ []) h r = let e = second (is_int a) false h in cc
+below_own head kinds (values_of.Signed a ∷ values_of.Signed b ∷ vs) h r = r
+below_own head kinds (values_of.Signed a ∷ values_of.Number n ∷ vs) h r = let e = second (is_int a) false h in cc
+below_own head kinds (values_of.Signed a ∷ values_of.Name n ∷ vs) h r = let e = second (is_int a) false h in cc
+
+pub below_chan : (head : Head) (key : List ℕ) (kinds : List WordText) (vs : List Value) →
+    are_kept head (Channel ∷ Fixed key ∷ Signed ∷ Signed ∷ kinds) vs ≡ true → keeps_rule rules_of.Below vs ≡ true →
+    int_lt (signed_at 1 vs) (signed_at 2 vs) ≡ true
+below_chan head key kinds [] h r = cc
+below_chan head key kinds (values_of.Signed z ∷ vs) h r = cc
+below_chan head key kinds (values_of.Name n ∷ vs) h r = cc
+below_chan head key kinds (values_of.Number c ∷ []) h r = let e = second (nat_lt c head.channels) false h in cc
+below_chan head key kinds (values_of.Number c ∷ values_of.Number n ∷ vs) h r = let e = second (nat_lt c head.channels) false h in cc
+below_chan head key kinds (values_of.Number c ∷ values_of.Name n ∷ vs) h r = let e = second (nat_lt c head.channels) false h in cc
+below_chan head key kinds (values_of.Number c ∷ values_of.Signed a ∷ vs) h r = by vs (second (nat_lt c head.channels) _ h) r
+  where
+    by : (vs : List Value) → (is_int a && are_kept head (Signed ∷ kinds) vs) ≡ true →
+        keeps_rule rules_of.Below (values_of.Number c ∷ values_of.Signed a ∷ vs) ≡ true → int_lt a (signed_at 0 vs) ≡ true
+    by [] h r = let e = second (is_int a) false h in cc
+    by (values_of.Signed b ∷ vs) h r = r
+    by (values_of.Number n ∷ vs) h r = let e = second (is_int a) false h in cc
+    by (values_of.Name n ∷ vs) h r = let e = second (is_int a) false h in cc
+
+pub even : (head : Head) (l : Limits) (kinds : List WordText) (vs : List Value) → are_kept head (Number l ∷ kinds) vs ≡ true →
+    keeps_rule rules_of.Even vs ≡ true → (number_at 0 vs % 2 == 0) ≡ true
+even head l kinds [] h r = cc
+even head l kinds (values_of.Number a ∷ vs) h r = r
+even head l kinds (values_of.Signed z ∷ vs) h r = cc
+even head l kinds (values_of.Name n ∷ vs) h r = cc
+
+pub apart : (head : Head) (names others : List (List ℕ)) (kinds : List WordText) (vs : List Value) →
+    are_kept head (Name names ∷ Source ∷ Name others ∷ kinds) vs ≡ true → keeps_rule rules_of.Apart vs ≡ true → not (name_at 0 vs == name_at 2 vs) ≡ true
+apart head names others kinds [] h r = cc
+apart head names others kinds (values_of.Number n ∷ vs) h r = cc
+apart head names others kinds (values_of.Signed z ∷ vs) h r = cc
+apart head names others kinds (values_of.Name a ∷ []) h r = let e = second (nat_lt a _) false h in cc
+apart head names others kinds (values_of.Name a ∷ v ∷ vs) h r = by vs (second (is_kept head Source v) _ (second (nat_lt a _) _ h)) r
+  where
+    by : (vs : List Value) → are_kept head (Name others ∷ kinds) vs ≡ true → keeps_rule rules_of.Apart (values_of.Name a ∷ v ∷ vs) ≡ true →
+        not (a == name_at 0 vs) ≡ true
+    by [] h r = cc
+    by (values_of.Name b ∷ vs) h r = r
+    by (values_of.Number n ∷ vs) h r = cc
+    by (values_of.Signed z ∷ vs) h r = cc
+
+-- good lines
+abbrev pub AreGood : Head → List ItemText → Type 0
+AreGood head items = list_all (is_good board_table head) items ≡ true
+
+abbrev pub limits : ℕ → ℕ → Limits
+limits least most = record { least = least; most = most }
+
+-- a range that a line may say
+abbrev pub is_range : Range → Bool
+is_range r = fits_range r && int_lt r.min r.max
+
+-- a line of these values
+abbrev pub line_of : ℕ → List Value → ItemText
+line_of at vs = record { row = 0; form = at; values = vs }
+
+-- the number of a line is within its limits
+pub bits_kept : (head : Head) (items : List ItemText) → AreGood head items →
+    list_all (λ item. is_within (limits 1 24) (number_at 0 item.values)) (of_row lines.BITS items) ≡ true
+bits_kept head items h =
+    row_keeps head lines.BITS lines.BITS (λ at vs. is_within (limits 1 24) (number_at 0 vs)) (own_lands lines.BITS (omega arith))
+    (λ vs stands k. said_at head (form_at 0 board_forms) 0 vs k, tt) items h
+
+pub tick_kept : (head : Head) (items : List ItemText) → AreGood head items →
+    list_all (λ item. is_within (limits 1 1000000000) (number_at 0 item.values)) (of_row lines.TICK items) ≡ true
+tick_kept head items h =
+    row_keeps head lines.TICK lines.TICK (λ at vs. is_within (limits 1 1000000000) (number_at 0 vs)) (own_lands lines.TICK (omega arith))
+    (λ vs stands k. said_at head (form_at 7 board_forms) 0 vs k, tt) items h
+
+pub list_kept : (head : Head) (items : List ItemText) → AreGood head items →
+    list_all (λ item. is_within (limits 1 256) (number_at 0 item.values)) (of_row lines.LIST items) ≡ true
+list_kept head items h =
+    row_keeps head lines.LIST lines.LIST (λ at vs. is_within (limits 1 256) (number_at 0 vs)) (own_lands lines.LIST (omega arith))
+    (λ vs stands k. said_at head (form_at 10 board_forms) 0 vs k, tt) items h
+
+pub scans_kept : (head : Head) (items : List ItemText) → AreGood head items →
+    list_all (λ item. is_within (limits 1 4000000000) (number_at 0 item.values)) (of_row lines.SCANS items) ≡ true
+scans_kept head items h =
+    row_keeps head lines.SCANS lines.SCANS (λ at vs. is_within (limits 1 4000000000) (number_at 0 vs)) (own_lands lines.SCANS (omega arith))
+    (λ vs stands k. said_at head (form_at 11 board_forms) 0 vs k, tt) items h
+
+pub lines_kept : (head : Head) (items : List ItemText) → AreGood head items →
+    list_all (λ item. is_within (limits 0 16) (number_at 0 item.values)) (of_row lines.LINES items) ≡ true
+lines_kept head items h =
+    row_keeps head lines.LINES lines.LINES (λ at vs. is_within (limits 0 16) (number_at 0 vs)) (own_lands lines.LINES (omega arith))
+    (λ vs stands k. said_at head (form_at 12 board_forms) 0 vs k, tt) items h
+
+pub buffer_kept : (head : Head) (items : List ItemText) → AreGood head items →
+    list_all (λ item. is_within (limits 1 65536) (number_at 0 item.values)) (of_row lines.BUFFER items) ≡ true
+buffer_kept head items h =
+    row_keeps head lines.BUFFER lines.BUFFER (λ at vs. is_within (limits 1 65536) (number_at 0 vs)) (own_lands lines.BUFFER (omega arith))
+    (λ vs stands k. said_at head (form_at 13 board_forms) 0 vs k, tt) items h
+
+-- two times in their order
+abbrev pub are_times : ℕ → ℕ → Bool
+are_times least most = is_within (limits 1 4000000000) least && is_within (limits 1 4000000000) most && nat_le least most
+
+times_said : (head : Head) (vs : List Value) → are_kept head (Number (limits 1 4000000000) ∷ Number (limits 1 4000000000) ∷ []) vs ≡ true →
+    keeps_rule rules_of.Rising vs ≡ true → are_times (number_at 0 vs) (number_at 1 vs) ≡ true
+times_said head vs k r =
+    let kinds : List WordText = Number (limits 1 4000000000) ∷ Number (limits 1 4000000000) ∷ [] in
+    and_true _ _ (and_true _ _ (kept_at head 0 kinds vs k) (kept_at head 1 kinds vs k)) (rising head (limits 1 4000000000) (limits 1 4000000000) [] vs k r)
+
+pub scan_kept : (head : Head) (items : List ItemText) → AreGood head items →
+    list_all (λ item. are_times (number_at 0 item.values) (number_at 1 item.values)) (of_row lines.SCAN items) ≡ true
+scan_kept head items h =
+    row_keeps head lines.SCAN lines.SCAN (λ at vs. are_times (number_at 0 vs) (number_at 1 vs)) (own_lands lines.SCAN (omega arith))
+    (λ vs stands k. let b = both _ (keeps_rule rules_of.Rising vs) k in times_said head vs b.0 b.1, tt) items h
+
+pub convert_kept : (head : Head) (items : List ItemText) → AreGood head items →
+    list_all (λ item. are_times (number_at 0 item.values) (number_at 1 item.values)) (of_row lines.CONVERT items) ≡ true
+convert_kept head items h =
+    row_keeps head lines.CONVERT lines.CONVERT (λ at vs. are_times (number_at 0 vs) (number_at 1 vs)) (own_lands lines.CONVERT (omega arith))
+    (λ vs stands k. let b = both _ (keeps_rule rules_of.Rising vs) k in times_said head vs b.0 b.1, tt) items h
+
+-- a munge shifts by 1 to 8 bits
+left_fits : (bits : ℕ) → is_within (limits 1 8) bits ≡ true → is_munge (munges.Left (min 8 bits)) ≡ true
+left_fits bits h =
+    let low = leb-true 1 bits (both (nat_le 1 bits) (nat_le bits 8) h).0 in
+    and_true _ _ (le-leb 1 (min 8 bits) (omega (arith, low))) (le-leb (min 8 bits) 8 (omega arith))
+
+pub munge_kept : (head : Head) (items : List ItemText) → AreGood head items →
+    list_all (λ item. is_munge (munge_by_form (item.form - lines.MUNGE_NONE) (number_at 0 item.values))) (of_row lines.MUNGE items) ≡ true
+munge_kept head items h =
+    row_keeps head lines.MUNGE lines.MUNGE (λ at vs. is_munge (munge_by_form (at - lines.MUNGE_NONE) (number_at 0 vs))) (own_lands lines.MUNGE (omega arith)) (
+      λ vs stands k. refl,
+      (
+        λ vs stands k. refl,
+        (
+          λ vs stands k. refl,
+          (λ vs stands k. left_fits (number_at 0 vs) (said_at head (form_at 4 board_forms) 0 vs k), tt),
+        ),
+      ),
+    ) items h
+
+unit_fits : (n : ℕ) → nat_le (min 2 n) 2 ≡ true
+unit_fits n = le-leb (min 2 n) 2 (omega arith)
+
+pub range_kept : (head : Head) (items : List ItemText) → AreGood head items → list_all (λ item. is_range (range_said 0 item)) (of_row lines.RANGE items) ≡ true
+range_kept head items h =
+    row_keeps head lines.RANGE lines.RANGE (λ at vs. is_range (range_said 0 (line_of at vs))) (own_lands lines.RANGE (omega arith)) (
+      λ vs stands k.
+          let b = both _ (keeps_rule rules_of.Below vs) k in
+          let f : FormText = form_at 5 board_forms in
+          and_true _ _ (and_true _ _ (and_true _ _ (said_at head f 0 vs k) (said_at head f 1 vs k)) (unit_fits (number_at 2 vs)))
+          (below_own head (from_to 0 2 ∷ []) vs b.0 b.1),
+      tt,
+    ) items h
+
+-- the names of the triggers
+abbrev triggers : List (List ℕ)
+triggers = codes "start" ∷ codes "scan_begin" ∷ codes "convert" ∷ codes "scan_end" ∷ codes "stop" ∷ []
+
+-- a trigger is one of five
+trigger : (n : ℕ) → nat_lt n 5 ≡ true → min 4 n ≡ n
+trigger n h = let below = ltb-true n 5 h in omega (arith, below)
+
+pub forbid_kept : (head : Head) (items : List ItemText) → AreGood head items → list_all (λ item. is_pair (forbid_said item)) (of_row lines.FORBID items) ≡ true
+forbid_kept head items h =
+    row_keeps head lines.FORBID lines.FORBID (λ at vs. is_pair (forbid_said (line_of at vs))) (own_lands lines.FORBID (omega arith)) (
+      λ vs stands k.
+          let b = both _ (keeps_rule rules_of.Apart vs) k in
+          let f : FormText = form_at 15 board_forms in
+          let one = trigger (name_at 0 vs) (said_at head f 0 vs k) in
+          let other = trigger (name_at 2 vs) (said_at head f 2 vs k) in
+          and_true _ _ (and_true _ _ (and_true _ _ (and_true _ _
+          (ap (λ (n : ℕ). nat_lt n 5) one ∙ said_at head f 0 vs k) (ap (λ (n : ℕ). nat_lt n 5) other ∙ said_at head f 2 vs k))
+          (ap₂ (λ (a b : ℕ). not (a == b)) one other ∙ apart head triggers triggers (Source ∷ []) vs b.0 b.1))
+          (said_at head f 1 vs k)) (said_at head f 3 vs k),
+      tt,
+    ) items h
+
+pub fifo_kept : (head : Head) (items : List ItemText) → AreGood head items → list_all (λ item. is_fifo (fifo_said item)) (of_row lines.FIFO items) ≡ true
+fifo_kept head items h =
+    row_keeps head lines.FIFO lines.FIFO (λ at vs. is_fifo (fifo_said (line_of at vs))) (own_lands lines.FIFO (omega arith)) (
+      λ vs stands k.
+          let b = both _ (keeps_rule rules_of.Even vs) k in
+          let f : FormText = form_at 17 board_forms in
+          let d = both (nat_le 2 (number_at 0 vs)) (nat_le (number_at 0 vs) 4096) (said_at head f 0 vs k) in
+          let l = both (nat_le 0 (number_at 1 vs)) (nat_le (number_at 1 vs) 1000000000) (said_at head f 1 vs k) in
+          and_true _ _ (and_true _ _ (and_true _ _ d.0 d.1) (even head (limits 2 4096) (from_to 0 1000000000 ∷ []) vs b.0 b.1)) l.1,
+      tt,
+    ) items h
+
+-- the stops of version 1 are among those of later ones
+every_stop : list_all (λ mask. not (is_among 33 mask) || is_among 97 mask) (range_with_len 0 512) ≡ true
+every_stop = refl
+
+or_right : (a b : Bool) → (not a || b) ≡ true → a ≡ true → b ≡ true
+or_right true b e h = e
+or_right false b e h = cc
+
+stop_of_first : (mask : ℕ) → is_among 33 mask ≡ true → is_among 97 mask ≡ true
+stop_of_first mask h =
+    let e = (both (not (mask == 0)) (bit_and mask 33 == mask) h).1 in
+    let same : bit_and mask 33 ≡ mask = eqb-true _ _ e in
+    let less : bit_and mask 33 ≤ 33 = and_le_r mask 33 in
+    or_right (is_among 33 mask) (is_among 97 mask) (each_below (λ mask. not (is_among 33 mask) || is_among 97 mask) 512 every_stop mask (omega arith)) h
+
+-- a set that is the same in each version, and the sources of a stop in any
+same_set : (b : Bool) (set mask : ℕ) → is_among (cond b set set) mask ≡ true → is_among set mask ≡ true
+same_set true set mask h = h
+same_set false set mask h = h
+
+some_stop : (b : Bool) (mask : ℕ) → is_among (cond b 97 33) mask ≡ true → is_among 97 mask ≡ true
+some_stop true mask h = h
+some_stop false mask h = stop_of_first mask h
+
+-- the sources of a line that names them
+abbrev pub sources_of : List Value → Masks
+sources_of vs = record { start = number_at 0 vs; scan_begin = number_at 1 vs; convert = number_at 2 vs; scan_end = number_at 3 vs; stop = number_at 4 vs }
+
+pub sources_kept : (head : Head) (items : List ItemText) → AreGood head items →
+    list_all (λ item. are_full (sources_of item.values)) (of_row lines.SOURCES items) ≡ true
+sources_kept head items h =
+    row_keeps head lines.SOURCES lines.SOURCES (λ at vs. are_full (sources_of vs)) (own_lands lines.SOURCES (omega arith)) (
+      λ vs stands k.
+          let f : FormText = form_at 6 board_forms in
+          let later : Bool = nat_le 2 head.version in
+          and_true _ _ (and_true _ _ (and_true _ _ (and_true _ _
+          (same_set later 194 (number_at 0 vs) (said_at head f 0 vs k)) (same_set later 84 (number_at 1 vs) (said_at head f 1 vs k)))
+          (same_set later 82 (number_at 2 vs) (said_at head f 2 vs k))) (same_set later 32 (number_at 3 vs) (said_at head f 3 vs k)))
+          (some_stop later (number_at 4 vs) (said_at head f 4 vs k)),
+      tt,
+    ) items h
+
+-- what lines say of one channel
+pub chan_bits_kept : (head : Head) (chan : ℕ) (items : List ItemText) → AreGood head items →
+    list_all (λ item. is_within (limits 1 24) (number_at 1 item.values)) (of_row (channel_place chan lines.CHAN_BITS) items) ≡ true
+chan_bits_kept head chan items h =
+    row_keeps head (channel_place chan lines.CHAN_BITS) lines.CHAN_BITS (λ at vs. is_within (limits 1 24) (number_at 1 vs))
+    (chan_lands chan lines.CHAN_BITS (omega arith))
+    (λ vs stands k. said_at head (form_at (lines.CHAN_MUNGE_NONE - 1) board_forms) 1 vs k, tt) items h
+
+pub chan_munge_kept : (head : Head) (chan : ℕ) (items : List ItemText) → AreGood head items →
+    list_all (λ item. is_munge (munge_by_form (item.form - lines.CHAN_MUNGE_NONE) (number_at 1 item.values))) (of_row (channel_place chan lines.CHAN_MUNGE) items) ≡ true
+chan_munge_kept head chan items h =
+    row_keeps head (channel_place chan lines.CHAN_MUNGE) lines.CHAN_MUNGE (λ at vs. is_munge (munge_by_form (at - lines.CHAN_MUNGE_NONE) (number_at 1 vs)))
+    (chan_lands chan lines.CHAN_MUNGE (omega arith)) (
+      λ vs stands k. refl,
+      (
+        λ vs stands k. refl,
+        (
+          λ vs stands k. refl,
+          (λ vs stands k. left_fits (number_at 1 vs) (said_at head (form_at (lines.CHAN_MUNGE_NONE + 3) board_forms) 1 vs k), tt),
+        ),
+      ),
+    ) items h
+
+pub chan_range_kept : (head : Head) (chan : ℕ) (items : List ItemText) → AreGood head items →
+    list_all (λ item. is_range (range_said 1 item)) (of_row (channel_place chan lines.CHAN_RANGE) items) ≡ true
+chan_range_kept head chan items h =
+    row_keeps head (channel_place chan lines.CHAN_RANGE) lines.CHAN_RANGE (λ at vs. is_range (range_said 1 (line_of at vs)))
+    (chan_lands chan lines.CHAN_RANGE (omega arith)) (
+      λ vs stands k.
+          let b = both _ (keeps_rule rules_of.Below vs) k in
+          let f : FormText = form_at (lines.CHAN_MUNGE_NONE + 4) board_forms in
+          and_true _ _ (and_true _ _ (and_true _ _ (said_at head f 1 vs k) (said_at head f 2 vs k)) (unit_fits (number_at 3 vs)))
+          (below_chan head (codes "range") (from_to 0 2 ∷ []) vs b.0 b.1),
+      tt,
+    ) items h

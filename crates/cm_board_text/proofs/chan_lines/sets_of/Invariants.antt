@@ -1,9 +1,0 @@
-use Rattle.std.proofs.Common.{◌≡◌, filter, map}
-use Rattle.std.specs.List.{range_with_len}
-use Rattle.cm_board_text.specs.Block.{set_of}
-use Rattle.cm_board.specs.Board.{says_any}
-use Rattle.cm_board_text.proofs.chan_lines.sets_of.Given as goal
-
--- what is said of the channels so far
-abbrev pub invariant-loop-chan : goal.invariant-loop-chan
-invariant-loop-chan l = l.sets.items ≡ filter says_any (map (set_of l.lines) (range_with_len 0 l.chan))

@@ -1,0 +1,9 @@
+use Rattle.std.proofs.Common.{◌≡◌, map, take}
+use Rattle.cm_board.specs.Said.{forbid_said}
+use Rattle.cm_board.specs.Slots.{of_row}
+use Rattle.cm_board.specs.declared.lines.TheConstants as lines
+use Rattle.cm_board_text.proofs.said.forbidden_of.Given as goal
+
+-- what the lines so far forbid
+abbrev pub invariant-loop-item : goal.invariant-loop-item
+invariant-loop-item l = l.forbidden.items ≡ map forbid_said (of_row lines.FORBID (take l.item-index l.items))

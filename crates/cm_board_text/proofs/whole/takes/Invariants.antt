@@ -1,0 +1,10 @@
+use Rattle.std.proofs.Common.{◌≡◌, drop}
+use Rattle.cm_board.specs.Slots.{slots_from, takes}
+use Rattle.cm_board_text.proofs.whole.takes.Given as goal
+
+-- no row so far
+abbrev pub invariant-loop-row : goal.invariant-loop-row
+invariant-loop-row l = record {
+  at : l.at ≡ l.row-index;
+  rest : takes (slots_from 0 l.rows l.items) ≡ takes (slots_from l.at (drop l.row-index l.rows) l.items);
+}

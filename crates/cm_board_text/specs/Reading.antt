@@ -1,0 +1,118 @@
+-- What the lines of a block say, by a table.
+use Rattle.std.specs.Prelude.{ℕ, ◌+◌, Bool, true, false, not, ◌&&◌, ◌==◌, nat_lt, Option, Some, None, option_to_list, Result, Ok, Err, if◌then◌else◌}
+use Rattle.std.specs.Prelude.{List, [], ◌∷◌, ◌++◌, length}
+use Rattle.std.specs.List.{list_any}
+use Rattle.std.specs.Str.{bytes_eq}
+use Rattle.cm_base.specs.Lines.{LineText}
+use Rattle.cm_base.specs.Reading.{◌>>=◌, read_each}
+use Rattle.cm_base.specs.Words.{number_below, number_in, or_fault, signed_number, source_in, sources_in}
+use Rattle.cm_base.specs.declared.faults.Fault.{Fault}
+use Rattle.cm_base.specs.declared.faults.Fault.TheVariants.{Bad, BadLine, Double, Limit, Missing, Unknown}
+use Rattle.cm_base.specs.declared.faults.Refused.{Refused}
+use Rattle.cm_board.specs.Items.{ItemText}
+use Rattle.cm_board.specs.Kept.{set_in, slots}
+use Rattle.cm_board.specs.Rules.{keeps_rule}
+use Rattle.cm_board.specs.Slots.{Slot, lacks, of_row, takes, whole}
+use Rattle.cm_board.specs.Table.{FormText, TableText, WordText, Fixed, Number, Signed, Sources, Source, Name, Channel, may_stand, place_of, row_at}
+use Rattle.cm_board.specs.declared.table.Head.{Head}
+use Rattle.cm_board.specs.declared.table.Row.{Row}
+use Rattle.cm_board.specs.declared.table.Value.{Value}
+use Rattle.cm_board.specs.declared.table.Value.TheVariants as values_of
+
+-- a word that says nothing
+abbrev pub is_fixed : WordText → Bool
+is_fixed (Fixed key) = true
+is_fixed other = false
+
+-- a word that stands where a form fixes it
+abbrev pub fixed_is : WordText → List ℕ → Bool
+fixed_is (Fixed key) w = bytes_eq w key
+fixed_is other w = true
+
+-- a line with all words that a form fixes
+abbrev pub is_form : List WordText → List (List ℕ) → Bool
+is_form [] ws = true
+is_form (kind ∷ kinds) [] = not (is_fixed kind) && is_form kinds []
+is_form (kind ∷ kinds) (w ∷ ws) = fixed_is kind w && is_form kinds ws
+
+-- a line with those words that a form fixes, as far as the line goes
+abbrev pub begins_form : List WordText → List (List ℕ) → Bool
+begins_form [] ws = true
+begins_form (kind ∷ kinds) [] = true
+begins_form (kind ∷ kinds) (w ∷ ws) = fixed_is kind w && begins_form kinds ws
+
+-- a form and its place in the table
+pub record Found : Type 0 where
+  pub at : ℕ
+  pub form : FormText
+
+-- the first form of these words that may stand in the block, where the forms are counted from `n`
+abbrev pub found_from : List Row → Head → List (List ℕ) → ℕ → List FormText → Option Found
+found_from rows head ws n [] = None
+found_from rows head ws n (form ∷ forms) =
+    if is_form form.words ws && may_stand head (row_at form.row rows)
+    then Some (record { at = n; form = form })
+    else found_from rows head ws (n + 1) forms
+
+-- whether the words begin a form that may stand in the block
+abbrev pub is_begun : List Row → Head → List (List ℕ) → FormText → Bool
+is_begun rows head ws form = begins_form form.words ws && may_stand head (row_at form.row rows)
+
+-- the form of a line, which has as many words as the form
+abbrev pub counted : List (List ℕ) → Found → Result Found Fault
+counted ws f = if length ws == length f.form.words then Ok f else Err BadLine
+
+abbrev pub form_or : Fault → List (List ℕ) → Option Found → Result Found Fault
+form_or fault ws None = Err fault
+form_or fault ws (Some f) = counted ws f
+
+-- the form of these words
+abbrev pub form_of_words : TableText → Head → List (List ℕ) → Result Found Fault
+form_of_words t head ws = form_or (if list_any (is_begun t.rows head ws) t.forms then BadLine else Unknown) ws (found_from t.rows head ws 0 t.forms)
+
+-- the form of a line
+abbrev pub form_of : TableText → Head → LineText → Result Found Fault
+form_of t head line = if line.bad then Err BadLine else form_of_words t head line.words
+
+-- the place of a name among others, counted from `n`
+abbrev pub place_from : ℕ → List ℕ → List (List ℕ) → Option ℕ
+place_from n word [] = None
+place_from n word (name ∷ names) = if bytes_eq word name then Some n else place_from (n + 1) word names
+
+-- what a word says
+abbrev pub read_word : Head → WordText → List ℕ → Result (Option Value) Fault
+read_word head (Fixed key) w = Ok None
+read_word head (Number l) w = number_in l.least l.most w >>= λ n. Ok (Some (values_of.Number n))
+read_word head Signed w = signed_number w >>= λ z. Ok (Some (values_of.Signed z))
+read_word head (Sources first second) w = sources_in (set_in head first second) w >>= λ n. Ok (Some (values_of.Number n))
+read_word head Source w = source_in 511 w >>= λ n. Ok (Some (values_of.Number n))
+read_word head (Name names) w = or_fault Unknown (place_from 0 w names) >>= λ n. Ok (Some (values_of.Name n))
+read_word head Channel w = number_below head.channels w >>= λ n. Ok (Some (values_of.Number n))
+
+-- what words say after others
+abbrev pub values_after : Head → List Value → List WordText → List (List ℕ) → Result (List Value) Fault
+values_after head before [] ws = Ok before
+values_after head before (kind ∷ kinds) [] = Ok before
+values_after head before (kind ∷ kinds) (w ∷ ws) = read_word head kind w >>= λ v. values_after head (before ++ option_to_list v) kinds ws
+
+-- a line more in a block: not too many of its row, and its values keep the form's rule
+abbrev pub admitted : List Row → List ItemText → Found → List Value → Result ItemText Fault
+admitted rows before f values =
+    if nat_lt (length (of_row (place_of rows f.form values) before)) (row_at f.form.row rows).most
+    then (if keeps_rule f.form.rule values then Ok (record { row = place_of rows f.form values; form = f.at; values = values }) else Err Bad)
+    else Err (if (row_at f.form.row rows).most == 1 then Double else Limit)
+
+-- what a line says after the lines before it
+abbrev pub item_after : TableText → Head → List ItemText → LineText → Result ItemText Fault
+item_after t head before line =
+    form_of t head line >>= λ f. values_after head [] f.form.words line.words >>= λ values. admitted t.rows before f values
+
+-- what the lines of a block say
+abbrev pub items_said : TableText → Head → List LineText → Result (List ItemText) Refused
+items_said t head lines = read_each (item_after t head) [] lines
+
+-- what the lines of a block say at its end: those that hold without standing there are among them
+abbrev pub completed : TableText → Head → List ItemText → Result (List ItemText) Fault
+completed t head items =
+    let rows : List Slot = slots t head items in
+    if lacks head (takes rows) rows then Err Missing else Ok (whole head (takes rows) rows)

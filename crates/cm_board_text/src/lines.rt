@@ -1,0 +1,330 @@
+// The lines of a block, read by a table: the form of each, and what its words say.
+ghost use Rattle.std.specs.Prelude.{◌≡◌, ◌≤◌, ◌++◌, [], OnOk, length, map, option_to_list};
+ghost use Rattle.std.specs.List.{list_any};
+ghost use Rattle.std.specs.Option.{option_map};
+ghost use Rattle.cm_base.specs.LineView.{line_view};
+ghost use Rattle.cm_base.specs.ReadStop.{Gives};
+ghost use Rattle.cm_base.specs.Reading.{at_line, seen};
+ghost use Rattle.cm_base.specs.Words.{or_fault};
+ghost use Rattle.cm_base.specs.declared.faults.Fault.TheVariants as faults;
+ghost use Rattle.cm_board.specs.Kept.{set_in};
+ghost use Rattle.cm_board.specs.Slots.{of_row};
+ghost use Rattle.cm_board.specs.Table as table;
+ghost use Rattle.cm_board.specs.Table.{form_text, may_stand, row_at, table_text, word_text};
+ghost use Rattle.cm_board_text.specs.FoundView.{found_text};
+ghost use Rattle.cm_board_text.specs.Reading as spec;
+ghost use Rattle.cm_board_text.specs.Reading.{admitted, begins_form, fixed_is, form_of, form_of_words, found_from, is_begun, is_fixed, is_form, item_after, items_said, place_from, values_after};
+
+use cm_base::faults::{Fault, ReadStop};
+use cm_base::lines::Line;
+use cm_base::words::{at_line, number_below, number_in, signed_number, source_in, sources_in};
+use cm_board::items::Item;
+use cm_board::table::{Absent, Form, Head, Place, Row, Table, Value, Word};
+use smallvec::SmallVec;
+use std::alloc::{AllocError, Global};
+
+// The row at a place.
+#[tactic(auto, using(crate::proofs::TableAt::row_is, crate::proofs::TableAt::no_row_is))]
+pub(crate) fn row_at(rows: &[Row], at: usize) -> Row
+    ensures { result ≡ row_at at rows.now }
+{
+    if at < rows.len() {
+        rows[at]
+    } else {
+        Row {
+            most: 0,
+            since: 0,
+            place: Place::Any,
+            absent: Absent::Nothing,
+            of_channel: false,
+        }
+    }
+}
+
+// Whether a word is one that stands where a form fixes it.
+fn fixed_is(kind: &Word, word: &[u8]) -> bool
+    ensures { result ≡ fixed_is (word_text kind.now) word.now }
+{
+    match kind {
+        Word::Fixed(key) => word == *key,
+        _ => true,
+    }
+}
+
+fn is_fixed(kind: &Word) -> bool
+    ensures { result ≡ is_fixed (word_text kind.now) }
+{
+    matches!(kind, Word::Fixed(_))
+}
+
+// Whether a line has all words that a form fixes.
+fn is_form(kinds: &[Word], words: &[&[u8]]) -> bool
+    ensures { result ≡ is_form (map word_text kinds.now) (map (λ word. word.now) words.now) }
+{
+    match (kinds, words) {
+        ([], _) => true,
+        ([kind, kinds @ ..], []) => !is_fixed(kind) && is_form(kinds, &[]),
+        ([kind, kinds @ ..], [word, words @ ..]) => fixed_is(kind, word) && is_form(kinds, words),
+    }
+}
+
+// Whether it has those words that a form fixes, as far as it goes.
+fn begins_form(kinds: &[Word], words: &[&[u8]]) -> bool
+    ensures { result ≡ begins_form (map word_text kinds.now) (map (λ word. word.now) words.now) }
+{
+    match (kinds, words) {
+        ([], _) => true,
+        ([_kind, _kinds @ ..], []) => true,
+        ([kind, kinds @ ..], [word, words @ ..]) => {
+            fixed_is(kind, word) && begins_form(kinds, words)
+        }
+    }
+}
+
+// Whether a form may stand in the block.
+fn may_stand(rows: &[Row], head: &Head, form: &Form) -> bool
+    ensures { result ≡ may_stand head.now (row_at form.now.row rows.now) }
+{
+    row_at(rows, form.row).may_stand(head)
+}
+
+// The first form of these words that may stand in the block, and its place.
+fn find(table: &Table, head: &Head, words: &[&[u8]]) -> Option<(usize, Form)>
+    ensures { option_map found_text result ≡ found_from table.now.rows.now head.now (map (λ word. word.now) words.now) 0 (map form_text table.now.forms.now) }
+{
+    let mut at = 0;
+    for form in table.forms {
+        if is_form(form.words, words) && may_stand(table.rows, head, form) {
+            return Some((at, *form));
+        }
+        at += 1;
+    }
+    None
+}
+
+// Whether the words begin a form that may stand in the block.
+fn is_begun(table: &Table, head: &Head, words: &[&[u8]]) -> bool
+    ensures { result ≡ list_any (is_begun table.now.rows.now head.now (map (λ word. word.now) words.now)) (map form_text table.now.forms.now) }
+{
+    for form in table.forms {
+        if begins_form(form.words, words) && may_stand(table.rows, head, form) {
+            return true;
+        }
+    }
+    false
+}
+
+// The form of these words.
+fn form_of_words(table: &Table, head: &Head, words: &[&[u8]]) -> Result<(usize, Form), Fault>
+    ensures { seen found_text result ≡ form_of_words (table_text table.now) head.now (map (λ word. word.now) words.now) }
+{
+    match find(table, head, words) {
+        Some((at, form)) => {
+            if words.len() == form.words.len() {
+                Ok((at, form))
+            } else {
+                Err(Fault::BadLine)
+            }
+        }
+        None => {
+            if is_begun(table, head, words) {
+                Err(Fault::BadLine)
+            } else {
+                Err(Fault::Unknown)
+            }
+        }
+    }
+}
+
+// The form of a line.
+fn form_of(table: &Table, head: &Head, line: &Line<'_>) -> Result<(usize, Form), Fault>
+    ensures { seen found_text result ≡ form_of (table_text table.now) head.now (line_view line.now) }
+{
+    if line.bad {
+        Err(Fault::BadLine)
+    } else {
+        form_of_words(table, head, &line.words)
+    }
+}
+
+// The place of a name among others.
+fn name_place(names: &[&[u8]], word: &[u8]) -> Option<usize>
+    ensures { result ≡ place_from 0 word.now (map (λ name. name.now) names.now) }
+{
+    let mut place = 0;
+    for name in names {
+        if word == *name {
+            return Some(place);
+        }
+        place += 1;
+    }
+    None
+}
+
+// The name's place.
+fn read_name(names: &[&[u8]], word: &[u8]) -> Result<usize, Fault>
+    ensures { result ≡ or_fault faults.Unknown (place_from 0 word.now (map (λ name. name.now) names.now)) }
+{
+    match name_place(names, word) {
+        Some(place) => Ok(place),
+        None => Err(Fault::Unknown),
+    }
+}
+
+// What a word says.
+fn read_word(head: &Head, kind: &Word, word: &[u8]) -> Result<Option<Value>, Fault>
+    ensures { result ≡ spec.read_word head.now (word_text kind.now) word.now }
+{
+    match kind {
+        Word::Fixed(_) => Ok(None),
+        Word::Number(limits) => Ok(Some(Value::Number(number_in(
+            word,
+            limits.least,
+            limits.most,
+        )?))),
+        Word::Signed => Ok(Some(Value::Signed(signed_number(word)?))),
+        Word::Sources(first, second) => {
+            let set = if 2 <= head.version { *second } else { *first };
+            Ok(Some(Value::Number(sources_in(word, set)?)))
+        }
+        Word::Source => Ok(Some(Value::Number(source_in(word, 511)?))),
+        Word::Name(names) => Ok(Some(Value::Name(read_name(names, word)?))),
+        Word::Channel => Ok(Some(Value::Number(number_below(word, head.channels)?))),
+    }
+}
+
+// A value, where there is one, after others.
+fn push(values: &mut SmallVec<Value, 4>, value: Option<Value>) -> Result<(), AllocError>
+    ensures { OnOk result (values.new.items ≡ values.old.items ++ option_to_list value) }
+{
+    match value {
+        Some(value) => Ok(values.push(value)?),
+        None => Ok(()),
+    }
+}
+
+// What the words of the line with this number say.
+fn read_values(
+    alloc: Global,
+    line: u32,
+    head: &Head,
+    kinds: &[Word],
+    words: &[&[u8]],
+) -> Result<SmallVec<Value, 4>, ReadStop>
+    requires { length words.now ≡ length kinds.now }
+    ensures { Gives (λ values. values.items) result (at_line line (values_after head.now [] (map word_text kinds.now) (map (λ word. word.now) words.now))) }
+{
+    let mut values = SmallVec::new(alloc);
+    let mut at = 0;
+    for word in words {
+        let value = at_line(line, read_word(head, &kinds[at], word))?;
+        push(&mut values, value)?;
+        at += 1;
+    }
+    Ok(values)
+}
+
+// How many of these lines are of the row at this place.
+pub(crate) fn count(items: &[Item], at: usize) -> usize
+    ensures value { result ≡ length (of_row at items.now) }
+    ensures within { result ≤ length items.now }
+{
+    let mut count = 0;
+    for item in items {
+        if item.row == at {
+            count += 1;
+        }
+    }
+    count
+}
+
+// The channel of a line about one.
+fn channel_of(values: &[Value]) -> u32
+    ensures { result ≡ table.channel_of values.now }
+{
+    match values {
+        [Value::Number(chan), ..] => *chan,
+        _ => 0,
+    }
+}
+
+// The place of a line's row among those that are laid out for the block.
+fn place_of(rows: &[Row], form: &Form, values: &[Value]) -> usize
+    requires { length rows.now ≤ 1000 }
+    ensures { result ≡ table.place_of rows.now (form_text form.now) values.now }
+{
+    if form.row < rows.len() && rows[form.row].of_channel {
+        (channel_of(values) as usize + 1) * rows.len() + form.row
+    } else {
+        form.row
+    }
+}
+
+// The place of a line more in the block, where it may stand there with these values.
+fn admit(
+    rows: &[Row],
+    before: &[Item],
+    at: usize,
+    form: &Form,
+    values: &[Value],
+) -> Result<usize, Fault>
+    requires { length rows.now ≤ 1000 }
+    ensures { seen (λ row. record { row = row; form = at; values = values.now }) result ≡ admitted rows.now before.now (found_text (at, form.now)) values.now }
+{
+    let most = row_at(rows, form.row).most;
+    let place = place_of(rows, form, values);
+    if count(before, place) < most as usize {
+        if form.rule.is_kept(values) {
+            Ok(place)
+        } else {
+            Err(Fault::Bad)
+        }
+    } else if most == 1 {
+        Err(Fault::Double)
+    } else {
+        Err(Fault::Limit)
+    }
+}
+
+// What a line says after the lines before it.
+fn read_item(
+    alloc: Global,
+    table: &Table,
+    head: &Head,
+    before: &[Item],
+    line: &Line<'_>,
+) -> Result<Item, ReadStop>
+    requires { length table.now.rows.now ≤ 1000 }
+    ensures { Gives (λ item. item) result (at_line line.now.number (item_after (table_text table.now) head.now before.now (line_view line.now))) }
+{
+    let number = line.number;
+    let (at, form) = at_line(number, form_of(table, head, line))?;
+    let values = read_values(alloc, number, head, form.words, &line.words)?;
+    let row = at_line(
+        number,
+        admit(table.rows, before, at, &form, values.as_slice()),
+    )?;
+    Ok(Item {
+        row,
+        form: at,
+        values,
+    })
+}
+
+/// What the lines of a block say, or the first line that fails.
+pub(crate) fn read_items(
+    alloc: Global,
+    table: &Table,
+    head: &Head,
+    lines: &[Line<'_>],
+) -> Result<Vec<Item>, ReadStop>
+    requires { length table.now.rows.now ≤ 1000 }
+    ensures { Gives (λ items. items.items) result (items_said (table_text table.now) head.now (map line_view lines.now)) }
+{
+    let mut items = Vec::new(alloc);
+    for line in lines {
+        let item = read_item(alloc, table, head, &items, line)?;
+        items.push(item)?;
+    }
+    Ok(items)
+}

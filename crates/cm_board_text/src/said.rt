@@ -1,0 +1,277 @@
+// What the lines of a block say of its subdevice.
+ghost use Rattle.std.specs.Prelude.{◌≡◌, ◌<◌, ◌-◌, ◌^◌, ◌+◌, ◌*◌, ◌++◌, ◌∷◌, [], filter, map, IfOk, OnOk};
+ghost use Rattle.cm_board.specs.Board as board;
+ghost use Rattle.cm_board.specs.Said as spec;
+ghost use Rattle.cm_board.specs.Said.{first_of, first_or, sub_of};
+ghost use Rattle.cm_board.specs.Slots.{of_row};
+ghost use Rattle.cm_board.specs.View.{masks_of};
+ghost use Rattle.cm_board.specs.declared.board.Munge.TheVariants as munges;
+ghost use Rattle.cm_board.specs.declared.lines.TheConstants as lines;
+ghost use Rattle.cm_board_text.specs.UncheckedView.{unchecked_text};
+
+use crate::unchecked::Unchecked;
+use cm_board::board::{ChanSet, Fifo, Forbid, Munge, Range};
+use cm_board::items::Item;
+use cm_board::lines::{
+    BITS, BUFFER, CHAN_BITS, CHAN_MUNGE, CHAN_MUNGE_NONE, CHAN_RANGE, CONVERT, FIFO, FORBID,
+    INVERT, LINES, LIST, MUNGE, MUNGE_NONE, RANGE, ROW_COUNT, SAME_RANGE, SCAN, SCANS, SOURCES,
+    TICK,
+};
+use cm_board::said::{has_line, name_at, number_at, number_of, signed_at};
+use cm_board::table::Head;
+use std::alloc::{AllocError, Global};
+
+// The greatest code of so many bits, 24 at most.
+fn greatest(bits: u32) -> u32
+    ensures { result ≡ spec.greatest bits }
+{
+    (1 << bits.min(24)) - 1
+}
+
+// A munge by its number among the forms of its row.
+fn munge_by_form(kind: usize, bits: u32) -> Munge
+    ensures { result ≡ spec.munge_by_form kind bits }
+{
+    match kind {
+        0 => Munge::Plain,
+        1 => Munge::Offset,
+        2 => Munge::Swap16,
+        _ => Munge::Left(bits.min(8) as u8),
+    }
+}
+
+// The munge that a line says, whose row has this first form and this place for the bits.
+fn munge_said(item: &Item, none: usize, at: usize) -> Munge
+    ensures { result ≡ spec.munge_said none at item.now }
+{
+    munge_by_form(
+        item.form.saturating_sub(none),
+        number_at(item.values.as_slice(), at),
+    )
+}
+
+// The munge that the line of a row says, where it stands.
+fn munge_of(items: &[Item], row: usize, none: usize, at: usize) -> Option<Munge>
+    ensures { result ≡ first_of (map (spec.munge_said none at) (of_row row items.now)) }
+{
+    for item in items {
+        if item.row == row {
+            return Some(munge_said(item, none, at));
+        }
+    }
+    None
+}
+
+// The greatest code that the line of a row says, where it stands.
+fn maxdata_of(items: &[Item], row: usize) -> Option<u32>
+    ensures { result ≡ first_of (map (λ item. spec.greatest (spec.number_at 1 item.values)) (of_row row items.now)) }
+{
+    for item in items {
+        if item.row == row {
+            return Some(greatest(number_at(item.values.as_slice(), 1)));
+        }
+    }
+    None
+}
+
+// The range that a line says from a place on.
+fn range_said(item: &Item, at: u8) -> Range
+    ensures { result ≡ spec.range_said at item.now }
+{
+    let values = item.values.as_slice();
+    let at = at as usize;
+    Range {
+        min: signed_at(values, at),
+        max: signed_at(values, at + 1),
+        unit: number_at(values, at + 2).min(2) as u8,
+    }
+}
+
+// Adds the range that a line of a row says.
+fn push_range(ranges: &mut Vec<Range>, item: &Item, row: usize, at: u8) -> Result<(), AllocError>
+    ensures { OnOk result (ranges.new.items ≡ ranges.old.items ++ map (spec.range_said at) (of_row row (item.now ∷ []))) }
+{
+    if item.row == row {
+        ranges.push(range_said(item, at))?;
+    }
+    Ok(())
+}
+
+// The ranges that the lines of a row say.
+fn ranges_of(alloc: Global, items: &[Item], row: usize, at: u8) -> Result<Vec<Range>, AllocError>
+    ensures { IfOk result (λ ranges. ranges.items ≡ map (spec.range_said at) (of_row row items.now)) }
+{
+    let mut ranges = Vec::new(alloc);
+    for item in items {
+        push_range(&mut ranges, item, row, at)?;
+    }
+    Ok(ranges)
+}
+
+// The two sources that may not stand together by a line.
+fn forbid_said(item: &Item) -> Forbid
+    ensures { result ≡ spec.forbid_said item.now }
+{
+    let values = item.values.as_slice();
+    Forbid {
+        field: name_at(values, 0).min(4) as u8,
+        src: number_at(values, 1),
+        other: name_at(values, 2).min(4) as u8,
+        other_src: number_at(values, 3),
+    }
+}
+
+// Adds the sources that a line forbids.
+fn push_forbid(forbidden: &mut Vec<Forbid>, item: &Item) -> Result<(), AllocError>
+    ensures { OnOk result (forbidden.new.items ≡ forbidden.old.items ++ map spec.forbid_said (of_row lines.FORBID (item.now ∷ []))) }
+{
+    if item.row == FORBID {
+        forbidden.push(forbid_said(item))?;
+    }
+    Ok(())
+}
+
+// The sources that may not stand together.
+fn forbidden_of(alloc: Global, items: &[Item]) -> Result<Vec<Forbid>, AllocError>
+    ensures { IfOk result (λ forbidden. forbidden.items ≡ map spec.forbid_said (of_row lines.FORBID items.now)) }
+{
+    let mut forbidden = Vec::new(alloc);
+    for item in items {
+        push_forbid(&mut forbidden, item)?;
+    }
+    Ok(forbidden)
+}
+
+// The FIFO that a line says.
+fn fifo_said(item: &Item) -> Fifo
+    ensures { result ≡ spec.fifo_said item.now }
+{
+    let values = item.values.as_slice();
+    Fifo {
+        depth: number_at(values, 0),
+        latency: number_at(values, 1),
+    }
+}
+
+// The FIFO, where a line says it.
+fn fifo_of(items: &[Item]) -> Option<Fifo>
+    ensures { result ≡ first_of (map spec.fifo_said (of_row lines.FIFO items.now)) }
+{
+    for item in items {
+        if item.row == FIFO {
+            return Some(fifo_said(item));
+        }
+    }
+    None
+}
+
+// The place before the rows of a channel.
+fn channel_place(chan: u32) -> usize
+    ensures place { result ≡ spec.channel_place chan 0 }
+    ensures high { result < 2 ^ 40 }
+{
+    (chan as usize + 1) * ROW_COUNT
+}
+
+// What is said of one channel.
+fn set_said(alloc: Global, items: &[Item], chan: u32) -> Result<ChanSet, AllocError>
+    ensures { IfOk result (λ set. set ≡ spec.set_said items.now chan) }
+{
+    let place = channel_place(chan);
+    let ranges = ranges_of(alloc, items, place + CHAN_RANGE, 1)?;
+    Ok(ChanSet {
+        chan,
+        maxdata: maxdata_of(items, place + CHAN_BITS),
+        munge: munge_of(items, place + CHAN_MUNGE, CHAN_MUNGE_NONE, 1),
+        ranges,
+    })
+}
+
+// Whether something is said of a channel.
+fn says_any(set: &ChanSet) -> bool
+    ensures { result ≡ board.says_any set.now }
+{
+    set.maxdata.is_some() || set.munge.is_some() || !set.ranges.is_empty()
+}
+
+// Adds what is said of a channel, where something is.
+fn push_set(sets: &mut Vec<ChanSet>, set: ChanSet) -> Result<(), AllocError>
+    ensures { OnOk result (sets.new.items ≡ sets.old.items ++ filter board.says_any (set ∷ [])) }
+{
+    if says_any(&set) {
+        sets.push(set)?;
+    }
+    Ok(())
+}
+
+// The channels of which something is said, out of so many.
+fn sets_said(alloc: Global, channels: u32, items: &[Item]) -> Result<Vec<ChanSet>, AllocError>
+    ensures { IfOk result (λ sets. sets.items ≡ spec.sets_said channels items.now) }
+{
+    let mut sets = Vec::new(alloc);
+    for chan in 0..channels {
+        let set = set_said(alloc, items, chan)?;
+        push_set(&mut sets, set)?;
+    }
+    Ok(sets)
+}
+
+// The sources that each trigger may have.
+fn masks_said(items: &[Item]) -> [u32; 5]
+    ensures { masks_of result ≡ spec.masks_said items.now }
+{
+    [
+        number_of(items, SOURCES, 0, 0),
+        number_of(items, SOURCES, 1, 0),
+        number_of(items, SOURCES, 2, 0),
+        number_of(items, SOURCES, 3, 0),
+        number_of(items, SOURCES, 4, 0),
+    ]
+}
+
+// The munge of the subdevice.
+fn munge_of_all(items: &[Item]) -> Munge
+    ensures { result ≡ first_or munges.Plain (map (spec.munge_said lines.MUNGE_NONE 0) (of_row lines.MUNGE items.now)) }
+{
+    match munge_of(items, MUNGE, MUNGE_NONE, 0) {
+        Some(munge) => munge,
+        None => Munge::Plain,
+    }
+}
+
+/// The subdevice that the lines of a whole block describe, before the rules over them are asked.
+pub(crate) fn describe_sub(
+    alloc: Global,
+    head: &Head,
+    block: Vec<Item>,
+) -> Result<Unchecked, AllocError>
+    ensures { IfOk result (λ sub. unchecked_text sub ≡ sub_of head.now block.items) }
+{
+    let ranges = ranges_of(alloc, &block, RANGE, 0)?;
+    let forbidden = forbidden_of(alloc, &block)?;
+    let chans = sets_said(alloc, head.channels, &block)?;
+    Ok(Unchecked {
+        version: head.version,
+        kind: head.kind,
+        channels: head.channels,
+        maxdata: greatest(number_of(&block, BITS, 0, 1)),
+        munge: munge_of_all(&block),
+        ranges,
+        sources: masks_said(&block),
+        tick: number_of(&block, TICK, 0, 1),
+        scan_min: number_of(&block, SCAN, 0, 1),
+        scan_max: number_of(&block, SCAN, 1, 1),
+        conv_min: number_of(&block, CONVERT, 0, 1),
+        conv_max: number_of(&block, CONVERT, 1, 1),
+        list_max: number_of(&block, LIST, 0, 1),
+        scans_max: number_of(&block, SCANS, 0, 1),
+        lines: number_of(&block, LINES, 0, 0),
+        buffer: number_of(&block, BUFFER, 0, 1),
+        same_range: has_line(&block, SAME_RANGE),
+        forbidden,
+        chans,
+        invert: has_line(&block, INVERT),
+        fifo: fifo_of(&block),
+        block,
+    })
+}
