@@ -31,9 +31,9 @@ source_words =
 abbrev pub field : WordText
 field = Name (codes "start" ∷ codes "scan_begin" ∷ codes "convert" ∷ codes "scan_end" ∷ codes "stop" ∷ [])
 
--- a line about the subdevice: how many there may be, since which version, in which blocks, and what holds without one
-abbrev pub row : ℕ → ℕ → Place → Absent → Row
-row most since place absent = record { most = most; since = since; place = place; absent = absent; of_channel = false }
+-- a line about all channels: how many there may be, since which version, in which blocks, and what holds without one
+abbrev pub of_all : ℕ → ℕ → Place → Absent → Row
+of_all most since place absent = record { most = most; since = since; place = place; absent = absent; of_channel = false }
 
 -- a line about one channel: how many there may be of each
 abbrev pub of_each : ℕ → Row
@@ -43,24 +43,28 @@ of_each most = record { most = most; since = 2; place = places.Any; absent = abs
 abbrev pub form : ℕ → List WordText → Rule → FormText
 form n words rule = record { row = n; words = words; rule = rule }
 
+-- a line that each block with commands needs, once
+abbrev pub needed : Row
+needed = of_all 1 1 places.Commands absents.MissingWithCommands
+
 -- the rows, in the order in which they are printed
 abbrev pub board_rows : List Row
 board_rows =
-    row 1 1 places.Any absents.Missing
-    ∷ row 1 1 places.Any (absents.Stands lines.MUNGE_NONE)
-    ∷ row 16 1 places.Any absents.Missing
-    ∷ row 1 1 places.Commands absents.MissingWithCommands
-    ∷ row 1 1 places.Commands absents.MissingWithCommands
-    ∷ row 1 1 places.Commands absents.MissingWithCommands
-    ∷ row 1 1 places.Commands absents.MissingWithCommands
-    ∷ row 1 1 places.Commands absents.MissingWithCommands
-    ∷ row 1 1 places.Commands (absents.Says lines.SCANS_SAID 1000000)
-    ∷ row 1 1 places.Commands (absents.Says lines.LINES_SAID 0)
-    ∷ row 1 1 places.Commands absents.MissingWithCommands
-    ∷ row 1 1 places.Commands absents.Nothing
-    ∷ row 16 1 places.Commands absents.Nothing
-    ∷ row 1 2 places.Commands absents.Nothing
-    ∷ row 1 2 places.Inputs absents.Nothing
+    of_all 1 1 places.Any absents.Missing
+    ∷ of_all 1 1 places.Any (absents.Stands lines.MUNGE_NONE)
+    ∷ of_all 16 1 places.Any absents.Missing
+    ∷ needed
+    ∷ needed
+    ∷ needed
+    ∷ needed
+    ∷ needed
+    ∷ of_all 1 1 places.Commands (absents.Says lines.SCANS_SAID 1000000)
+    ∷ of_all 1 1 places.Commands (absents.Says lines.LINES_SAID 0)
+    ∷ needed
+    ∷ of_all 1 1 places.Commands absents.Nothing
+    ∷ of_all 16 1 places.Commands absents.Nothing
+    ∷ of_all 1 2 places.Commands absents.Nothing
+    ∷ of_all 1 2 places.Inputs absents.Nothing
     ∷ of_each 1
     ∷ of_each 1
     ∷ of_each 16

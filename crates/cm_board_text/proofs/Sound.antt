@@ -38,16 +38,16 @@ two_keep q f g d e [] h k = h
 two_keep q f g d e (x ∷ xs) h k = (both (q (f x) (g x)) (list_all (λ x. q (f x) (g x)) xs) k).0
 
 -- the number of a row, or its default, is within limits
-number_keeps : (row least most default : ℕ) (items : List ItemText) → is_within (limits least most) default ≡ true →
-    list_all (λ item. is_within (limits least most) (number_at 0 item.values)) (of_row row items) ≡ true →
-    is_within (limits least most) (number_of row 0 default items) ≡ true
-number_keeps row least most default items h k =
-    first_keeps (is_within (limits least most)) (λ (item : ItemText). number_at 0 item.values) default (of_row row items) h k
+number_keeps : (place least most default : ℕ) (items : List ItemText) → is_within (limits least most) default ≡ true →
+    list_all (λ item. is_within (limits least most) (number_at 0 item.values)) (of_row place items) ≡ true →
+    is_within (limits least most) (number_of place 0 default items) ≡ true
+number_keeps place least most default items h k =
+    first_keeps (is_within (limits least most)) (λ (item : ItemText). number_at 0 item.values) default (of_row place items) h k
 
 -- the two times of a row, or their defaults, are in order
-times_keep : (row : ℕ) (items : List ItemText) → list_all (λ item. are_times (number_at 0 item.values) (number_at 1 item.values)) (of_row row items) ≡ true →
-    are_times (number_of row 0 1 items) (number_of row 1 1 items) ≡ true
-times_keep row items h = two_keep are_times (λ (item : ItemText). number_at 0 item.values) (λ (item : ItemText). number_at 1 item.values) 1 1 (of_row row items) refl h
+times_keep : (place : ℕ) (items : List ItemText) → list_all (λ item. are_times (number_at 0 item.values) (number_at 1 item.values)) (of_row place items) ≡ true →
+    are_times (number_of place 0 1 items) (number_of place 1 1 items) ≡ true
+times_keep place items h = two_keep are_times (λ (item : ItemText). number_at 0 item.values) (λ (item : ItemText). number_at 1 item.values) 1 1 (of_row place items) refl h
 
 within : (least most n : ℕ) → is_within (limits least most) n ≡ true → (least ≤ n) × (n ≤ most)
 within least most n h = let b = both (nat_le least n) (nat_le n most) h in (leb-true least n b.0, leb-true n most b.1)
