@@ -1,24 +1,28 @@
 -- What a board's subdevices promise.
 use Rattle.std.specs.Prelude.{◌≡◌, ◌≤◌, ◌<◌, ◌*◌, ◌^◌, ◌%◌, ◌/◌, ◌-◌, ◌+◌, ℕ, Bool, true, false, not, ◌&&◌, ◌||◌, ◌==◌, nat_le, nat_lt, pos, ◌<ℤ◌}
-use Rattle.std.specs.Prelude.{List, [], ◌∷◌, length, slice_index_or, IsTrue, bit_and, if◌then◌else◌, Option, Some, None, option_to_list}
+use Rattle.std.specs.Prelude.{List, [], ◌∷◌, length, slice_index_or, IsTrue, if◌then◌else◌, Option, Some, None, option_to_list}
 use Rattle.std.specs.Option.{is_some, unwrap_or}
 use Rattle.std.specs.List.{All, list_all, list_any, range_with_len}
 use Rattle.cm_base.specs.Lines.{is_printable}
 use Rattle.cm_base.specs.Words.{is_int}
-use Rattle.cm_base.specs.Source.{allows, ext}
+use Rattle.cm_base.specs.Source.{allows, ext, timer}
 use Rattle.cm_board.specs.declared.board.Kind.{Kind}
 use Rattle.cm_board.specs.declared.board.Kind.TheVariants as kinds
 use Rattle.cm_board.specs.declared.board.Munge.{Munge}
 use Rattle.cm_board.specs.declared.board.Munge.TheVariants as munges
 use Rattle.cm_board.specs.declared.board.Range.{Range}
 use Rattle.cm_board.specs.declared.board.Forbid.{Forbid}
+use Rattle.cm_board.specs.declared.board.LeastScan.{LeastScan}
+use Rattle.cm_board.specs.declared.board.ListRules.{ListRules}
+use Rattle.cm_board.specs.declared.board.Rounding.{Rounding}
 use Rattle.cm_board.specs.declared.board.Fifo.{Fifo}
-use Rattle.cm_board.specs.BoardTable.{board_table}
-use Rattle.cm_board.specs.Kept.{IsWhole}
+use Rattle.cm_board.specs.BoardTable.{board_table, convert_sets, scan_begin_sets, scan_end_sets, start_sets, stop_sets}
+use Rattle.cm_board.specs.Kept.{IsWhole, set_in}
 use Rattle.cm_board.specs.Said.{head_of, sub_of}
 pub use Rattle.cm_board.specs.Kept.{is_among, is_source}
 pub use Rattle.cm_board.specs.Kinds.{has_levels, is_digital, is_dio, is_output, is_unused, may_command, may_fifo}
-pub use Rattle.cm_board.specs.Records.{ChanText, Masks, SubText, says_any}
+pub use Rattle.cm_board.specs.Records.{ChanText, Masks, SubText, any_list, any_rounding, any_scan, says_any}
+pub use Rattle.cm_board.specs.Times.{down, up}
 
 -- a subdevice of a kind that takes no commands, with this many channels, this greatest code and these ranges, and nothing else
 abbrev pub idle_sub : Kind → ℕ → ℕ → List Range → SubText
@@ -39,7 +43,9 @@ idle_sub kind channels maxdata ranges = record {
   scans_max = 1;
   lines = 0;
   buffer = 1;
-  same_range = false;
+  rounding = any_rounding;
+  least_scan = any_scan;
+  lists = any_list;
   forbidden = [];
   chans = [];
   invert = false;
@@ -154,17 +160,34 @@ are_empty m = m.start == 0 && m.scan_begin == 0 && m.convert == 0 && m.scan_end 
 abbrev pub takes_commands : SubText → Bool
 takes_commands sub = not (are_empty sub.masks)
 
--- each trigger has sources: start now, ext or int; scan_begin follow, timer or ext;
--- convert now, timer or ext; scan_end count; stop none, count or ext
-abbrev pub are_full : Masks → Bool
-are_full m = is_among 194 m.start && is_among 84 m.scan_begin && is_among 82 m.convert && is_among 32 m.scan_end && is_among 97 m.stop
+-- each trigger has sources of those that it may have on a board of this version
+abbrev pub are_full : ℕ → Masks → Bool
+are_full version m =
+    is_among (set_in version start_sets) m.start
+    && is_among (set_in version scan_begin_sets) m.scan_begin
+    && is_among (set_in version convert_sets) m.convert
+    && is_among (set_in version scan_end_sets) m.scan_end
+    && is_among (set_in version stop_sets) m.stop
+
+-- nothing is asked of a list
+abbrev pub takes_any_list : ListRules → Bool
+takes_any_list l = not l.same_range && not (is_some l.order) && not l.same_reference && not l.same_polarity
+
+-- times are rounded as the flags say
+abbrev pub rounds_by_flags : Rounding → Bool
+rounds_by_flags r = not (is_some r.own) && not r.half_down
+
+-- nothing is asked of a scan but its limits
+abbrev pub takes_any_scan : LeastScan → Bool
+takes_any_scan l = l.per_entry == 0 && not l.holds
 
 -- the numbers of a subdevice that takes no commands
 abbrev pub is_idle : SubText → Bool
 is_idle s =
     are_empty s.masks && s.tick == 1 && s.scan_min == 1 && s.scan_max == 1 && s.conv_min == 1 && s.conv_max == 1
-    && s.list_max == 1 && s.scans_max == 1 && s.lines == 0 && s.buffer == 1 && not s.same_range && length s.forbidden == 0
-    && not s.invert && not (is_some s.fifo)
+    && s.list_max == 1 && s.scans_max == 1 && s.lines == 0 && s.buffer == 1 && rounds_by_flags s.rounding && takes_any_scan s.least_scan
+    && takes_any_list s.lists
+    && length s.forbidden == 0 && not s.invert && not (is_some s.fifo)
 
 -- an unused subdevice has no ranges, and its words are plain bits
 abbrev pub is_bare : SubText → Bool
@@ -179,13 +202,33 @@ pub record IsFrom1To (most n : ℕ) : Type 0 where
   pub low : 1 ≤ n
   pub high : n ≤ most
 
--- two times in their order, both on the tick
-pub record AreTimes (tick least most : ℕ) : Type 0 where
+-- both times are on the tick
+pub record AreOnTick (tick least most : ℕ) : Type 0 where
+  pub least_ticks : least % tick ≡ 0
+  pub most_ticks : most % tick ≡ 0
+
+-- two times in their order, with a multiple of the tick between them; both are multiples but in the wider texts
+pub record AreTimes (version tick least most : ℕ) : Type 0 where
   pub some : 1 ≤ least
   pub order : least ≤ most
   pub high : most ≤ 4000000000
-  pub least_ticks : least % tick ≡ 0
-  pub most_ticks : most % tick ≡ 0
+  pub possible : up tick least ≤ most
+  pub ticks : version ≤ 2 → AreOnTick tick least most
+
+-- where scans may be timed, the longest of a time that is on the tick holds so much
+abbrev pub FitsTimed : SubText → ℕ → Type 0
+FitsTimed sub time = IsTrue (allows sub.masks.scan_begin timer) → time ≤ down sub.tick sub.scan_max
+
+-- the longest scan holds the least conversions of the longest list, and where both are timed the longest on the tick those on the tick
+pub record HoldsList (sub : SubText) : Type 0 where
+  pub any : sub.conv_min * sub.list_max ≤ sub.scan_max
+  pub timed : IsTrue (allows sub.masks.convert timer) → FitsTimed sub (up sub.tick sub.conv_min * sub.list_max)
+
+-- and the time that it needs for the entries of the longest list
+pub record HoldsEntries (sub : SubText) : Type 0 where
+  pub small : sub.least_scan.per_entry < 2 ^ 32
+  pub any : sub.least_scan.per_entry * sub.list_max ≤ sub.scan_max
+  pub timed : FitsTimed sub (sub.least_scan.per_entry * sub.list_max)
 
 -- a trigger that may be external has a line
 abbrev pub HasLine : ℕ → ℕ → Type 0
@@ -199,7 +242,7 @@ fits_kind s =
 
 -- a subdevice takes commands by its kind, and by all of its triggers or none
 abbrev pub fits_commands : SubText → Bool
-fits_commands s = (if takes_commands s then are_full s.masks && may_command s.kind else is_idle s)
+fits_commands s = (if takes_commands s then are_full s.version s.masks && may_command s.kind else is_idle s)
 
 -- each number, range, pair and FIFO is one that a line can say
 abbrev pub fits_lines : SubText → Bool
@@ -256,10 +299,11 @@ pub record IsSoundSub (sub : SubText) : Type 0 where
   pub few_ranges : length sub.ranges ≤ 16
   pub ranges : All IsRange sub.ranges
   pub tick : IsFrom1To 1000000000 sub.tick
-  pub scan : AreTimes sub.tick sub.scan_min sub.scan_max
-  pub convert : AreTimes sub.tick sub.conv_min sub.conv_max
+  pub scan : AreTimes sub.version sub.tick sub.scan_min sub.scan_max
+  pub convert : AreTimes sub.version sub.tick sub.conv_min sub.conv_max
   pub list : IsFrom1To 256 sub.list_max
-  pub list_fits : sub.conv_min * sub.list_max ≤ sub.scan_max
+  pub list_fits : HoldsList sub
+  pub entries_fit : HoldsEntries sub
   pub scans : IsFrom1To 4000000000 sub.scans_max
   pub few_lines : sub.lines ≤ 16
   pub start_line : HasLine sub.lines sub.masks.start
@@ -282,9 +326,9 @@ pub record IsChannel (maxdata : ℕ) (munge : Munge) (ranges : List Range) : Typ
   pub few : length ranges ≤ 16
   pub proper : All IsRange ranges
 
--- version 1 or 2, a name of 1 to 32 printable bytes, and 1 to 16 subdevices of this version
+-- version 1 or 2, or 3 for the wider texts, a name of 1 to 32 printable bytes, and 1 to 16 subdevices of this version
 pub record IsSoundBoard (board : BoardText) : Type 0 where
-  pub version : IsFrom1To 2 board.version
+  pub version : IsFrom1To 3 board.version
   pub name : IsFrom1To 32 (length board.name)
   pub printable : IsTrue (list_all is_printable board.name)
   pub subs : IsFrom1To 16 (length board.subs)

@@ -8,6 +8,7 @@ use Rattle.cm_board.specs.declared.table.Place.{Place}
 use Rattle.cm_board.specs.declared.table.Place.TheVariants as places
 use Rattle.cm_board.specs.declared.table.Row.{Row}
 use Rattle.cm_board.specs.declared.table.Rule.{Rule}
+use Rattle.cm_board.specs.declared.table.Sets.{Sets}
 use Rattle.cm_board.specs.declared.table.Rule.TheVariants as rules_of
 
 -- a number between two others
@@ -18,14 +19,41 @@ from_to least most = Number (record { least = least; most = most })
 abbrev pub time : WordText
 time = from_to 1 4000000000
 
--- sources of a set that is the same in each version
-abbrev pub each_version : ℕ → WordText
-each_version set = Sources set set
+-- how the channels of a list follow each other
+abbrev pub following : WordText
+following =
+    Name (codes "consecutive" ∷ codes "straight" ∷ codes "first" ∷ codes "rising" ∷ codes "distinct" ∷ [])
+
+-- the sources that a trigger may have, by the version
+abbrev pub by_version : ℕ → ℕ → ℕ → Sets
+by_version first second wide = record { first = first; second = second; wide = wide }
+
+-- and those that it may have in each
+abbrev pub in_each : ℕ → Sets
+in_each set = by_version set set set
+
+-- start: now, ext or int; scan_begin: follow, timer or ext; convert: now, timer or ext, and follow; scan_end: count;
+-- stop: none or count, and ext
+abbrev pub start_sets : Sets
+start_sets = in_each 194
+
+abbrev pub scan_begin_sets : Sets
+scan_begin_sets = in_each 84
+
+abbrev pub convert_sets : Sets
+convert_sets = by_version 82 82 86
+
+abbrev pub scan_end_sets : Sets
+scan_end_sets = in_each 32
+
+abbrev pub stop_sets : Sets
+stop_sets = by_version 33 97 97
 
 -- the sources that each trigger may have
 abbrev pub source_words : List WordText
 source_words =
-    Fixed (codes "sources") ∷ each_version 194 ∷ each_version 84 ∷ each_version 82 ∷ each_version 32 ∷ Sources 33 97 ∷ []
+    Fixed (codes "sources")
+    ∷ Sources start_sets ∷ Sources scan_begin_sets ∷ Sources convert_sets ∷ Sources scan_end_sets ∷ Sources stop_sets ∷ []
 
 -- a trigger of a command
 abbrev pub field : WordText
@@ -47,6 +75,10 @@ form n words rule = record { row = n; words = words; rule = rule }
 abbrev pub needed : Row
 needed = of_all 1 1 places.Commands absents.MissingWithCommands
 
+-- a line of the wider texts that a block with commands may have, once
+abbrev pub wide : Row
+wide = of_all 1 3 places.Commands absents.Nothing
+
 -- the rows, in the order in which they are printed
 abbrev pub board_rows : List Row
 board_rows =
@@ -58,13 +90,20 @@ board_rows =
     ∷ needed
     ∷ needed
     ∷ needed
-    ∷ of_all 1 1 places.Commands (absents.Says lines.SCANS_SAID 1000000)
-    ∷ of_all 1 1 places.Commands (absents.Says lines.LINES_SAID 0)
+    ∷ of_all 1 1 places.Commands (absents.Says lines.SCANS_FORM 1000000)
+    ∷ of_all 1 1 places.Commands (absents.Says lines.LINES_FORM 0)
     ∷ needed
     ∷ of_all 1 1 places.Commands absents.Nothing
     ∷ of_all 16 1 places.Commands absents.Nothing
     ∷ of_all 1 2 places.Commands absents.Nothing
     ∷ of_all 1 2 places.Inputs absents.Nothing
+    ∷ wide
+    ∷ wide
+    ∷ wide
+    ∷ wide
+    ∷ wide
+    ∷ wide
+    ∷ wide
     ∷ of_each 1
     ∷ of_each 1
     ∷ of_each 16
@@ -91,6 +130,14 @@ board_forms =
     ∷ form lines.FORBID (Fixed (codes "forbid") ∷ field ∷ Source ∷ field ∷ Source ∷ []) rules_of.Apart
     ∷ form lines.INVERT (Fixed (codes "invert") ∷ []) rules_of.Free
     ∷ form lines.FIFO (Fixed (codes "fifo") ∷ from_to 2 4096 ∷ from_to 0 1000000000 ∷ []) rules_of.Even
+    ∷ form lines.ROUNDS (Fixed (codes "rounds") ∷ Name (codes "nearest" ∷ codes "down" ∷ codes "up" ∷ []) ∷ []) rules_of.Free
+    ∷ form lines.HALF_DOWN (Fixed (codes "halfdown") ∷ []) rules_of.Free
+    ∷ form lines.PER_ENTRY (Fixed (codes "perchan") ∷ from_to 1 4294967295 ∷ []) rules_of.Free
+    ∷ form lines.HOLDS (Fixed (codes "scanfits") ∷ []) rules_of.Free
+    ∷ form lines.ORDER (Fixed (codes "channels") ∷ following ∷ []) rules_of.Free
+    ∷ form lines.ORDER (Fixed (codes "channels") ∷ following ∷ Name (codes "repeat" ∷ []) ∷ []) rules_of.Free
+    ∷ form lines.SAME_REFERENCE (Fixed (codes "samearef") ∷ []) rules_of.Free
+    ∷ form lines.SAME_POLARITY (Fixed (codes "samepolarity") ∷ []) rules_of.Free
     ∷ form lines.CHAN_BITS (Fixed (codes "chan") ∷ Channel ∷ Fixed (codes "bits") ∷ from_to 1 24 ∷ []) rules_of.Free
     ∷ form lines.CHAN_MUNGE (Fixed (codes "chan") ∷ Channel ∷ Fixed (codes "munge") ∷ Fixed (codes "none") ∷ []) rules_of.Free
     ∷ form lines.CHAN_MUNGE (Fixed (codes "chan") ∷ Channel ∷ Fixed (codes "munge") ∷ Fixed (codes "offset") ∷ []) rules_of.Free

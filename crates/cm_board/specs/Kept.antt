@@ -10,6 +10,7 @@ use Rattle.cm_board.specs.Table.{FormText, TableText, WordText, Fixed, Number, S
 use Rattle.cm_board.specs.Table.{form_at, laid, may_stand, place_of, row_at}
 use Rattle.cm_board.specs.declared.table.Head.{Head}
 use Rattle.cm_board.specs.declared.table.Limits.{Limits}
+use Rattle.cm_board.specs.declared.table.Sets.{Sets}
 use Rattle.cm_board.specs.declared.table.Value.{Value}
 use Rattle.cm_board.specs.declared.table.Value.TheVariants as values_of
 
@@ -25,15 +26,15 @@ is_source src = is_among 511 src && bit_and src (src - 1) == 0
 abbrev pub is_within : Limits → ℕ → Bool
 is_within l n = nat_le l.least n && nat_le n l.most
 
--- the sources of a set by the board's version
-abbrev pub set_in : Head → ℕ → ℕ → ℕ
-set_in head first second = if nat_le 2 head.version then second else first
+-- the sources that a word may have on a board of a version
+abbrev pub set_in : ℕ → Sets → ℕ
+set_in version sets = if nat_le 3 version then sets.wide else if nat_le 2 version then sets.second else sets.first
 
 -- a value that a word may say
 abbrev pub is_kept : Head → WordText → Value → Bool
 is_kept head (Number l) (values_of.Number n) = is_within l n
 is_kept head Signed (values_of.Signed z) = is_int z
-is_kept head (Sources first second) (values_of.Number n) = is_among (set_in head first second) n
+is_kept head (Sources sets) (values_of.Number n) = is_among (set_in head.version sets) n
 is_kept head Source (values_of.Number n) = is_source n
 is_kept head (Name names) (values_of.Name n) = nat_lt n (length names)
 is_kept head Channel (values_of.Number n) = nat_lt n head.channels

@@ -11,4 +11,5 @@ pub mod Rules
 pub mod Said
 pub mod Slots
 pub mod Table
+pub mod Times
 pub mod View

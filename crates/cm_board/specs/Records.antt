@@ -1,12 +1,15 @@
 -- Subdevices as plain records.
-use Rattle.std.specs.Prelude.{ℕ, Bool, ◌||◌, nat_le, List, length, Option}
+use Rattle.std.specs.Prelude.{ℕ, Bool, false, None, ◌||◌, nat_le, List, length, Option}
 use Rattle.std.specs.Option.{is_some}
 use Rattle.cm_board.specs.Items.{ItemText}
 use Rattle.cm_board.specs.declared.board.Fifo.{Fifo}
 use Rattle.cm_board.specs.declared.board.Forbid.{Forbid}
 use Rattle.cm_board.specs.declared.board.Kind.{Kind}
+use Rattle.cm_board.specs.declared.board.LeastScan.{LeastScan}
+use Rattle.cm_board.specs.declared.board.ListRules.{ListRules}
 use Rattle.cm_board.specs.declared.board.Munge.{Munge}
 use Rattle.cm_board.specs.declared.board.Range.{Range}
+use Rattle.cm_board.specs.declared.board.Rounding.{Rounding}
 
 -- the sources that each trigger may have
 pub record Masks : Type 0 where
@@ -42,12 +45,26 @@ pub record SubText : Type 0 where
   pub scans_max : ℕ
   pub lines : ℕ
   pub buffer : ℕ
-  pub same_range : Bool
+  pub rounding : Rounding
+  pub least_scan : LeastScan
+  pub lists : ListRules
   pub forbidden : List Forbid
   pub chans : List ChanText
   pub invert : Bool
   pub fifo : Option Fifo
   pub block : List ItemText
+
+-- any list
+abbrev pub any_list : ListRules
+any_list = record { same_range = false; order = None; same_reference = false; same_polarity = false }
+
+-- times rounded as a command's flags say
+abbrev pub any_rounding : Rounding
+any_rounding = record { own = None; half_down = false }
+
+-- a scan as short as its limits say
+abbrev pub any_scan : LeastScan
+any_scan = record { per_entry = 0; holds = false }
 
 -- a channel says something of itself
 abbrev pub says_any : ChanText → Bool

@@ -1,5 +1,5 @@
 -- What the lines of a block say of its subdevice.
-use Rattle.std.specs.Prelude.{ℕ, ℤ, zero, suc, pos, ◌+◌, ◌-◌, ◌*◌, ◌^◌, min, not, Bool, List, [], ◌∷◌, filter, length, map, Option, Some, None}
+use Rattle.std.specs.Prelude.{ℕ, ℤ, zero, suc, pos, ◌+◌, ◌-◌, ◌*◌, ◌^◌, ◌==◌, min, not, Bool, List, [], ◌∷◌, filter, length, map, Option, Some, None}
 use Rattle.std.specs.List.{range_with_len}
 use Rattle.cm_board.specs.BoardTable.{board_rows}
 use Rattle.cm_board.specs.Items.{ItemText}
@@ -7,9 +7,17 @@ use Rattle.cm_board.specs.Records.{ChanText, Masks, SubText, says_any}
 use Rattle.cm_board.specs.Slots.{is_empty, of_row}
 use Rattle.cm_board.specs.declared.board.Fifo.{Fifo}
 use Rattle.cm_board.specs.declared.board.Forbid.{Forbid}
+use Rattle.cm_board.specs.declared.board.LeastScan.{LeastScan}
+use Rattle.cm_board.specs.declared.board.ListOrder.{ListOrder}
+use Rattle.cm_board.specs.declared.board.ListRules.{ListRules}
 use Rattle.cm_board.specs.declared.board.Munge.{Munge}
 use Rattle.cm_board.specs.declared.board.Munge.TheVariants as munges
+use Rattle.cm_board.specs.declared.board.Order.{Order}
+use Rattle.cm_board.specs.declared.board.Order.TheVariants as orders
 use Rattle.cm_board.specs.declared.board.Range.{Range}
+use Rattle.cm_board.specs.declared.board.Rounding.{Rounding}
+use Rattle.cm_board.specs.declared.board.Way.{Way}
+use Rattle.cm_board.specs.declared.board.Way.TheVariants as ways
 use Rattle.cm_board.specs.declared.lines.TheConstants as lines
 use Rattle.cm_board.specs.declared.table.Head.{Head}
 use Rattle.cm_board.specs.declared.table.Value.{Value}
@@ -84,6 +92,44 @@ forbid_said item = record {
 abbrev pub fifo_said : ItemText → Fifo
 fifo_said item = record { depth = number_at 0 item.values; latency = number_at 1 item.values }
 
+-- an order by its number among their names
+abbrev pub order_named : ℕ → Order
+order_named zero = orders.Consecutive
+order_named (suc zero) = orders.Straight
+order_named (suc (suc zero)) = orders.First
+order_named (suc (suc (suc zero))) = orders.Rising
+order_named n = orders.Distinct
+
+-- the order of a list, which may be repeated
+abbrev pub order_said : ItemText → ListOrder
+order_said item = record { order = order_named (name_at 0 item.values); repeats = item.form == lines.REPEATED_FORM }
+
+-- what a list keeps
+abbrev pub lists_said : List ItemText → ListRules
+lists_said items = record {
+  same_range = has_line lines.SAME_RANGE items;
+  order = first_of (map order_said (of_row lines.ORDER items));
+  same_reference = has_line lines.SAME_REFERENCE items;
+  same_polarity = has_line lines.SAME_POLARITY items;
+}
+
+-- a way of rounding by its number among their names
+abbrev pub way_named : ℕ → Way
+way_named zero = ways.Nearest
+way_named (suc zero) = ways.Down
+way_named n = ways.Up
+
+-- how times are rounded
+abbrev pub rounding_said : List ItemText → Rounding
+rounding_said items = record {
+  own = first_of (map (λ item. way_named (name_at 0 item.values)) (of_row lines.ROUNDS items));
+  half_down = has_line lines.HALF_DOWN items;
+}
+
+-- what a timed scan holds at least
+abbrev pub least_scan_said : List ItemText → LeastScan
+least_scan_said items = record { per_entry = number_of lines.PER_ENTRY 0 0 items; holds = has_line lines.HOLDS items }
+
 -- the place of a row of channels
 abbrev pub channel_place : ℕ → ℕ → ℕ
 channel_place chan row = (chan + 1) * length board_rows + row
@@ -134,7 +180,9 @@ sub_of head items = record {
   scans_max = number_of lines.SCANS 0 1 items;
   lines = number_of lines.LINES 0 0 items;
   buffer = number_of lines.BUFFER 0 1 items;
-  same_range = has_line lines.SAME_RANGE items;
+  rounding = rounding_said items;
+  least_scan = least_scan_said items;
+  lists = lists_said items;
   forbidden = map forbid_said (of_row lines.FORBID items);
   chans = sets_said head.channels items;
   invert = has_line lines.INVERT items;

@@ -12,6 +12,7 @@ use Rattle.cm_board.specs.declared.table.Place.TheVariants as places
 use Rattle.cm_board.specs.declared.table.Row.{Row}
 use Rattle.cm_board.specs.declared.table.Rule.{Rule}
 use Rattle.cm_board.specs.declared.table.Rule.TheVariants as rules_of
+use Rattle.cm_board.specs.declared.table.Sets.{Sets}
 use Rattle.cm_board.specs.declared.table.Table.{Table}
 use Rattle.cm_board.specs.declared.table.Value.{Value}
 use Rattle.cm_board.specs.declared.table.Value.TheVariants as values_of
@@ -24,7 +25,7 @@ pub data WordText : Type 0 where
   Fixed : List ℕ → WordText
   Number : Limits → WordText
   Signed : WordText
-  Sources : ℕ → ℕ → WordText
+  Sources : Sets → WordText
   Source : WordText
   Name : List (List ℕ) → WordText
   Channel : WordText
@@ -34,7 +35,7 @@ abbrev pub word_text : Word → WordText
 word_text (words_of.Fixed key) = Fixed key.now
 word_text (words_of.Number limits) = Number limits
 word_text words_of.Signed = Signed
-word_text (words_of.Sources first second) = Sources first second
+word_text (words_of.Sources sets) = Sources sets
 word_text words_of.Source = Source
 word_text (words_of.Name names) = Name (map (λ name. name.now) names.now)
 word_text words_of.Channel = Channel

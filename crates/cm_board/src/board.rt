@@ -75,6 +75,69 @@ impl Model for ChanSet {
     ghost view = { chan_text };
 }
 
+/// How the channels of a list follow each other.
+#[derive(Clone, Copy, Debug, PartialEq, Eq)]
+pub enum Order {
+    /// Each is the one after the channel before, and channel 0 comes after the last of the subdevice.
+    Consecutive,
+    /// Each is the one after the channel before, without that turn.
+    Straight,
+    /// The first entry has channel 0, the one after it channel 1, and so on.
+    First,
+    /// Each is above the one before.
+    Rising,
+    /// No channel stands twice.
+    Distinct,
+}
+
+/// The order of the channels in a list.
+#[derive(Clone, Copy, Debug, PartialEq, Eq)]
+pub struct ListOrder {
+    pub order: Order,
+    /// Whether the list may be entries in this order, and then these same entries over and over.
+    pub repeats: bool,
+}
+
+/// What all entries of a channel list keep together.
+#[derive(Clone, Copy, Debug, PartialEq, Eq)]
+pub struct ListRules {
+    /// Whether they have ranges of one number.
+    pub same_range: bool,
+    /// The order of their channels, where one is asked for.
+    pub order: Option<ListOrder>,
+    /// Whether they have one reference.
+    pub same_reference: bool,
+    /// Whether the ranges of all are of one polarity: each begins below 0, or none does.
+    pub same_polarity: bool,
+}
+
+/// A way to round a time to the tick.
+#[derive(Clone, Copy, Debug, PartialEq, Eq)]
+pub enum Way {
+    Nearest,
+    Down,
+    Up,
+}
+
+/// How a board rounds times.
+#[derive(Clone, Copy, Debug, PartialEq, Eq)]
+pub struct Rounding {
+    /// Its own way, whatever a command's flags say, where it has one.
+    pub own: Option<Way>,
+    /// Whether of two times that are as near the lower is the nearest. Else it is the greater.
+    pub half_down: bool,
+}
+
+/// What a timed scan holds at least.
+#[derive(Clone, Copy, Debug, PartialEq, Eq)]
+pub struct LeastScan {
+    /// So many nanoseconds for each entry of the list, whatever its conversions follow; or 0.
+    pub per_entry: u32,
+    /// Whether a scan that is shorter than its timed conversions is outside its limits. Else it is only
+    /// made longer.
+    pub holds: bool,
+}
+
 /// A FIFO between a board's converter and its buffer.
 #[derive(Clone, Copy, Debug, PartialEq, Eq)]
 pub struct Fifo {
@@ -113,8 +176,9 @@ pub struct Sub {
     pub lines: u32,
     /// How many samples the buffer holds.
     pub buffer: u32,
-    /// Whether all entries of a list have one range.
-    pub same_range: bool,
+    pub rounding: Rounding,
+    pub least_scan: LeastScan,
+    pub lists: ListRules,
     pub forbidden: Vec<Forbid>,
     /// The channels with numbers of their own, in rising order.
     pub chans: Vec<ChanSet>,
@@ -221,7 +285,8 @@ impl Sub {
 /// A board: its name of 1 to 32 printable bytes, and its 1 to 16 subdevices.
 #[derive(Drop)]
 pub struct BoardDesc {
-    /// The version of the board's text, 1 or 2.
+    /// The version of the board's text: 1 and 2 for `comedi 1` and `comedi 2`, and 3 for `zendrouz 1`.
+    /// Each takes all that those before it take.
     pub version: u32,
     pub name: Vec<u8>,
     pub subs: Vec<Sub>,

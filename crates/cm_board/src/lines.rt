@@ -3,7 +3,7 @@ ghost use Rattle.std.specs.Prelude.{◌≡◌};
 ghost use Rattle.cm_board.specs.BoardTable.{board_table};
 ghost use Rattle.cm_board.specs.Table.{table_text};
 
-use crate::table::{Absent, Form, Limits, Place, Row, Rule, Table, Word};
+use crate::table::{Absent, Form, Limits, Place, Row, Rule, Sets, Table, Word};
 
 /// The bits of a code.
 pub const BITS: usize = 0;
@@ -50,29 +50,107 @@ pub const INVERT: usize = 13;
 /// A FIFO between the converter and the buffer.
 pub const FIFO: usize = 14;
 
+/// The board rounds times in a way of its own, whatever a command's flags say.
+pub const ROUNDS: usize = 15;
+
+/// Of two times on the tick that are as near, the lower is the nearest.
+pub const HALF_DOWN: usize = 16;
+
+/// The least time of a scan for each entry of the list.
+pub const PER_ENTRY: usize = 17;
+
+/// A timed scan that is shorter than its conversions is outside its limits.
+pub const HOLDS: usize = 18;
+
+/// The order of the channels in a list.
+pub const ORDER: usize = 19;
+
+/// All entries of a list have one reference.
+pub const SAME_REFERENCE: usize = 20;
+
+/// The ranges of all entries of a list have one polarity.
+pub const SAME_POLARITY: usize = 21;
+
 /// The bits of one channel.
-pub const CHAN_BITS: usize = 15;
+pub const CHAN_BITS: usize = 22;
 
 /// The munge of one channel.
-pub const CHAN_MUNGE: usize = 16;
+pub const CHAN_MUNGE: usize = 23;
 
 /// A range of one channel.
-pub const CHAN_RANGE: usize = 17;
+pub const CHAN_RANGE: usize = 24;
 
 /// How many rows there are.
-pub const ROW_COUNT: usize = 18;
+pub const ROW_COUNT: usize = 25;
 
-/// The form of `munge none`, the first of its row: those after it are `offset`, `swap16` and `left`.
+/// The form of `bits`.
+pub const BITS_FORM: usize = 0;
+
+/// The form of `munge none`, the first of its row.
 pub const MUNGE_NONE: usize = 1;
 
+/// The form of `munge offset`.
+pub const MUNGE_OFFSET: usize = 2;
+
+/// The form of `munge left`, the last of its row.
+pub const MUNGE_LEFT: usize = 4;
+
+/// The form of `range`.
+pub const RANGE_FORM: usize = 5;
+
+/// The form of `sources`.
+pub const SOURCES_FORM: usize = 6;
+
+/// The form of `tick`.
+pub const TICK_FORM: usize = 7;
+
+/// The form of `scan`.
+pub const SCAN_FORM: usize = 8;
+
+/// The form of `convert`.
+pub const CONVERT_FORM: usize = 9;
+
+/// The form of `list`.
+pub const LIST_FORM: usize = 10;
+
 /// The form of `scans`.
-pub const SCANS_SAID: usize = 11;
+pub const SCANS_FORM: usize = 11;
 
 /// The form of `lines`.
-pub const LINES_SAID: usize = 12;
+pub const LINES_FORM: usize = 12;
+
+/// The form of `buffer`.
+pub const BUFFER_FORM: usize = 13;
+
+/// The form of `forbid`.
+pub const FORBID_FORM: usize = 15;
+
+/// The form of `fifo`.
+pub const FIFO_FORM: usize = 17;
+
+/// The form of `rounds`.
+pub const ROUNDS_FORM: usize = 18;
+
+/// The form of `perchan`.
+pub const PER_ENTRY_FORM: usize = 20;
+
+/// The form of `channels`.
+pub const ORDER_FORM: usize = 22;
+
+/// The form of `channels` with `repeat`.
+pub const REPEATED_FORM: usize = 23;
+
+/// The form of `chan C bits`.
+pub const CHAN_BITS_FORM: usize = 26;
 
 /// The form of `chan C munge none`, the first of its row.
-pub const CHAN_MUNGE_NONE: usize = 19;
+pub const CHAN_MUNGE_NONE: usize = 27;
+
+/// The form of `chan C munge left`, the last of its row.
+pub const CHAN_MUNGE_LEFT: usize = 30;
+
+/// The form of `chan C range`.
+pub const CHAN_RANGE_FORM: usize = 31;
 
 // A time between triggers: 1 nanosecond to 4 seconds.
 const TIME: Word = Word::Number(Limits {
@@ -82,6 +160,33 @@ const TIME: Word = Word::Number(Limits {
 
 // A trigger of a command.
 const FIELD: Word = Word::Name(&[b"start", b"scan_begin", b"convert", b"scan_end", b"stop"]);
+
+// How the channels of a list follow each other.
+const FOLLOWING: Word = Word::Name(&[
+    b"consecutive",
+    b"straight",
+    b"first",
+    b"rising",
+    b"distinct",
+]);
+
+// A line that each block with commands needs, once.
+const NEEDED: Row = Row {
+    most: 1,
+    since: 1,
+    place: Place::Commands,
+    absent: Absent::MissingWithCommands,
+    of_channel: false,
+};
+
+// A line of the wider texts that a block with commands may have, once.
+const WIDE: Row = Row {
+    most: 1,
+    since: 3,
+    place: Place::Commands,
+    absent: Absent::Nothing,
+    of_channel: false,
+};
 
 static ROWS: [Row; ROW_COUNT] = [
     // bits
@@ -108,52 +213,18 @@ static ROWS: [Row; ROW_COUNT] = [
         absent: Absent::Missing,
         of_channel: false,
     },
-    // sources
-    Row {
-        most: 1,
-        since: 1,
-        place: Place::Commands,
-        absent: Absent::MissingWithCommands,
-        of_channel: false,
-    },
-    // tick
-    Row {
-        most: 1,
-        since: 1,
-        place: Place::Commands,
-        absent: Absent::MissingWithCommands,
-        of_channel: false,
-    },
-    // scan
-    Row {
-        most: 1,
-        since: 1,
-        place: Place::Commands,
-        absent: Absent::MissingWithCommands,
-        of_channel: false,
-    },
-    // convert
-    Row {
-        most: 1,
-        since: 1,
-        place: Place::Commands,
-        absent: Absent::MissingWithCommands,
-        of_channel: false,
-    },
-    // list
-    Row {
-        most: 1,
-        since: 1,
-        place: Place::Commands,
-        absent: Absent::MissingWithCommands,
-        of_channel: false,
-    },
+    // sources, tick, scan, convert, list
+    NEEDED,
+    NEEDED,
+    NEEDED,
+    NEEDED,
+    NEEDED,
     // scans
     Row {
         most: 1,
         since: 1,
         place: Place::Commands,
-        absent: Absent::Says(SCANS_SAID, 1_000_000),
+        absent: Absent::Says(SCANS_FORM, 1_000_000),
         of_channel: false,
     },
     // lines
@@ -161,17 +232,11 @@ static ROWS: [Row; ROW_COUNT] = [
         most: 1,
         since: 1,
         place: Place::Commands,
-        absent: Absent::Says(LINES_SAID, 0),
+        absent: Absent::Says(LINES_FORM, 0),
         of_channel: false,
     },
     // buffer
-    Row {
-        most: 1,
-        since: 1,
-        place: Place::Commands,
-        absent: Absent::MissingWithCommands,
-        of_channel: false,
-    },
+    NEEDED,
     // samerange
     Row {
         most: 1,
@@ -204,6 +269,14 @@ static ROWS: [Row; ROW_COUNT] = [
         absent: Absent::Nothing,
         of_channel: false,
     },
+    // rounds, halfdown, perchan, scanfits, channels, samearef, samepolarity
+    WIDE,
+    WIDE,
+    WIDE,
+    WIDE,
+    WIDE,
+    WIDE,
+    WIDE,
     // chan C bits
     Row {
         most: 1,
@@ -230,7 +303,7 @@ static ROWS: [Row; ROW_COUNT] = [
     },
 ];
 
-static FORMS: [Form; 24] = [
+static FORMS: [Form; 32] = [
     Form {
         row: BITS,
         words: &[
@@ -277,11 +350,31 @@ static FORMS: [Form; 24] = [
         row: SOURCES,
         words: &[
             Word::Fixed(b"sources"),
-            Word::Sources(194, 194),
-            Word::Sources(84, 84),
-            Word::Sources(82, 82),
-            Word::Sources(32, 32),
-            Word::Sources(33, 97),
+            Word::Sources(Sets {
+                first: 194,
+                second: 194,
+                wide: 194,
+            }),
+            Word::Sources(Sets {
+                first: 84,
+                second: 84,
+                wide: 84,
+            }),
+            Word::Sources(Sets {
+                first: 82,
+                second: 82,
+                wide: 86,
+            }),
+            Word::Sources(Sets {
+                first: 32,
+                second: 32,
+                wide: 32,
+            }),
+            Word::Sources(Sets {
+                first: 33,
+                second: 97,
+                wide: 97,
+            }),
         ],
         rule: Rule::Free,
     },
@@ -376,6 +469,59 @@ static FORMS: [Form; 24] = [
             }),
         ],
         rule: Rule::Even,
+    },
+    Form {
+        row: ROUNDS,
+        words: &[
+            Word::Fixed(b"rounds"),
+            Word::Name(&[b"nearest", b"down", b"up"]),
+        ],
+        rule: Rule::Free,
+    },
+    Form {
+        row: HALF_DOWN,
+        words: &[Word::Fixed(b"halfdown")],
+        rule: Rule::Free,
+    },
+    Form {
+        row: PER_ENTRY,
+        words: &[
+            Word::Fixed(b"perchan"),
+            Word::Number(Limits {
+                least: 1,
+                most: 4_294_967_295,
+            }),
+        ],
+        rule: Rule::Free,
+    },
+    Form {
+        row: HOLDS,
+        words: &[Word::Fixed(b"scanfits")],
+        rule: Rule::Free,
+    },
+    Form {
+        row: ORDER,
+        words: &[Word::Fixed(b"channels"), FOLLOWING],
+        rule: Rule::Free,
+    },
+    Form {
+        row: ORDER,
+        words: &[
+            Word::Fixed(b"channels"),
+            FOLLOWING,
+            Word::Name(&[b"repeat"]),
+        ],
+        rule: Rule::Free,
+    },
+    Form {
+        row: SAME_REFERENCE,
+        words: &[Word::Fixed(b"samearef")],
+        rule: Rule::Free,
+    },
+    Form {
+        row: SAME_POLARITY,
+        words: &[Word::Fixed(b"samepolarity")],
+        rule: Rule::Free,
     },
     Form {
         row: CHAN_BITS,

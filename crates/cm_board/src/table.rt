@@ -19,6 +19,14 @@ pub struct Limits {
     pub most: u32,
 }
 
+/// The sources that a word may have, as bits: on boards of version 1, of version 2, and of wider texts.
+#[derive(Clone, Copy, Debug, PartialEq, Eq)]
+pub struct Sets {
+    pub first: u32,
+    pub second: u32,
+    pub wide: u32,
+}
+
 /// What a word has to be.
 #[derive(Clone, Copy)]
 pub enum Word {
@@ -28,8 +36,8 @@ pub enum Word {
     Number(Limits),
     /// A signed number of 32 bits.
     Signed,
-    /// Sources of a set: one set for boards of version 1, and one for later ones.
-    Sources(u32, u32),
+    /// Sources of a set by the board's version.
+    Sources(Sets),
     /// One source.
     Source,
     /// One of these names.

@@ -6,6 +6,7 @@ use Rattle.std.proofs.lemmas.List.Elements.{filter-append}
 use Rattle.std.proofs.lemmas.Bool.{eq-eqb, eqb-true, lt-ltb, ltb-true}
 use Rattle.cm_base.specs.Lines.{LineText, is_comment, is_word}
 use Rattle.cm_base.specs.Reading.{◌>>=◌, at_line, read_each}
+use Rattle.cm_base.specs.Words.{or_fault}
 use Rattle.cm_base.specs.WrittenLines.{is_line, numbered}
 use Rattle.cm_base.specs.declared.faults.Fault.{Fault}
 use Rattle.cm_base.specs.declared.faults.Fault.TheVariants as faults
@@ -16,7 +17,7 @@ use Rattle.cm_board.specs.Rules.{keeps_rule}
 use Rattle.cm_board_text.specs.BoardPart.{ends_block}
 use Rattle.cm_board_text.specs.IsTable.{all_apart, are_apart, are_rows, is_headed, is_listed, is_of_channel, is_proper, is_table}
 use Rattle.cm_board_text.specs.Printed.{item_words, words_text}
-use Rattle.cm_board_text.specs.Reading.{Found, admitted, completed, form_of_words, form_or, found_from, is_begun, is_form, item_after, values_after}
+use Rattle.cm_board_text.specs.Reading.{Found, admitted, completed, form_of_words, found_from, is_begun, is_form, item_after, values_after}
 use Rattle.cm_board.specs.Table.{FormText, TableText, WordText, Fixed, Number, Signed, Sources, Source, Name, Channel, form_at, laid, may_stand, place_of, row_at}
 use Rattle.cm_board.specs.Slots.{of_row, takes, whole}
 use Rattle.cm_board.specs.declared.table.Head.{Head}
@@ -24,7 +25,7 @@ use Rattle.cm_board.specs.declared.table.Row.{Row}
 use Rattle.cm_board.specs.declared.table.Value.{Value}
 use Rattle.cm_board_text.proofs.Laid.{IsPlaced, placed}
 use Rattle.cm_board_text.proofs.OfRow.{few_at}
-use Rattle.cm_board_text.proofs.WordsBack.{apart_back, kept_back}
+use Rattle.cm_board_text.proofs.WordsBack.{apart_back, form_kept, kept_back}
 
 -- the forms of a table
 listed_at : (t : TableText) (n : ℕ) (forms : List FormText) → list_all (is_listed t) forms ≡ true → n < length forms → is_listed t (form_at n forms) ≡ true
@@ -113,12 +114,11 @@ form_back : (t : TableText) (head : Head) (item : ItemText) → IsTable t → he
     form_of_words t head (item_words t item) ≡ Ok (record { at = item.form; form = form_at item.form t.forms })
 form_back t head item tab small g =
     let form : FormText = form_at item.form t.forms in
-    let ws : List (List ℕ) = item_words t item in
     let back = kept_back head form.words item.values small (listed t item.form tab g.below).proper g.kept in
-    let f : Found = record { at = item.form; form = form } in
-    let fault : Fault = cond (list_any (is_begun t.rows head ws) t.forms) faults.BadLine faults.Unknown in
-    ap (form_or fault ws) (found_at t.rows head 0 item.form t.forms item.values tab.apart g.below g.kept back.form g.stands ∙ ap (λ (m : ℕ). Some (record { at = m; form = form })) (omega arith))
-    ∙ ap (λ b. cond b (Ok f) (Err faults.BadLine)) (eq-eqb (length ws) (length form.words) back.many)
+    let fault : Fault = cond (list_any (is_begun t.rows head (item_words t item)) t.forms) faults.BadLine faults.Unknown in
+    ap (or_fault fault)
+    (found_at t.rows head 0 item.form t.forms item.values tab.apart g.below g.kept (form_kept head form.words item.values back g.kept) g.stands
+    ∙ ap (λ (m : ℕ). Some (record { at = m; form = form })) (omega arith))
 
 -- a printed line after others
 line_back : (t : TableText) (head : Head) (before : List ItemText) (number : ℕ) (item : ItemText) → IsTable t → head.channels < 2 ^ 32 → IsGood t head item →
@@ -198,7 +198,7 @@ line_words (Fixed key ∷ kinds) vs h w =
     and_true _ _ (both (not (is_comment (key ∷ []))) (not (bytes_eq key (codes "subdevice"))) a.0).0 w
 line_words (Number l ∷ kinds) vs h w = cc
 line_words (Signed ∷ kinds) vs h w = cc
-line_words (Sources first second ∷ kinds) vs h w = cc
+line_words (Sources sets ∷ kinds) vs h w = cc
 line_words (Source ∷ kinds) vs h w = cc
 line_words (Name names ∷ kinds) vs h w = cc
 line_words (Channel ∷ kinds) vs h w = cc
@@ -232,7 +232,7 @@ line_inside (Fixed key ∷ kinds) vs number h =
     neither_is false b h k = k
 line_inside (Number l ∷ kinds) vs number h = cc
 line_inside (Signed ∷ kinds) vs number h = cc
-line_inside (Sources first second ∷ kinds) vs number h = cc
+line_inside (Sources sets ∷ kinds) vs number h = cc
 line_inside (Source ∷ kinds) vs number h = cc
 line_inside (Name names ∷ kinds) vs number h = cc
 line_inside (Channel ∷ kinds) vs number h = cc

@@ -6,13 +6,13 @@ use Rattle.std.proofs.lemmas.List.Folds.{flat_map-map, list_all-append}
 use Rattle.std.proofs.Math.Seq.{take-append_seam, drop-append_seam}
 use Rattle.std.proofs.lemmas.Grind.{flat_map-append}
 use Rattle.std.proofs.lemmas.Slice.Eq.{bytes_eq-Decides}
-use Rattle.std.proofs.lemmas.Bool.{eqb-true, le-leb}
+use Rattle.std.proofs.lemmas.Bool.{eqb-true, le-leb, leb-true}
 use Rattle.std.proofs.lemmas.List.Sums.{AllPass-from_list_all}
 use Rattle.cm_base.specs.Refusal.{next_number}
 use Rattle.cm_base.specs.Lines.{LineText, is_comment, is_line_feed, is_not_empty, is_printable, is_word, line_text, lines_from, lines_of, raw_lines, text_counts}
 use Rattle.cm_base.specs.Parts.{begins_words, fixed}
 use Rattle.cm_base.specs.Reading.{◌>>=◌, at_line}
-use Rattle.cm_base.specs.Words.{limited, number_in}
+use Rattle.cm_base.specs.Words.{limited}
 use Rattle.cm_base.specs.WrittenLines.{is_line, line_of, numbered, text_of}
 use Rattle.cm_base.specs.declared.faults.Fault.TheVariants as faults
 use Rattle.cm_base.proofs.Bools.{and_true, both, not_true}
@@ -24,7 +24,7 @@ use Rattle.cm_board.specs.BoardTable.{board_table}
 use Rattle.cm_board.specs.Said.{head_of, sub_of}
 use Rattle.cm_board.specs.declared.table.Head.{Head}
 use Rattle.cm_board_text.specs.Block.{checked, finished}
-use Rattle.cm_board_text.specs.BoardPart.{any_words, block_at, block_lines, blocks_from, board_of, ends_block, is_signals, is_subdevice, lines_after, next_block}
+use Rattle.cm_board_text.specs.BoardPart.{any_words, block_at, block_lines, blocks_from, board_of, ends_block, is_signals, is_subdevice, lines_after, next_block, version_of}
 use Rattle.cm_board_text.specs.Printed.{block_text, board_lines, head_line, item_words, name_line, printed_board, sub_lines, version_line}
 use Rattle.cm_board_text.specs.PrintedReads.{BeginsSignals, PrintedReads}
 use Rattle.cm_board_text.specs.Reading.{items_said}
@@ -180,8 +180,16 @@ name_word name h p = and_true _ _ (some name h) p
     some : (xs : List ℕ) → 1 ≤ length xs → is_not_empty xs ≡ true
     some xs h = grind (arith, nat_tests)
 
-version_is_line : (version : ℕ) → IsFrom1To 2 version → is_line (version_line version) ≡ true
-version_is_line version h = and_true _ true (word-decimal version (omega (arith, h.high))) refl
+-- the versions of `comedi`
+first_versions : (version : ℕ) → IsFrom1To 3 version → nat_le 3 version ≡ false → IsFrom1To 2 version
+first_versions version h e = record { low = h.low; high = grind (arith, nat_tests) }
+
+version_is_line : (version : ℕ) → IsFrom1To 3 version → is_line (version_line version) ≡ true
+version_is_line version h = by (nat_le 3 version) refl
+  where
+    by : (wide : Bool) → nat_le 3 version ≡ wide → is_line (cond wide (codes "zendrouz" ∷ codes "1" ∷ []) (codes "comedi" ∷ decimal version ∷ [])) ≡ true
+    by true e = refl
+    by false e = and_true _ true (word-decimal version (omega (arith, h.high))) refl
 
 board_is_lines : (b : BoardText) → IsSoundBoard b → All IsSoundSub b.subs → list_all is_line (board_lines b) ≡ true
 board_is_lines b h subs = and_true _ _ (version_is_line b.version h.version) (and_true _ _ (and_true _ true (name_word b.name h.name.low h.printable) refl) (subs_lines b.subs subs))
@@ -221,8 +229,15 @@ subs_no_signals number (s ∷ subs) h =
     ∙ and_true _ _ (no_signals (numbered (number + 1) (words_of s)) (items_inside (number + 1) s (h 0 s (omega arith))))
     (subs_no_signals (number + length (sub_lines s)) subs (λ k d below. h (suc k) d (omega arith)))
 
+version_no_signals : (version : ℕ) → is_signals (record { number = 1; words = version_line version; bad = false }) ≡ false
+version_no_signals version = by (nat_le 3 version)
+  where
+    by : (wide : Bool) → is_signals (record { number = 1; words = cond wide (codes "zendrouz" ∷ codes "1" ∷ []) (codes "comedi" ∷ decimal version ∷ []); bad = false }) ≡ false
+    by true = refl
+    by false = refl
+
 board_no_signals : (b : BoardText) → All IsSoundSub b.subs → none_pass is_signals (numbered 1 (board_lines b)) ≡ true
-board_no_signals b h = subs_no_signals 3 b.subs h
+board_no_signals b h = and_true _ _ (ap not (version_no_signals b.version)) (subs_no_signals 3 b.subs h)
 
 -- the line after
 
@@ -261,15 +276,27 @@ first_block end number (s ∷ subs) lines h = refl
 less_33 : (n : ℕ) → n ≤ 32 → nat_le n 32 ≡ true
 less_33 n h = grind (arith, nat_tests)
 
-version_back : (version : ℕ) → IsFrom1To 2 version → number_in 1 2 (decimal version) ≡ Ok version
-version_back version h = number_in-decimal 1 2 version (omega (arith, h.high)) (and_true _ _ (le-leb 1 version h.low) (le-leb version 2 h.high))
+version_back : (version end : ℕ) (lines : List LineText) → IsFrom1To 3 version → version_of end (numbered 1 (version_line version ∷ []) ++ lines) ≡ Ok version
+version_back version end lines h = by (nat_le 3 version) refl
+  where
+    last : (version : ℕ) → IsFrom1To 3 version → nat_le 3 version ≡ true → 3 ≡ version
+    last version h e = let least = leb-true 3 version e in omega (arith, least, h.high)
+
+    by : (wide : Bool) → nat_le 3 version ≡ wide →
+        version_of end (numbered 1 (cond wide (codes "zendrouz" ∷ codes "1" ∷ []) (codes "comedi" ∷ decimal version ∷ []) ∷ []) ++ lines) ≡ Ok version
+    by true e = ap Ok (last version h e)
+    by false e =
+        let old = first_versions version h e in
+        ap (λ r. at_line 1 (r >>= λ (v : ℕ). Ok v))
+        (number_in-decimal 1 2 version (omega (arith, old.high)) (and_true _ _ (le-leb 1 version old.low) (le-leb version 2 old.high)))
 
 lines_back : (b : BoardText) (end : ℕ) (line : LineText) (rest : List LineText) → IsSoundBoard b → All IsSoundSub b.subs → is_signals line ≡ true → board_of end (numbered 1 (board_lines b) ++ line ∷ rest) ≡ Ok (b, length (board_lines b))
 lines_back b end line rest h sound e =
     let blocks : List LineText = numbered 3 (flat_map sub_lines b.subs) ++ line ∷ rest in
     let place : ℕ = position_or_len is_signals (numbered 1 (board_lines b) ++ line ∷ rest) in
     let few = h.subs.high in
-    ap (λ r. at_line 1 (r >>= λ (v : ℕ). Ok v) >>= λ version. at_line 2 (limited (nat_le (length b.name) 32) b.name) >>= λ name. fixed end (codes "subdevice") any_words blocks >>= λ any. blocks_from version end 0 blocks >>= λ subs. Ok (record { version = version; name = name; subs = subs }, place)) (version_back b.version h.version)
+    ap (λ r. r >>= λ (version : ℕ). at_line 2 (limited (nat_le (length b.name) 32) b.name) >>= λ name. fixed end (codes "subdevice") any_words blocks >>= λ any. blocks_from version end 0 blocks >>= λ subs. Ok (record { version = version; name = name; subs = subs }, place))
+    (version_back b.version end (numbered 2 (name_line b.name ∷ flat_map sub_lines b.subs) ++ line ∷ rest) h.version)
     ∙ ap (λ t. at_line 2 (limited t b.name) >>= λ name. fixed end (codes "subdevice") any_words blocks >>= λ any. blocks_from b.version end 0 blocks >>= λ subs. Ok (record { version = b.version; name = name; subs = subs }, place)) (less_33 (length b.name) h.name.high)
     ∙ ap (λ x. x >>= λ (any : Bool). blocks_from b.version end 0 blocks >>= λ subs. Ok (record { version = b.version; name = b.name; subs = subs }, place)) (first_block end 3 b.subs (line ∷ rest) h.subs.low)
     ∙ ap (λ x. x >>= λ subs. Ok (record { version = b.version; name = b.name; subs = subs }, place)) (blocks_back b.version end 0 3 b.subs line rest (subs_fit b.version b.subs h.blocks sound) (omega arith) e)

@@ -167,7 +167,7 @@ name_size name h =
     record { low = grind (arith, nat_tests, w.0); high = grind (arith, nat_tests, n.1) }
 
 -- a board that is read is one
-pub board_keeps : (end version : ℕ) (lines : List LineText) (any : Bool) (name : List ℕ) (subs : List SubText) → IsFrom1To 2 version → is_name name ≡ true →
+pub board_keeps : (end version : ℕ) (lines : List LineText) (any : Bool) (name : List ℕ) (subs : List SubText) → IsFrom1To 3 version → is_name name ≡ true →
     fixed end (codes "subdevice") any_words lines ≡ Ok any → blocks_from version end 0 lines ≡ Ok subs → IsSoundBoard (record { version = version; name = name; subs = subs })
 board_keeps end version lines any name subs v h e f = record {
   version = v;

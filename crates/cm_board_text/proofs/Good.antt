@@ -4,30 +4,37 @@ use Rattle.std.specs.Result.{IfOk}
 use Rattle.std.specs.List.{list_all, list_any}
 use Rattle.std.specs.Str.{bytes_eq}
 use Rattle.std.proofs.lemmas.Bool.{eqb-true, eq-eqb, lt-ltb, ltb-true}
+use Rattle.std.proofs.lemmas.List.{length-map}
 use Rattle.std.proofs.lemmas.List.Elements.{filter-append}
 use Rattle.std.proofs.lemmas.List.Folds.{list_all-append}
 use Rattle.cm_base.specs.Lines.{LineText}
 use Rattle.cm_base.specs.Numbers.{number_of, signed_of}
-use Rattle.cm_base.specs.Reading.{◌>>=◌, at_line, read_each}
+use Rattle.cm_base.specs.LineView.{line_view}
+use Rattle.cm_base.specs.Reading.{◌>>=◌, at_line, read_each, seen}
 use Rattle.cm_base.specs.Words.{is_int, limited, number_below, number_in, or_fault, signed_number, source_in, source_of, sources_in}
 use Rattle.cm_base.specs.declared.faults.Fault.{Fault}
 use Rattle.cm_base.specs.declared.faults.Fault.TheVariants as faults
+use Rattle.cm_base.specs.declared.lines.Line.{Line}
 use Rattle.cm_base.proofs.Bools.{and_true, both}
 use Rattle.cm_board.specs.Items.{ItemText}
 use Rattle.cm_board.specs.Kept.{IsWhole, are_kept, is_among, is_good, is_kept, is_source, is_within, keeps, set_in, slots}
 use Rattle.cm_board.specs.Rules.{keeps_rule}
-use Rattle.cm_board_text.specs.Reading.{Found, admitted, form_of, form_of_words, form_or, found_from, completed, is_begun, is_fixed, is_form, item_after, items_said, place_from, read_word, values_after}
+use Rattle.cm_board_text.specs.FoundView.{found_text}
+use Rattle.cm_board_text.specs.Reading.{Found, admitted, begins_form, completed, form_of, form_of_words, found_from, is_begun, is_form, item_after, items_said, place_from, read_word, values_after}
 use Rattle.cm_board_text.specs.IsTable.{all_apart, are_rows, is_listed, is_table}
 use Rattle.cm_board_text.specs.Kept.{AreItems}
-use Rattle.cm_board.specs.Table.{FormText, TableText, WordText, Fixed, Number, Signed, Sources, Source, Name, Channel, form_at, laid, may_stand, place_of, row_at}
+use Rattle.cm_board.specs.Table.{FormText, TableText, WordText, Fixed, Number, Signed, Sources, Source, Name, Channel, form_at, laid, may_stand, place_of, row_at, table_text, word_text}
 use Rattle.cm_board.specs.Slots.{lacks, of_row, takes, whole}
+use Rattle.cm_board.specs.declared.table.Form.{Form}
 use Rattle.cm_board.specs.declared.table.Head.{Head}
 use Rattle.cm_board.specs.declared.table.Limits.{Limits}
 use Rattle.cm_board.specs.declared.table.Row.{Row}
+use Rattle.cm_board.specs.declared.table.Table.{Table}
 use Rattle.cm_board.specs.declared.table.Value.{Value}
 use Rattle.cm_board_text.proofs.Filled.{is_whole}
 use Rattle.cm_board_text.proofs.Laid.{IsPlaced, placed}
 use Rattle.cm_board_text.proofs.OfRow.{few_all, own}
+use Rattle.cm_board_text.proofs.WordsBack.{is_fixed}
 
 -- what holds of a value that is read from another
 then_ok : {E A B : Type 0} (Q : A → Type 0) (P : B → Type 0) (read : Result A E) (f : A → Result B E) → IfOk read Q → ((x : A) → Q x → IfOk (f x) P) →
@@ -35,39 +42,43 @@ then_ok : {E A B : Type 0} (Q : A → Type 0) (P : B → Type 0) (read : Result 
 then_ok Q P (Ok x) f h k = k x h
 then_ok Q P (Err e) f h k = tt
 
--- a form that is found is one of the table that may stand in the block
-record IsForm (rows : List Row) (head : Head) (n : ℕ) (forms : List FormText) (f : Found) : Type 0 where
+-- a form that is found is one of the table that may stand in the block, with as many words
+record IsForm (rows : List Row) (head : Head) (ws : List (List ℕ)) (n : ℕ) (forms : List FormText) (f : Found) : Type 0 where
   pub k : ℕ
   pub at : f.at ≡ n + k
   pub below : k < length forms
   pub form : form_at k forms ≡ f.form
   pub stands : may_stand head (row_at f.form.row rows) ≡ true
+  pub many : length ws ≡ length f.form.words
 
 some_is : (a b : Found) → ◌≡◌ {A = Option Found} (Some a) (Some b) → a ≡ b
 some_is a b e = cc
 
 found_is : (rows : List Row) (head : Head) (ws : List (List ℕ)) (n : ℕ) (forms : List FormText) (f : Found) → found_from rows head ws n forms ≡ Some f →
-    IsForm rows head n forms f
+    IsForm rows head ws n forms f
 found_is rows head ws n [] f e = cc
-found_is rows head ws n (form ∷ forms) f e = by (is_form form.words ws) (may_stand head (row_at form.row rows)) refl e (found_is rows head ws (n + 1) forms f)
+found_is rows head ws n (form ∷ forms) f e =
+    by (is_form form.words ws) (may_stand head (row_at form.row rows)) refl refl e (found_is rows head ws (n + 1) forms f)
   where
-    later : IsForm rows head (n + 1) forms f → IsForm rows head n (form ∷ forms) f
-    later i = record { k = suc i.k; at = i.at ∙ omega arith; below = omega (arith, i.below); form = i.form; stands = i.stands }
+    later : IsForm rows head ws (n + 1) forms f → IsForm rows head ws n (form ∷ forms) f
+    later i = record { k = suc i.k; at = i.at ∙ omega arith; below = omega (arith, i.below); form = i.form; stands = i.stands; many = i.many }
 
-    by : (a b : Bool) → may_stand head (row_at form.row rows) ≡ b →
+    by : (a b : Bool) → is_form form.words ws ≡ a → may_stand head (row_at form.row rows) ≡ b →
         cond (a && b) (Some (record { at = n; form = form })) (found_from rows head ws (n + 1) forms) ≡ Some f →
-        (found_from rows head ws (n + 1) forms ≡ Some f → IsForm rows head (n + 1) forms f) → IsForm rows head n (form ∷ forms) f
-    by true true s e more =
+        (found_from rows head ws (n + 1) forms ≡ Some f → IsForm rows head ws (n + 1) forms f) → IsForm rows head ws n (form ∷ forms) f
+    by true true i s e more =
         let same : record { at = n; form = form } ≡ f = some_is (record { at = n; form = form }) f e in
+        let many = eqb-true (length ws) (length form.words) (both (length ws == length form.words) (begins_form form.words ws) i).0 in
         record {
           k = 0;
           at = sym (ap (λ (g : Found). g.at) same) ∙ omega arith;
           below = omega arith;
           form = ap (λ (g : Found). g.form) same;
           stands = ap (λ (g : Found). may_stand head (row_at g.form.row rows)) (sym same) ∙ s;
+          many = many ∙ ap (λ (g : Found). length g.form.words) same;
         }
-    by true false s e more = later (more e)
-    by false b s e more = later (more e)
+    by true false i s e more = later (more e)
+    by false b i s e more = later (more e)
 
 -- the form of a line, with as many words as it has
 record IsLine (t : TableText) (head : Head) (words : List (List ℕ)) (f : Found) : Type 0 where
@@ -79,17 +90,18 @@ record IsLine (t : TableText) (head : Head) (words : List (List ℕ)) (f : Found
 words_ok : (t : TableText) (head : Head) (ws : List (List ℕ)) → IfOk (form_of_words t head ws) (IsLine t head ws)
 words_ok t head ws = by (found_from t.rows head ws 0 t.forms) refl
   where
-    count : (f : Found) (b : Bool) → IsForm t.rows head 0 t.forms f → (length ws == length f.form.words) ≡ b →
-        IfOk (cond b (Ok f) (Err faults.BadLine)) (IsLine t head ws)
-    count f true i e =
-        let same : i.k ≡ f.at = omega (arith, i.at) in
-        record { below = omega (arith, i.below, same); form = ap (λ (m : ℕ). form_at m t.forms) (sym same) ∙ i.form; stands = i.stands; many = eqb-true (length ws) (length f.form.words) e }
-    count f false i e = tt
-
     by : (o : Option Found) → found_from t.rows head ws 0 t.forms ≡ o →
-        IfOk (form_or (cond (list_any (is_begun t.rows head ws) t.forms) faults.BadLine faults.Unknown) ws o) (IsLine t head ws)
+        IfOk (or_fault (cond (list_any (is_begun t.rows head ws) t.forms) faults.BadLine faults.Unknown) o) (IsLine t head ws)
     by None e = tt
-    by (Some f) e = count f (length ws == length f.form.words) (found_is t.rows head ws 0 t.forms f e) refl
+    by (Some f) e =
+        let i = found_is t.rows head ws 0 t.forms f e in
+        let same : i.k ≡ f.at = omega (arith, i.at) in
+        record {
+          below = omega (arith, i.below, same);
+          form = ap (λ (m : ℕ). form_at m t.forms) (sym same) ∙ i.form;
+          stands = i.stands;
+          many = i.many;
+        }
 
 line_ok : (t : TableText) (head : Head) (line : LineText) → IfOk (form_of t head line) (IsLine t head line.words)
 line_ok t head line = by line.bad
@@ -97,6 +109,19 @@ line_ok t head line = by line.bad
     by : (b : Bool) → IfOk (cond b (Err faults.BadLine) (form_of_words t head line.words)) (IsLine t head line.words)
     by true = tt
     by false = words_ok t head line.words
+
+ok_is : {E A : Type 0} (x y : A) → ◌≡◌ {A = Result A E} (Ok x) (Ok y) → x ≡ y
+ok_is x y e = cc
+
+-- the same of a line and its form in the code
+pub as_many : (t : Table) (head : Head) (line : Line) (number : ℕ) (read : Result (ℕ × Form) Fault) (f : ℕ × Form) →
+    seen found_text read ≡ form_of (table_text t) head (line_view line) → at_line number read ≡ Ok f → length line.words.items ≡ length f.1.words.now
+as_many t head line number (Err fault) f e h = cc
+as_many t head line number (Ok g) f e h =
+    let i : IsLine (table_text t) head (line_view line).words (found_text g) =
+    subst (λ r. IfOk r (IsLine (table_text t) head (line_view line).words)) (sym e) (line_ok (table_text t) head (line_view line)) in
+    sym (length-map line.words.items (λ word. word.now)) ∙ i.many ∙ length-map g.1.words.now word_text
+    ∙ ap (λ (g : ℕ × Form). length g.1.words.now) (ok_is g f h)
 
 -- what a word may say
 SaidBy : Head → WordText → Option Value → Type 0
@@ -155,8 +180,8 @@ unfolding SaidBy
 word_ok head (Fixed key) w = refl
 word_ok head (Number l) w = then_ok (λ n. is_within l n ≡ true) (SaidBy head (Number l)) (number_in l.least l.most w) _ (number_ok l w) (λ n h. h)
 word_ok head Signed w = then_ok (λ z. is_int z ≡ true) (SaidBy head Signed) (signed_number w) _ (signed_ok w) (λ z h. h)
-word_ok head (Sources first second) w =
-    then_ok (λ n. is_among (set_in head first second) n ≡ true) (SaidBy head (Sources first second)) (sources_in (set_in head first second) w) _ (sources_ok (set_in head first second) w) (λ n h. h)
+word_ok head (Sources sets) w =
+    then_ok (λ n. is_among (set_in head.version sets) n ≡ true) (SaidBy head (Sources sets)) (sources_in (set_in head.version sets) w) _ (sources_ok (set_in head.version sets) w) (λ n h. h)
 word_ok head Source w = then_ok (λ n. is_source n ≡ true) (SaidBy head Source) (source_in 511 w) _ (source_ok w) (λ n h. h)
 word_ok head (Name names) w =
     then_ok (λ m. m < 0 + length names) (SaidBy head (Name names)) (or_fault faults.Unknown (place_from 0 w names)) _ (place_ok 0 w names) (λ m h. lt-ltb m (length names) (omega (arith, h)))
@@ -179,7 +204,7 @@ fixed_kept : (head : Head) (kind : WordText) (kinds : List WordText) (more : Lis
 fixed_kept head (Fixed key) kinds more h k = k
 fixed_kept head (Number l) kinds more h k = cc
 fixed_kept head Signed kinds more h k = cc
-fixed_kept head (Sources first second) kinds more h k = cc
+fixed_kept head (Sources sets) kinds more h k = cc
 fixed_kept head Source kinds more h k = cc
 fixed_kept head (Name names) kinds more h k = cc
 fixed_kept head Channel kinds more h k = cc

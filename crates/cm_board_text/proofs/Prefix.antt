@@ -12,7 +12,7 @@ use Rattle.cm_base.specs.declared.faults.Refused.{Refused}
 use Rattle.cm_base.proofs.Bools.{both, neither, not_true}
 use Rattle.cm_base.proofs.Refusal.{keyed}
 use Rattle.cm_board.specs.Board.{BoardText, SubText}
-use Rattle.cm_board_text.specs.BoardPart.{any_words, block_at, block_lines, blocks_from, board_of, ends_block, is_signals, is_subdevice, lines_after, name_words, next_block, version_words}
+use Rattle.cm_board_text.specs.BoardPart.{any_words, block_at, block_lines, blocks_from, board_of, ends_block, is_signals, is_subdevice, is_wide, lines_after, name_words, next_block, version_of, version_words, wide_words}
 use Rattle.cm_board_text.proofs.BoardKept.{one_key}
 
 -- the lines up to the first `signals` line, and that line
@@ -152,7 +152,32 @@ from_name_kept version end place lines = after_first end (codes "board") name_wo
     apart : codes "signals" ≡ codes "board" → ⊥
     apart e = cc
 
-step_by_step : (end : ℕ) (lines : List LineText) → board_of end lines ≡ (fixed end (codes "comedi") version_words lines >>= λ version. from_name version end (position_or_len is_signals lines) (drop 1 lines))
+-- the first line is among them
+wide_kept : (lines : List LineText) → is_wide (part_lines lines) ≡ is_wide lines
+unfolding part_lines
+wide_kept [] = refl
+wide_kept (line ∷ rest) = refl
+
+-- the line of the version, and what comes after it
+after_version : {Y : Type 0} (end : ℕ) (f : List LineText → ℕ → Result Y Refused) → ((lines : List LineText) (version : ℕ) → f (part_lines lines) version ≡ f lines version) →
+    (lines : List LineText) → (version_of end (part_lines lines) >>= f (drop 1 (part_lines lines))) ≡ (version_of end lines >>= f (drop 1 lines))
+after_version {Y = Y} end f kept lines =
+    ap (λ wide. version_by wide (part_lines lines) >>= f (drop 1 (part_lines lines))) (wide_kept lines) ∙ by (is_wide lines)
+  where
+    version_by : Bool → List LineText → Result ℕ Refused
+    version_by wide lines = cond wide (fixed end (codes "zendrouz") wide_words lines) (fixed end (codes "comedi") version_words lines)
+
+    not_wide : codes "signals" ≡ codes "zendrouz" → ⊥
+    not_wide e = cc
+
+    not_first : codes "signals" ≡ codes "comedi" → ⊥
+    not_first e = cc
+
+    by : (wide : Bool) → (version_by wide (part_lines lines) >>= f (drop 1 (part_lines lines))) ≡ (version_by wide lines >>= f (drop 1 lines))
+    by true = after_first end (codes "zendrouz") wide_words f not_wide kept lines
+    by false = after_first end (codes "comedi") version_words f not_first kept lines
+
+step_by_step : (end : ℕ) (lines : List LineText) → board_of end lines ≡ (version_of end lines >>= λ version. from_name version end (position_or_len is_signals lines) (drop 1 lines))
 unfolding from_name from_blocks
 step_by_step end [] = refl
 step_by_step end (line ∷ []) = refl
@@ -161,12 +186,9 @@ step_by_step end (line ∷ next ∷ rest) = refl
 prefix_said : (end : ℕ) (lines : List LineText) → board_of end (part_lines lines) ≡ board_of end lines
 prefix_said end lines =
     step_by_step end (part_lines lines)
-    ∙ ap (λ (n : ℕ). fixed end (codes "comedi") version_words (part_lines lines) >>= λ version. from_name version end n (drop 1 (part_lines lines))) (place_kept lines)
-    ∙ after_first end (codes "comedi") version_words (λ ls version. from_name version end (position_or_len is_signals lines) ls) apart (λ ls version. from_name_kept version end (position_or_len is_signals lines) ls) lines
+    ∙ ap (λ (n : ℕ). version_of end (part_lines lines) >>= λ version. from_name version end n (drop 1 (part_lines lines))) (place_kept lines)
+    ∙ after_version end (λ ls version. from_name version end (position_or_len is_signals lines) ls) (λ ls version. from_name_kept version end (position_or_len is_signals lines) ls) lines
     ∙ sym (step_by_step end lines)
-  where
-    apart : codes "signals" ≡ codes "comedi" → ⊥
-    apart e = cc
 
 -- the lines up to the `signals` line are read as all lines are
 pub prefix_read : (end : ℕ) (lines : List LineText) → board_of end (take (position_or_len is_signals lines + 1) lines) ≡ board_of end lines

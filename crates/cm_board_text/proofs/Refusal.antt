@@ -1,5 +1,5 @@
 -- What is refused of a board part is the first line that fails.
-use Rattle.std.proofs.Common.{◌≡◌, ℕ, zero, suc, ◌+◌, ◌≤◌, Bool, true, false, not, ◌||◌, List, [], ◌∷◌, ◌++◌, length, take, drop, refl, sym, ap, ap₂, subst, ◌∙◌, Result, Ok, Err, codes, arith, append_assoc, append-nil, length-drop, inl, inr, ◌⊎◌}
+use Rattle.std.proofs.Common.{◌≡◌, ℕ, zero, suc, ◌+◌, ◌≤◌, Bool, true, false, cond, not, ◌||◌, List, [], ◌∷◌, ◌++◌, length, take, drop, refl, sym, ap, ap₂, subst, ◌∙◌, Result, Ok, Err, codes, arith, append_assoc, append-nil, length-drop, inl, inr, ◌⊎◌}
 use Rattle.std.specs.List.{position_or_len}
 use Rattle.std.proofs.lemmas.Bool.{cond-true}
 use Rattle.std.proofs.lemmas.List.{take-append-drop}
@@ -19,7 +19,7 @@ use Rattle.cm_board.specs.BoardTable.{board_table}
 use Rattle.cm_board.specs.Items.{ItemText}
 use Rattle.cm_board.specs.declared.table.Head.{Head}
 use Rattle.cm_board_text.specs.Block.{finished}
-use Rattle.cm_board_text.specs.BoardPart.{any_words, block_at, block_lines, blocks_from, board_of, ends_block, head_after, is_between, is_signals, is_subdevice, lines_after, name_words, version_words}
+use Rattle.cm_board_text.specs.BoardPart.{any_words, block_at, block_lines, blocks_from, board_of, ends_block, head_after, is_between, is_signals, is_subdevice, lines_after, name_words, version_of, version_words, wide_words}
 use Rattle.cm_board_text.specs.Refusal.{FirstIsRefused, IsFirstFault}
 use Rattle.cm_board_text.specs.Reading.{item_after, items_said}
 use Rattle.cm_board_text.proofs.Blocks.{between_blocks, first_of_two, none_pass, skip_block}
@@ -261,7 +261,7 @@ blocks_said version end place name lines = fixed end (codes "subdevice") any_wor
 
 -- what two lines say before the blocks
 record AreFirst (first second : LineText) (version : ℕ) (name : List ℕ) : Type 0 where
-  one : fixed 0 (codes "comedi") version_words (first ∷ []) ≡ Ok version
+  one : version_of 0 (first ∷ []) ≡ Ok version
   two : fixed 0 (codes "board") name_words (second ∷ []) ≡ Ok name
 
 after_two : (end : ℕ) (first second : LineText) (version : ℕ) (name : List ℕ) (lines : List LineText) → AreFirst first second version name → board_of end (first ∷ second ∷ lines) ≡ blocks_said version end (position_or_len is_signals (first ∷ second ∷ lines)) name lines
@@ -312,24 +312,33 @@ board_fails end first second line rest version name any refused a f b = record {
 after_version : ℕ → ℕ → ℕ → List LineText → Result (BoardText × ℕ) Refused
 after_version version end place lines = fixed end (codes "board") name_words lines >>= λ name. blocks_said version end place name (drop 1 lines)
 
-one_by_one : (end : ℕ) (first : LineText) (lines : List LineText) → board_of end (first ∷ lines) ≡ (fixed end (codes "comedi") version_words (first ∷ lines) >>= λ version. after_version version end (position_or_len is_signals (first ∷ lines)) lines)
+one_by_one : (end : ℕ) (first : LineText) (lines : List LineText) → board_of end (first ∷ lines) ≡ (version_of end (first ∷ lines) >>= λ version. after_version version end (position_or_len is_signals (first ∷ lines)) lines)
 unfolding after_version blocks_said
 one_by_one end first [] = refl
 one_by_one end first (second ∷ lines) = refl
 
+-- the version is refused at its line
+version_number : (end : ℕ) (first : LineText) (lines : List LineText) (refused : Refused) → version_of end (first ∷ lines) ≡ Err refused → refused.line ≡ first.number
+version_number end first lines refused f = by (begins (codes "zendrouz") first) f
+  where
+    by : (wide : Bool) → cond wide (fixed end (codes "zendrouz") wide_words (first ∷ lines)) (fixed end (codes "comedi") version_words (first ∷ lines)) ≡ Err refused →
+        refused.line ≡ first.number
+    by true f = fixed_number end (codes "zendrouz") wide_words first lines refused f
+    by false f = fixed_number end (codes "comedi") version_words first lines refused f
+
 -- the line with the version fails
-version_fails : (end : ℕ) (first : LineText) (lines : List LineText) (refused : Refused) → fixed end (codes "comedi") version_words (first ∷ lines) ≡ Err refused → IsFirstFault end (first ∷ lines) refused
+version_fails : (end : ℕ) (first : LineText) (lines : List LineText) (refused : Refused) → version_of end (first ∷ lines) ≡ Err refused → IsFirstFault end (first ∷ lines) refused
 version_fails end first lines refused f = record {
   good = [];
   rest = first ∷ lines;
   parts = refl;
-  line = fixed_number end (codes "comedi") version_words first lines refused f;
+  line = version_number end first lines refused f;
   before = λ other. (faults.Missing, refl);
   here = one_by_one end first [] ∙ ap (λ r. r >>= λ version. after_version version end (position_or_len is_signals (first ∷ [])) []) f;
 }
 
 -- the line with the name fails, or is missing
-name_fails : (end : ℕ) (first : LineText) (lines : List LineText) (version : ℕ) (refused : Refused) → fixed end (codes "comedi") version_words (first ∷ []) ≡ Ok version → fixed end (codes "board") name_words lines ≡ Err refused → IsFirstFault end (first ∷ lines) refused
+name_fails : (end : ℕ) (first : LineText) (lines : List LineText) (version : ℕ) (refused : Refused) → version_of end (first ∷ []) ≡ Ok version → fixed end (codes "board") name_words lines ≡ Err refused → IsFirstFault end (first ∷ lines) refused
 unfolding after_version
 name_fails end first lines version refused v f = record {
   good = first ∷ [];
@@ -391,7 +400,7 @@ blocks_wrong end first second (line ∷ rest) version name refused a e = by (fix
         (blocks_fail (length (line ∷ rest)) version end 0 (line ∷ rest) refused (omega arith) (ap (λ b. b || is_signals line) begins) fails)
 
 -- what comes after the version fails
-after_version_fails : (end : ℕ) (first : LineText) (lines : List LineText) (version : ℕ) (refused : Refused) → fixed end (codes "comedi") version_words (first ∷ []) ≡ Ok version → after_version version end (position_or_len is_signals (first ∷ lines)) lines ≡ Err refused → IsFirstFault end (first ∷ lines) refused
+after_version_fails : (end : ℕ) (first : LineText) (lines : List LineText) (version : ℕ) (refused : Refused) → version_of end (first ∷ []) ≡ Ok version → after_version version end (position_or_len is_signals (first ∷ lines)) lines ≡ Err refused → IsFirstFault end (first ∷ lines) refused
 unfolding after_version
 after_version_fails end first [] version refused v e = name_fails end first [] version refused v (ap (λ (r : Refused). Err r) (err_is _ _ e))
 after_version_fails end first (second ∷ lines) version refused v e = by (fixed end (codes "board") name_words (second ∷ lines)) refl
@@ -414,9 +423,9 @@ first_is_refused end [] refused e = record {
   before = λ other. (faults.Missing, refl);
   here = e;
 }
-first_is_refused end (first ∷ lines) refused e = by_version (fixed end (codes "comedi") version_words (first ∷ lines)) refl
+first_is_refused end (first ∷ lines) refused e = by_version (version_of end (first ∷ lines)) refl
   where
-    by_version : (said : Result ℕ Refused) → fixed end (codes "comedi") version_words (first ∷ lines) ≡ said → IsFirstFault end (first ∷ lines) refused
+    by_version : (said : Result ℕ Refused) → version_of end (first ∷ lines) ≡ said → IsFirstFault end (first ∷ lines) refused
     by_version (Err r) f =
         let same : r ≡ refused = err_is _ _ (sym (ap (λ r. r >>= λ version. after_version version end (position_or_len is_signals (first ∷ lines)) lines) f) ∙ sym (one_by_one end first lines) ∙ e) in
         version_fails end first lines refused (f ∙ ap (λ (r : Refused). Err r) same)

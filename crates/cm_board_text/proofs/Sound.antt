@@ -1,29 +1,31 @@
 -- A whole block whose lines keep the rules is a subdevice.
-use Rattle.std.proofs.Common.{◌≡◌, ℕ, ◌-◌, ◌*◌, ◌^◌, ◌%◌, ◌<◌, ◌≤◌, Bool, true, false, not, ◌||◌, List, [], ◌∷◌, map, refl, ◌∙◌, IsTrue, min, nat_le, ◌==◌, arith}
+use Rattle.std.proofs.Common.{◌≡◌, ℕ, ◌-◌, ◌*◌, ◌^◌, ◌%◌, ◌<◌, ◌≤◌, Bool, true, false, not, ◌||◌, List, [], ◌∷◌, map, refl, ◌∙◌, codes, min, nat_le, ◌==◌, arith}
 use Rattle.std.specs.List.{list_all}
 use Rattle.std.proofs.lemmas.List.{length-map}
 use Rattle.std.proofs.lemmas.Bool.Decides.{nat_tests}
 use Rattle.std.proofs.lemmas.Bool.{eq-eqb, eqb-true, le-leb, leb-true}
 use Rattle.std.proofs.lemmas.List.Folds.{list_all-map}
 use Rattle.cm_base.proofs.Bools.{and_true, both}
-use Rattle.cm_base.specs.Source.{allows, ext}
+use Rattle.cm_base.specs.Source.{allows, ext, timer}
 use Rattle.cm_board.proofs.ChannelNumbers.{greatest}
-use Rattle.cm_board.specs.Board.{IsFrom1To, AreTimes, HasLine, IsBlock, IsSoundSub, SubText, fits_kind, fits_lines, has_channels, has_text, is_bits_ok, is_fifo, is_munge, is_pair}
-use Rattle.cm_board.specs.BoardTable.{board_table}
+use Rattle.cm_board.specs.Board.{AreOnTick, AreTimes, FitsTimed, HasLine, HoldsEntries, HoldsList, IsBlock, IsFrom1To, IsSoundSub, SubText, down, fits_kind, fits_lines, has_channels, has_text, is_bits_ok, is_fifo, is_munge, is_pair, up}
+use Rattle.cm_board.specs.BoardTable.{board_forms, board_table}
 use Rattle.cm_board.specs.Items.{ItemText}
 use Rattle.cm_board.specs.Kept.{IsWhole, is_within}
 use Rattle.cm_board.specs.Said.{fifo_said, first_or, forbid_said, munge_by_form, number_at, number_of, range_said, sub_of}
 use Rattle.cm_board.specs.Slots.{of_row}
+use Rattle.cm_board.specs.Table.{Number, form_at}
 use Rattle.cm_board.specs.declared.board.Kind.{Kind}
 use Rattle.cm_board.specs.declared.board.Kind.TheVariants as kinds
 use Rattle.cm_board.specs.declared.board.Munge.TheVariants as munges
 use Rattle.cm_board.specs.declared.lines.TheConstants as lines
 use Rattle.cm_board.specs.declared.table.Head.{Head}
-use Rattle.cm_board_text.specs.Block.{has_line, is_board_ok, is_lines_ok, is_list_ok, is_ticks_ok}
+use Rattle.cm_board_text.specs.Block.{are_on_tick, fits_timed, has_line, is_board_ok, is_entries_ok, is_lines_ok, is_list_ok, is_ticks_ok}
 use Rattle.cm_board_text.proofs.SoundBlock.{bare, commands_fit, fifo_fits, rows_of, some_ranges}
 use Rattle.cm_board_text.proofs.OfRow.{few_at}
-use Rattle.cm_board_text.proofs.SoundChan.{all_ranges, code_of_bits, first_passes, sets_rise, sets_sound, units}
-use Rattle.cm_board_text.proofs.SoundRows.{AreGood, are_times, bits_kept, buffer_kept, convert_kept, fifo_kept, forbid_kept, is_range, limits, lines_kept, list_kept, munge_kept, range_kept, scan_kept, scans_kept, tick_kept}
+use Rattle.cm_board_text.proofs.Shapes.{word_at}
+use Rattle.cm_board_text.proofs.SoundChan.{all_ranges, all_so, code_of_bits, first_passes, second_true, sets_rise, sets_sound, units}
+use Rattle.cm_board_text.proofs.SoundRows.{AreGood, are_times, fifo_kept, forbid_kept, is_only, is_range, limits, munge_kept, number_fits, or_right, range_kept, times_fit}
 
 -- what holds of what a row may say and of its default
 first_keeps : {X Y : Type 0} (q : Y → Bool) (f : X → Y) (d : Y) (xs : List X) → q d ≡ true → list_all (λ x. q (f x)) xs ≡ true →
@@ -37,12 +39,13 @@ two_keep : {X : Type 0} (q : ℕ → ℕ → Bool) (f g : X → ℕ) (d e : ℕ)
 two_keep q f g d e [] h k = h
 two_keep q f g d e (x ∷ xs) h k = (both (q (f x) (g x)) (list_all (λ x. q (f x) (g x)) xs) k).0
 
--- the number of a row, or its default, is within limits
-number_keeps : (place least most default : ℕ) (items : List ItemText) → is_within (limits least most) default ≡ true →
-    list_all (λ item. is_within (limits least most) (number_at 0 item.values)) (of_row place items) ≡ true →
-    is_within (limits least most) (number_of place 0 default items) ≡ true
-number_keeps place least most default items h k =
-    first_keeps (is_within (limits least most)) (λ (item : ItemText). number_at 0 item.values) default (of_row place items) h k
+-- the number of a row of one form, or its default, is within the limits of that form
+number_keeps : (head : Head) (items : List ItemText) → AreGood head items → (row at least most default : ℕ) → row < lines.ROW_COUNT →
+    is_only row at 0 board_forms ≡ true → word_at 0 (form_at at board_forms).words ≡ Number (limits least most) →
+    is_within (limits least most) default ≡ true → is_within (limits least most) (number_of row 0 default items) ≡ true
+number_keeps head items h row at least most default below only word fits =
+    first_keeps (is_within (limits least most)) (λ (item : ItemText). number_at 0 item.values) default (of_row row items) fits
+    (number_fits head row at least most items h below only word)
 
 -- the two times of a row, or their defaults, are in order
 times_keep : (place : ℕ) (items : List ItemText) → list_all (λ item. are_times (number_at 0 item.values) (number_at 1 item.values)) (of_row place items) ≡ true →
@@ -59,27 +62,58 @@ few : (kind : Kind) (n : ℕ) → has_channels kind n ≡ true → n ≤ 64
 few kinds.Unused n h = grind (arith, nat_tests)
 few other n h = leb-true n 64 (both (nat_le 1 n) (nat_le n 64) h).1
 
-times : (tick least most : ℕ) → are_times least most ≡ true → (least % tick == 0) ≡ true → (most % tick == 0) ≡ true → AreTimes tick least most
-times tick least most h p q =
+times : (version tick least most : ℕ) → are_times least most ≡ true → nat_le (up tick least) most ≡ true → (version ≤ 2 → AreOnTick tick least most) →
+    AreTimes version tick least most
+times version tick least most h possible ticks =
     let b = both _ (nat_le least most) h in
     let t = both (is_within (limits 1 4000000000) least) (is_within (limits 1 4000000000) most) b.0 in
     record {
       some = (within 1 4000000000 least t.0).0;
       order = leb-true least most b.1;
       high = (within 1 4000000000 most t.1).1;
-      least_ticks = eqb-true (least % tick) 0 p;
-      most_ticks = eqb-true (most % tick) 0 q;
+      possible = leb-true (up tick least) most possible;
+      ticks = ticks;
     }
 
-line_for : (lines mask : ℕ) → has_line lines mask ≡ true → HasLine lines mask
-line_for lines mask h = λ allowed. said (allows mask ext) allowed h
+-- both times of a scan and of a conversion, but not in the wider texts
+on_tick : (s : SubText) → (nat_le 3 s.version || are_on_tick s) ≡ true → s.version ≤ 2 →
+    AreOnTick s.tick s.scan_min s.scan_max × AreOnTick s.tick s.conv_min s.conv_max
+on_tick s h old =
+    let t1 = both _ (s.conv_max % s.tick == 0) (second_true (nat_le 3 s.version) (are_on_tick s) (not_wide s.version old) h) in
+    let t2 = both _ (s.conv_min % s.tick == 0) t1.0 in
+    let t3 = both (s.scan_min % s.tick == 0) (s.scan_max % s.tick == 0) t2.0 in (
+      record { least_ticks = eqb-true (s.scan_min % s.tick) 0 t3.0; most_ticks = eqb-true (s.scan_max % s.tick) 0 t3.1 },
+      record { least_ticks = eqb-true (s.conv_min % s.tick) 0 t2.1; most_ticks = eqb-true (s.conv_max % s.tick) 0 t1.1 },
+    )
   where
-    said : (b : Bool) → b ≡ true → (not b || nat_le 1 lines) ≡ true → 1 ≤ lines
-    said true e h = leb-true 1 lines h
-    said false e h = cc
+    not_wide : (version : ℕ) → version ≤ 2 → nat_le 3 version ≡ false
+    not_wide version h = grind (arith, nat_tests)
+
+line_for : (lines mask : ℕ) → has_line lines mask ≡ true → HasLine lines mask
+line_for lines mask h = λ allowed. leb-true 1 lines (or_right (allows mask ext) (nat_le 1 lines) h allowed)
+
+-- what the longest scan holds
+timed_for : (s : SubText) (time : ℕ) → fits_timed s time ≡ true → FitsTimed s time
+timed_for s time h =
+    λ timed. leb-true time (down s.tick s.scan_max) (or_right (allows s.masks.scan_begin timer) (nat_le time (down s.tick s.scan_max)) h timed)
+
+holds_list : (s : SubText) → is_list_ok s ≡ true → HoldsList s
+holds_list s h =
+    let time : ℕ = up s.tick s.conv_min * s.list_max in
+    let b = both (nat_le (s.conv_min * s.list_max) s.scan_max) (not (allows s.masks.convert timer) || fits_timed s time) h in
+    record {
+      any = leb-true (s.conv_min * s.list_max) s.scan_max b.0;
+      timed = λ timed. timed_for s time (or_right (allows s.masks.convert timer) (fits_timed s time) b.1 timed);
+    }
+
+holds_entries : (s : SubText) → s.least_scan.per_entry < 2 ^ 32 → is_entries_ok s ≡ true → HoldsEntries s
+holds_entries s small h =
+    let time : ℕ = s.least_scan.per_entry * s.list_max in
+    let b = both (nat_le time s.scan_max) (fits_timed s time) h in
+    record { small = small; any = leb-true time s.scan_max b.0; timed = timed_for s time b.1 }
 
 tick_within : (head : Head) (items : List ItemText) → AreGood head items → is_within (limits 1 1000000000) (sub_of head items).tick ≡ true
-tick_within head items h = number_keeps lines.TICK 1 1000000000 1 items refl (tick_kept head items h)
+tick_within head items h = number_keeps head items h lines.TICK lines.TICK_FORM 1 1000000000 1 (omega arith) refl refl refl
 
 -- a block's tick, or the one that holds without a line, is not 0
 pub ticks_some : (head : Head) (items : List ItemText) → IsWhole board_table head items → 0 < (sub_of head items).tick
@@ -95,7 +129,7 @@ ranges_fit : (head : Head) (items : List ItemText) → AreGood head items → li
 ranges_fit head items h = list_all-map is_range (range_said 0) (of_row lines.RANGE items) ∙ range_kept head items h
 
 bits_within : (head : Head) (items : List ItemText) → AreGood head items → is_within (limits 1 24) (number_of lines.BITS 0 1 items) ≡ true
-bits_within head items h = number_keeps lines.BITS 1 24 1 items refl (bits_kept head items h)
+bits_within head items h = number_keeps head items h lines.BITS lines.BITS_FORM 1 24 1 (omega arith) refl refl refl
 
 lines_fit : (head : Head) (items : List ItemText) → AreGood head items → fits_lines (sub_of head items) ≡ true
 lines_fit head items h =
@@ -111,6 +145,17 @@ lines_fit head items h =
 largest_code : (bits : ℕ) → is_within (limits 1 24) bits ≡ true → IsFrom1To (2 ^ 24 - 1) (2 ^ min 24 bits - 1)
 largest_code bits h = let w = within 1 24 bits h in greatest (min 24 bits) (omega (arith, w.0)) (omega arith)
 
+-- the time for each entry, where a line says it, is a number of 32 bits
+entry_small : (head : Head) (items : List ItemText) → AreGood head items → (sub_of head items).least_scan.per_entry < 2 ^ 32
+entry_small head items h =
+    let said : List ItemText = of_row lines.PER_ENTRY items in
+    let each = all_so (λ (item : ItemText). is_within (limits 1 4294967295) (number_at 0 item.values)) (λ item. nat_le (number_at 0 item.values) 4294967295)
+    (λ item k. (both (nat_le 1 (number_at 0 item.values)) (nat_le (number_at 0 item.values) 4294967295) k).1) said
+    (number_fits head lines.PER_ENTRY lines.PER_ENTRY_FORM 1 4294967295 items h (omega arith) refl refl) in
+    let high = leb-true (number_of lines.PER_ENTRY 0 0 items) 4294967295
+    (first_keeps (λ n. nat_le n 4294967295) (λ (item : ItemText). number_at 0 item.values) 0 said refl each) in
+    omega (arith, high)
+
 -- what a whole block says keeps the rules of a subdevice
 pub sound : (head : Head) (items : List ItemText) → IsWhole board_table head items → 1 ≤ head.version → has_channels head.kind head.channels ≡ true →
     is_board_ok (sub_of head items) ≡ true → IsSoundSub (sub_of head items)
@@ -119,12 +164,12 @@ sound head items w version channels ok =
     let s : SubText = sub_of head items in
     let v : nat_le 1 head.version ≡ true = le-leb 1 head.version version in
     let good : AreGood head items = w.good in
-    let r1 = both _ (is_lines_ok s) ok in
+    let r0 = both _ (is_entries_ok s) ok in
+    let r1 = both _ (is_lines_ok s) r0.0 in
     let r2 = both _ (is_list_ok s) r1.0 in
     let r3 = both (is_bits_ok s) (is_ticks_ok s) r2.0 in
-    let t1 = both _ (s.conv_max % s.tick == 0) r3.1 in
-    let t2 = both _ (s.conv_min % s.tick == 0) t1.0 in
-    let t3 = both (s.scan_min % s.tick == 0) (s.scan_max % s.tick == 0) t2.0 in
+    let t1 = both _ (nat_le (up s.tick s.conv_min) s.conv_max) r3.1 in
+    let t2 = both (nat_le 3 s.version || are_on_tick s) (nat_le (up s.tick s.scan_min) s.scan_max) t1.0 in
     let e1 = both _ (has_line s.lines s.masks.stop) r1.1 in
     let e2 = both _ (has_line s.lines s.masks.scan_end) e1.0 in
     let e3 = both _ (has_line s.lines s.masks.convert) e2.0 in
@@ -134,40 +179,74 @@ sound head items w version channels ok =
       bits = r3.0;
       largest = largest_code (number_of lines.BITS 0 1 items) (bits_within head items good);
       few_channels = few head.kind head.channels channels;
-      few_ranges = omega (arith, length-map (of_row lines.RANGE items) (range_said 0), few_at 0 2 (rows_of head) items w.few (omega arith));
+      few_ranges = omega (arith, length-map (of_row lines.RANGE items) (range_said 0), few_at 0 lines.RANGE (rows_of head) items w.few (omega arith));
       ranges = all_ranges s.ranges (ranges_fit head items good);
       tick = from_1 1000000000 s.tick (tick_within head items good);
-      scan = times s.tick s.scan_min s.scan_max (times_keep lines.SCAN items (scan_kept head items good)) t3.0 t3.1;
-      convert = times s.tick s.conv_min s.conv_max (times_keep lines.CONVERT items (convert_kept head items good)) t2.1 t1.1;
-      list = from_1 256 s.list_max (number_keeps lines.LIST 1 256 1 items refl (list_kept head items good));
-      list_fits = leb-true (s.conv_min * s.list_max) s.scan_max r2.1;
-      scans = from_1 4000000000 s.scans_max (number_keeps lines.SCANS 1 4000000000 1 items refl (scans_kept head items good));
-      few_lines = (within 0 16 s.lines (number_keeps lines.LINES 0 16 0 items refl (lines_kept head items good))).1;
+      scan = times s.version s.tick s.scan_min s.scan_max
+          (times_keep lines.SCAN items (times_fit head lines.SCAN lines.SCAN_FORM (codes "scan") items good (omega arith) refl refl)) t2.1
+          (λ old. (on_tick s t2.0 old).0);
+      convert = times s.version s.tick s.conv_min s.conv_max
+          (times_keep lines.CONVERT items (times_fit head lines.CONVERT lines.CONVERT_FORM (codes "convert") items good (omega arith) refl refl)) t1.1
+          (λ old. (on_tick s t2.0 old).1);
+      list = from_1 256 s.list_max (number_keeps head items good lines.LIST lines.LIST_FORM 1 256 1 (omega arith) refl refl refl);
+      list_fits = holds_list s r2.1;
+      entries_fit = holds_entries s (entry_small head items good) r0.1;
+      scans = from_1 4000000000 s.scans_max (number_keeps head items good lines.SCANS lines.SCANS_FORM 1 4000000000 1 (omega arith) refl refl refl);
+      few_lines = (within 0 16 s.lines (number_keeps head items good lines.LINES lines.LINES_FORM 0 16 0 (omega arith) refl refl refl)).1;
       start_line = line_for s.lines s.masks.start e4.0;
       scan_begin_line = line_for s.lines s.masks.scan_begin e4.1;
       convert_line = line_for s.lines s.masks.convert e3.1;
       scan_end_line = line_for s.lines s.masks.scan_end e2.1;
       stop_line = line_for s.lines s.masks.stop e1.1;
-      buffer = from_1 65536 s.buffer (number_keeps lines.BUFFER 1 65536 1 items refl (buffer_kept head items good));
-      few_pairs = omega (arith, length-map (of_row lines.FORBID items) forbid_said, few_at 0 12 (rows_of head) items w.few (omega arith));
+      buffer = from_1 65536 s.buffer (number_keeps head items good lines.BUFFER lines.BUFFER_FORM 1 65536 1 (omega arith) refl refl refl);
+      few_pairs = omega (arith, length-map (of_row lines.FORBID items) forbid_said, few_at 0 lines.FORBID (rows_of head) items w.few (omega arith));
       chans = sets_sound head items good w.few;
       rise = sets_rise head.channels items;
       block = record { whole = w; says = refl };
     }
 
-line_kept : (lines mask : ℕ) → HasLine lines mask → has_line lines mask ≡ true
-line_kept lines mask h = by (allows mask ext) h
-  where
-    by : (b : Bool) → (IsTrue b → 1 ≤ lines) → (not b || nat_le 1 lines) ≡ true
-    by true h = le-leb 1 lines (h refl)
-    by false h = refl
+-- what holds where something else does
+where_so : (a b : Bool) → (a ≡ true → b ≡ true) → (not a || b) ≡ true
+where_so true b h = h refl
+where_so false b h = refl
 
--- its times are on the tick, and each trigger that may be external has a line
+line_kept : (lines mask : ℕ) → HasLine lines mask → has_line lines mask ≡ true
+line_kept lines mask h = where_so (allows mask ext) (nat_le 1 lines) (λ allowed. le-leb 1 lines (h allowed))
+
+-- its times are on the tick but in the wider texts, and some multiple of it is between them
 ticks_back : (s : SubText) → IsSoundSub s → is_ticks_ok s ≡ true
 ticks_back s h =
-    and_true _ _ (and_true _ _ (and_true _ _ (eq-eqb (s.scan_min % s.tick) 0 h.scan.least_ticks) (eq-eqb (s.scan_max % s.tick) 0 h.scan.most_ticks))
-    (eq-eqb (s.conv_min % s.tick) 0 h.convert.least_ticks)) (eq-eqb (s.conv_max % s.tick) 0 h.convert.most_ticks)
+    and_true _ _ (and_true _ _ (by (nat_le 3 s.version) refl) (le-leb (up s.tick s.scan_min) s.scan_max h.scan.possible))
+    (le-leb (up s.tick s.conv_min) s.conv_max h.convert.possible)
+  where
+    old : (version : ℕ) → nat_le 3 version ≡ false → version ≤ 2
+    old version e = grind (arith, nat_tests)
 
+    by : (wide : Bool) → nat_le 3 s.version ≡ wide → (wide || are_on_tick s) ≡ true
+    by true e = refl
+    by false e =
+        let scan = h.scan.ticks (old s.version e) in
+        let convert = h.convert.ticks (old s.version e) in
+        and_true _ _ (and_true _ _ (and_true _ _ (eq-eqb (s.scan_min % s.tick) 0 scan.least_ticks) (eq-eqb (s.scan_max % s.tick) 0 scan.most_ticks))
+        (eq-eqb (s.conv_min % s.tick) 0 convert.least_ticks)) (eq-eqb (s.conv_max % s.tick) 0 convert.most_ticks)
+
+-- its longest scan holds the longest list
+timed_back : (s : SubText) (time : ℕ) → FitsTimed s time → fits_timed s time ≡ true
+timed_back s time h =
+    where_so (allows s.masks.scan_begin timer) (nat_le time (down s.tick s.scan_max)) (λ timed. le-leb time (down s.tick s.scan_max) (h timed))
+
+list_back : (s : SubText) → HoldsList s → is_list_ok s ≡ true
+list_back s h =
+    let time : ℕ = up s.tick s.conv_min * s.list_max in
+    and_true _ _ (le-leb (s.conv_min * s.list_max) s.scan_max h.any)
+    (where_so (allows s.masks.convert timer) (fits_timed s time) (λ timed. timed_back s time (h.timed timed)))
+
+entries_back : (s : SubText) → HoldsEntries s → is_entries_ok s ≡ true
+entries_back s h =
+    let time : ℕ = s.least_scan.per_entry * s.list_max in
+    and_true _ _ (le-leb time s.scan_max h.any) (timed_back s time h.timed)
+
+-- each trigger that may be external has a line
 lines_back : (s : SubText) → IsSoundSub s → is_lines_ok s ≡ true
 lines_back s h =
     and_true _ _ (and_true _ _ (and_true _ _ (and_true _ _ (line_kept s.lines s.masks.start h.start_line) (line_kept s.lines s.masks.scan_begin h.scan_begin_line))
@@ -175,4 +254,5 @@ lines_back s h =
 
 -- a sound subdevice keeps the rules over the lines of a block
 pub rules_back : (sub : SubText) → IsSoundSub sub → is_board_ok sub ≡ true
-rules_back s h = and_true _ _ (and_true _ _ (and_true _ _ h.bits (ticks_back s h)) (le-leb (s.conv_min * s.list_max) s.scan_max h.list_fits)) (lines_back s h)
+rules_back s h =
+    and_true _ _ (and_true _ _ (and_true _ _ (and_true _ _ h.bits (ticks_back s h)) (list_back s h.list_fits)) (lines_back s h)) (entries_back s h.entries_fit)

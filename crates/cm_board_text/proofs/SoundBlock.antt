@@ -6,7 +6,7 @@ use Rattle.std.proofs.lemmas.Bool.{and_left, le-leb}
 use Rattle.std.proofs.lemmas.Bool.Decides.{nat_tests}
 use Rattle.cm_base.proofs.Bools.{and_true, both, neither, not_false, not_true}
 use Rattle.cm_board.specs.Board.{Masks, are_empty, are_full, fits_commands, is_bare, is_idle, is_unused, may_command, may_fifo, takes_commands}
-use Rattle.cm_board.specs.BoardTable.{board_forms, board_rows, board_table}
+use Rattle.cm_board.specs.BoardTable.{board_forms, board_rows, board_table, wide}
 use Rattle.cm_board.specs.Items.{ItemText}
 use Rattle.cm_board.specs.Kept.{IsWhole, is_good, slots}
 use Rattle.cm_board.specs.Rules.{admits}
@@ -55,7 +55,7 @@ pub some_ranges : (head : Head) (items : List ItemText) → IsWhole board_table 
     (is_unused head.kind || nat_le 1 (length (map (range_said 0) (of_row lines.RANGE items)))) ≡ true
 some_ranges head items w v =
     some_range (is_unused head.kind) (nat_le 1 head.version) (of_row lines.RANGE items) v
-    (none_at (lacks_line head (takes_of head items)) 0 2 (rows_of head) items w.full (omega arith))
+    (none_at (lacks_line head (takes_of head items)) 0 lines.RANGE (rows_of head) items w.full (omega arith))
 
 -- a FIFO stands at inputs alone
 fifo_by : (inputs : Bool) (head : Head) (xs : List ItemText) → list_all (λ (item : ItemText). nat_le 2 head.version && inputs) xs ≡ true →
@@ -129,7 +129,7 @@ none_of head items n below command only w v none = by (may_command head.kind) re
     by true e =
         let takes_not : takes_of head items ≡ false =
         taken (nat_le 1 head.version) (may_command head.kind) (takes_of head items) (of_row lines.SOURCES items) v e none
-        (none_at (lacks_line head (takes_of head items)) 0 3 (rows_of head) items w.full (omega arith)) in
+        (none_at (lacks_line head (takes_of head items)) 0 lines.SOURCES (rows_of head) items w.full (omega arith)) in
         let unused = none_at is_used 0 n (rows_of head) items takes_not (omega arith) in
         let same : 0 + n ≡ n = omega arith in
         let here : (is_command (row_at n (rows_of head)) && not (is_empty (of_row n items))) ≡ false =
@@ -155,6 +155,8 @@ idle : (head : Head) (items : List ItemText) → IsWhole board_table head items 
 idle head items w v none =
     let at_commands : (since : ℕ) → (nat_le since head.version && may_command head.kind) ≡ true → may_command head.kind ≡ true =
     λ since h. second (nat_le since head.version) (may_command head.kind) h in
+    let at_wide : (n : ℕ) → n < lines.ROW_COUNT → is_command (row_at n (rows_of head)) ≡ true → row_at n board_rows ≡ wide → of_row n items ≡ [] =
+    λ n below command is. none_of head items n below command (λ h. at_commands 3 (sym (ap (may_stand head) is) ∙ h)) w v none in
     let at_inputs : (nat_le 2 head.version && may_fifo head.kind) ≡ true → may_command head.kind ≡ true =
     λ h. inputs_command head.kind (second (nat_le 2 head.version) (may_fifo head.kind) h) in
     let tick : of_row lines.TICK items ≡ [] = none_of head items lines.TICK (omega arith) refl (at_commands 1) w v none in
@@ -168,7 +170,14 @@ idle head items w v none =
     let forbid : of_row lines.FORBID items ≡ [] = none_of head items lines.FORBID (omega arith) refl (at_commands 1) w v none in
     let invert : of_row lines.INVERT items ≡ [] = none_of head items lines.INVERT (omega arith) refl (at_commands 2) w v none in
     let fifo : of_row lines.FIFO items ≡ [] = none_of head items lines.FIFO (omega arith) refl at_inputs w v none in
-    rw (none, tick, scan, convert, list, scans, external, buffer, same_range, forbid, invert, fifo) refl
+    let rounds : of_row lines.ROUNDS items ≡ [] = at_wide lines.ROUNDS (omega arith) refl refl in
+    let half_down : of_row lines.HALF_DOWN items ≡ [] = at_wide lines.HALF_DOWN (omega arith) refl refl in
+    let per_entry : of_row lines.PER_ENTRY items ≡ [] = at_wide lines.PER_ENTRY (omega arith) refl refl in
+    let holds : of_row lines.HOLDS items ≡ [] = at_wide lines.HOLDS (omega arith) refl refl in
+    let order : of_row lines.ORDER items ≡ [] = at_wide lines.ORDER (omega arith) refl refl in
+    let same_reference : of_row lines.SAME_REFERENCE items ≡ [] = at_wide lines.SAME_REFERENCE (omega arith) refl refl in
+    let same_polarity : of_row lines.SAME_POLARITY items ≡ [] = at_wide lines.SAME_POLARITY (omega arith) refl refl in
+    rw (none, tick, scan, convert, list, scans, external, buffer, same_range, forbid, invert, fifo, rounds, half_down, per_entry, holds, order, same_reference, same_polarity) refl
 
 -- the sources that lines name
 abbrev masks_of_lines : List ItemText → Masks
@@ -181,8 +190,8 @@ masks_of_lines xs = record {
 }
 
 -- a trigger that has sources is enough
-some_source : (m : Masks) → are_full m ≡ true → not (are_empty m) ≡ true
-some_source m h =
+some_source : (version : ℕ) (m : Masks) → are_full version m ≡ true → not (are_empty m) ≡ true
+some_source version m h =
     let start : not (m.start == 0) ≡ true = (both _ _ (both _ _ (both _ _ (both _ _ (both _ _ h).0).0).0).0).0 in
     ap not (and_left _ _ (and_left _ _ (and_left _ _ (and_left _ (m.scan_begin == 0) (not_true (m.start == 0) start)))))
 
@@ -194,23 +203,23 @@ commands_by head items [] e w v =
     without (takes_commands (sub_of head items)) none (idle head items w v e)
   where
     without : (takes : Bool) → takes ≡ false → is_idle (sub_of head items) ≡ true →
-        cond takes (are_full (sub_of head items).masks && may_command head.kind) (is_idle (sub_of head items)) ≡ true
+        cond takes (are_full head.version (sub_of head items).masks && may_command head.kind) (is_idle (sub_of head items)) ≡ true
     without true f k = cc
     without false f k = k
 commands_by head items (x ∷ xs) e w v =
     let masks : (sub_of head items).masks ≡ sources_of x.values = ap masks_of_lines e in
-    let each : list_all (λ (item : ItemText). are_full (sources_of item.values)) (x ∷ xs) ≡ true =
-    ap (list_all (λ (item : ItemText). are_full (sources_of item.values))) (sym e) ∙ sources_kept head items w.good in
-    let full : are_full (sub_of head items).masks ≡ true = ap are_full masks ∙ (both (are_full (sources_of x.values)) _ each).0 in
+    let each : list_all (λ (item : ItemText). are_full head.version (sources_of item.values)) (x ∷ xs) ≡ true =
+    ap (list_all (λ (item : ItemText). are_full head.version (sources_of item.values))) (sym e) ∙ sources_kept head items w.good in
+    let full : are_full head.version (sub_of head items).masks ≡ true = ap (are_full head.version) masks ∙ (both (are_full head.version (sources_of x.values)) _ each).0 in
     let stand : list_all (λ (item : ItemText). nat_le 1 head.version && may_command head.kind) (x ∷ xs) ≡ true =
     ap (list_all (λ (item : ItemText). nat_le 1 head.version && may_command head.kind)) (sym e)
     ∙ row_stands head lines.SOURCES lines.SOURCES (own_lands lines.SOURCES (omega arith)) items w.good in
     let commands : may_command head.kind ≡ true =
     second (nat_le 1 head.version) (may_command head.kind) (both (nat_le 1 head.version && may_command head.kind) _ stand).0 in
-    takes (takes_commands (sub_of head items)) (some_source (sub_of head items).masks full) (and_true _ _ full commands)
+    takes (takes_commands (sub_of head items)) (some_source head.version (sub_of head items).masks full) (and_true _ _ full commands)
   where
-    takes : (some : Bool) → some ≡ true → (are_full (sub_of head items).masks && may_command head.kind) ≡ true →
-        cond some (are_full (sub_of head items).masks && may_command head.kind) (is_idle (sub_of head items)) ≡ true
+    takes : (some : Bool) → some ≡ true → (are_full head.version (sub_of head items).masks && may_command head.kind) ≡ true →
+        cond some (are_full head.version (sub_of head items).masks && may_command head.kind) (is_idle (sub_of head items)) ≡ true
     takes true f k = k
     takes false f k = cc
 

@@ -23,7 +23,7 @@ use Rattle.cm_board.specs.declared.table.Row.{Row}
 use Rattle.cm_board_text.proofs.OfRow.{few_at}
 use Rattle.cm_board_text.proofs.SoundRows.{AreGood, chan_bits_kept, chan_munge_kept, chan_range_kept, is_range, limits}
 
-second_true : (a b : Bool) → a ≡ false → (a || b) ≡ true → b ≡ true
+pub second_true : (a b : Bool) → a ≡ false → (a || b) ≡ true → b ≡ true
 second_true true b e h = cc
 second_true false b e h = h
 

@@ -1,16 +1,14 @@
 -- What the good lines of each row say.
-use Rattle.std.proofs.Common.{◌+◌, ◌≡◌, ℕ, cond, ap₂, bit_and, ◌||◌, ◌-◌, ◌%◌, ◌≤◌, Bool, true, false, not, ◌&&◌, List, [], ◌∷◌, refl, ap, ◌∙◌, min, nat_le, nat_lt, ◌==◌, arith}
+use Rattle.std.proofs.Common.{◌+◌, ◌≡◌, ℕ, suc, ap₂, ◌||◌, ◌-◌, ◌%◌, ◌<◌, Bool, true, false, not, ◌&&◌, List, [], ◌∷◌, refl, sym, ap, subst, ◌∙◌, min, nat_le, nat_lt, ◌==◌, arith}
 use Rattle.std.specs.Prelude.{codes, int_lt}
-use Rattle.std.specs.List.{list_all, range_with_len}
+use Rattle.std.specs.List.{list_all}
 use Rattle.std.proofs.lemmas.Bool.{eqb-true, le-leb, leb-true, ltb-true}
-use Rattle.std.proofs.lemmas.Nat.{and_le_r}
 use Rattle.cm_base.specs.Words.{is_int}
 use Rattle.cm_base.proofs.Bools.{and_true, both}
-use Rattle.cm_base.proofs.SourcesBack.{each_below}
 use Rattle.cm_board.specs.Board.{Masks, are_full, fits_range, is_fifo, is_munge, is_pair}
-use Rattle.cm_board.specs.BoardTable.{board_forms, board_table, from_to}
+use Rattle.cm_board.specs.BoardTable.{board_forms, board_table, form, from_to, time}
 use Rattle.cm_board.specs.Items.{ItemText}
-use Rattle.cm_board.specs.Kept.{are_kept, is_among, is_good, is_kept, is_within}
+use Rattle.cm_board.specs.Kept.{are_kept, is_good, is_kept, is_within, keeps}
 use Rattle.cm_board.specs.Rules.{keeps_rule}
 use Rattle.cm_board.specs.Said.{channel_place, fifo_said, forbid_said, munge_by_form, name_at, number_at, range_said, signed_at}
 use Rattle.cm_board.specs.Slots.{of_row}
@@ -23,11 +21,15 @@ use Rattle.cm_board.specs.declared.table.Limits.{Limits}
 use Rattle.cm_board.specs.declared.table.Rule.TheVariants as rules_of
 use Rattle.cm_board.specs.declared.table.Value.{Value}
 use Rattle.cm_board.specs.declared.table.Value.TheVariants as values_of
-use Rattle.cm_board_text.proofs.Shapes.{chan_lands, kept_at, own_lands, row_keeps, said_at}
+use Rattle.cm_board_text.proofs.Shapes.{Case, EachOf, Says, chan_lands, keeps_at, kept_at, own_lands, row_keeps, said_at, word_at}
 
 pub second : (a b : Bool) → (a && b) ≡ true → b ≡ true
 second true b e = e
 second false b e = cc
+
+pub or_right : (a b : Bool) → (not a || b) ≡ true → a ≡ true → b ≡ true
+or_right true b h e = h
+or_right false b h e = cc
 
 -- what the rules say of values that their words keep
 pub rising : (head : Head) (l m : Limits) (kinds : List WordText) (vs : List Value) → are_kept head (Number l ∷ Number m ∷ kinds) vs ≡ true →
@@ -105,64 +107,62 @@ is_range r = fits_range r && int_lt r.min r.max
 abbrev pub line_of : ℕ → List Value → ItemText
 line_of at vs = record { row = 0; form = at; values = vs }
 
--- the number of a line is within its limits
-pub bits_kept : (head : Head) (items : List ItemText) → AreGood head items →
-    list_all (λ item. is_within (limits 1 24) (number_at 0 item.values)) (of_row lines.BITS items) ≡ true
-bits_kept head items h =
-    row_keeps head lines.BITS lines.BITS (λ at vs. is_within (limits 1 24) (number_at 0 vs)) (own_lands lines.BITS (omega arith))
-    (λ vs stands k. said_at head (form_at 0 board_forms) 0 vs k, tt) items h
+-- no form of a row but the one at a place, where the forms are counted from `n`
+abbrev pub is_only : ℕ → ℕ → ℕ → List FormText → Bool
+is_only row at n [] = true
+is_only row at n (form ∷ forms) = (not (form.row == row) || n == at) && is_only row at (n + 1) forms
 
-pub tick_kept : (head : Head) (items : List ItemText) → AreGood head items →
-    list_all (λ item. is_within (limits 1 1000000000) (number_at 0 item.values)) (of_row lines.TICK items) ≡ true
-tick_kept head items h =
-    row_keeps head lines.TICK lines.TICK (λ at vs. is_within (limits 1 1000000000) (number_at 0 vs)) (own_lands lines.TICK (omega arith))
-    (λ vs stands k. said_at head (form_at 7 board_forms) 0 vs k, tt) items h
+-- what holds of the only form of a row
+each_only : (P : ℕ → FormText → Type 0) (row at n : ℕ) (forms : List FormText) → is_only row at n forms ≡ true →
+    ((k : ℕ) → n + k ≡ at → P at (form_at k forms)) → EachOf P row n forms
+each_only P row at n [] h each = tt
+each_only P row at n (form ∷ forms) h each =
+    let b = both (not (form.row == row) || n == at) (is_only row at (n + 1) forms) h in
+    by (form.row == row) b.0 (each_only P row at (n + 1) forms b.1 (λ k e. each (suc k) (omega (arith, e))))
+  where
+    here : n ≡ at → P n form
+    here e = subst (λ (m : ℕ). P m form) (sym e) (each 0 (omega (arith, e)))
 
-pub list_kept : (head : Head) (items : List ItemText) → AreGood head items →
-    list_all (λ item. is_within (limits 1 256) (number_at 0 item.values)) (of_row lines.LIST items) ≡ true
-list_kept head items h =
-    row_keeps head lines.LIST lines.LIST (λ at vs. is_within (limits 1 256) (number_at 0 vs)) (own_lands lines.LIST (omega arith))
-    (λ vs stands k. said_at head (form_at 10 board_forms) 0 vs k, tt) items h
+    by : (b : Bool) → (not b || n == at) ≡ true → EachOf P row (n + 1) forms → Case b (P n form × EachOf P row (n + 1) forms) (EachOf P row (n + 1) forms)
+    by true e later = (here (eqb-true n at e), later)
+    by false e later = later
 
-pub scans_kept : (head : Head) (items : List ItemText) → AreGood head items →
-    list_all (λ item. is_within (limits 1 4000000000) (number_at 0 item.values)) (of_row lines.SCANS items) ≡ true
-scans_kept head items h =
-    row_keeps head lines.SCANS lines.SCANS (λ at vs. is_within (limits 1 4000000000) (number_at 0 vs)) (own_lands lines.SCANS (omega arith))
-    (λ vs stands k. said_at head (form_at 11 board_forms) 0 vs k, tt) items h
+-- the lines of a row of one form keep what that form keeps
+only_keeps : (head : Head) (row at : ℕ) (q : List Value → Bool) (items : List ItemText) → AreGood head items → row < lines.ROW_COUNT →
+    is_only row at 0 board_forms ≡ true → ((vs : List Value) → keeps head (form_at at board_forms) vs ≡ true → q vs ≡ true) →
+    list_all (λ item. q item.values) (of_row row items) ≡ true
+only_keeps head row at q items h below only says =
+    row_keeps head row row (λ n vs. q vs) (own_lands row below) (each_only (Says head (λ n vs. q vs)) row at 0 board_forms only (λ k e. here k (omega (arith, e)))) items h
+  where
+    here : (k : ℕ) → at ≡ k → Says head (λ n vs. q vs) at (form_at k board_forms)
+    here k e = subst (λ (m : ℕ). Says head (λ n vs. q vs) at (form_at m board_forms)) e (λ vs stands k. says vs k)
 
-pub lines_kept : (head : Head) (items : List ItemText) → AreGood head items →
-    list_all (λ item. is_within (limits 0 16) (number_at 0 item.values)) (of_row lines.LINES items) ≡ true
-lines_kept head items h =
-    row_keeps head lines.LINES lines.LINES (λ at vs. is_within (limits 0 16) (number_at 0 vs)) (own_lands lines.LINES (omega arith))
-    (λ vs stands k. said_at head (form_at 12 board_forms) 0 vs k, tt) items h
-
-pub buffer_kept : (head : Head) (items : List ItemText) → AreGood head items →
-    list_all (λ item. is_within (limits 1 65536) (number_at 0 item.values)) (of_row lines.BUFFER items) ≡ true
-buffer_kept head items h =
-    row_keeps head lines.BUFFER lines.BUFFER (λ at vs. is_within (limits 1 65536) (number_at 0 vs)) (own_lands lines.BUFFER (omega arith))
-    (λ vs stands k. said_at head (form_at 13 board_forms) 0 vs k, tt) items h
+-- the number of such a line is within its limits
+pub number_fits : (head : Head) (row at least most : ℕ) (items : List ItemText) → AreGood head items → row < lines.ROW_COUNT →
+    is_only row at 0 board_forms ≡ true → word_at 0 (form_at at board_forms).words ≡ Number (limits least most) →
+    list_all (λ item. is_within (limits least most) (number_at 0 item.values)) (of_row row items) ≡ true
+number_fits head row at least most items h below only word =
+    only_keeps head row at (λ vs. is_within (limits least most) (number_at 0 vs)) items h below only
+    (λ vs k. sym (ap (λ (w : WordText). keeps_at head w 0 vs) word) ∙ said_at head (form_at at board_forms) 0 vs k)
 
 -- two times in their order
 abbrev pub are_times : ℕ → ℕ → Bool
 are_times least most = is_within (limits 1 4000000000) least && is_within (limits 1 4000000000) most && nat_le least most
 
-times_said : (head : Head) (vs : List Value) → are_kept head (Number (limits 1 4000000000) ∷ Number (limits 1 4000000000) ∷ []) vs ≡ true →
-    keeps_rule rules_of.Rising vs ≡ true → are_times (number_at 0 vs) (number_at 1 vs) ≡ true
+times_said : (head : Head) (vs : List Value) → are_kept head (time ∷ time ∷ []) vs ≡ true → keeps_rule rules_of.Rising vs ≡ true →
+    are_times (number_at 0 vs) (number_at 1 vs) ≡ true
 times_said head vs k r =
-    let kinds : List WordText = Number (limits 1 4000000000) ∷ Number (limits 1 4000000000) ∷ [] in
-    and_true _ _ (and_true _ _ (kept_at head 0 kinds vs k) (kept_at head 1 kinds vs k)) (rising head (limits 1 4000000000) (limits 1 4000000000) [] vs k r)
+    and_true _ _ (and_true _ _ (kept_at head 0 (time ∷ time ∷ []) vs k) (kept_at head 1 (time ∷ time ∷ []) vs k))
+    (rising head (limits 1 4000000000) (limits 1 4000000000) [] vs k r)
 
-pub scan_kept : (head : Head) (items : List ItemText) → AreGood head items →
-    list_all (λ item. are_times (number_at 0 item.values) (number_at 1 item.values)) (of_row lines.SCAN items) ≡ true
-scan_kept head items h =
-    row_keeps head lines.SCAN lines.SCAN (λ at vs. are_times (number_at 0 vs) (number_at 1 vs)) (own_lands lines.SCAN (omega arith))
-    (λ vs stands k. let b = both _ (keeps_rule rules_of.Rising vs) k in times_said head vs b.0 b.1, tt) items h
-
-pub convert_kept : (head : Head) (items : List ItemText) → AreGood head items →
-    list_all (λ item. are_times (number_at 0 item.values) (number_at 1 item.values)) (of_row lines.CONVERT items) ≡ true
-convert_kept head items h =
-    row_keeps head lines.CONVERT lines.CONVERT (λ at vs. are_times (number_at 0 vs) (number_at 1 vs)) (own_lands lines.CONVERT (omega arith))
-    (λ vs stands k. let b = both _ (keeps_rule rules_of.Rising vs) k in times_said head vs b.0 b.1, tt) items h
+-- those of the lines of a row
+pub times_fit : (head : Head) (row at : ℕ) (key : List ℕ) (items : List ItemText) → AreGood head items → row < lines.ROW_COUNT →
+    is_only row at 0 board_forms ≡ true → form_at at board_forms ≡ form row (Fixed key ∷ time ∷ time ∷ []) rules_of.Rising →
+    list_all (λ item. are_times (number_at 0 item.values) (number_at 1 item.values)) (of_row row items) ≡ true
+times_fit head row at key items h below only said = only_keeps head row at (λ vs. are_times (number_at 0 vs) (number_at 1 vs)) items h below only fits
+  where
+    fits : (vs : List Value) → keeps head (form_at at board_forms) vs ≡ true → are_times (number_at 0 vs) (number_at 1 vs) ≡ true
+    fits vs k = let b = both _ (keeps_rule rules_of.Rising vs) (sym (ap (λ (f : FormText). keeps head f vs) said) ∙ k) in times_said head vs b.0 b.1
 
 -- a munge shifts by 1 to 8 bits
 left_fits : (bits : ℕ) → is_within (limits 1 8) bits ≡ true → is_munge (munges.Left (min 8 bits)) ≡ true
@@ -179,7 +179,7 @@ munge_kept head items h =
         λ vs stands k. refl,
         (
           λ vs stands k. refl,
-          (λ vs stands k. left_fits (number_at 0 vs) (said_at head (form_at 4 board_forms) 0 vs k), tt),
+          (λ vs stands k. left_fits (number_at 0 vs) (said_at head (form_at lines.MUNGE_LEFT board_forms) 0 vs k), tt),
         ),
       ),
     ) items h
@@ -192,7 +192,7 @@ range_kept head items h =
     row_keeps head lines.RANGE lines.RANGE (λ at vs. is_range (range_said 0 (line_of at vs))) (own_lands lines.RANGE (omega arith)) (
       λ vs stands k.
           let b = both _ (keeps_rule rules_of.Below vs) k in
-          let f : FormText = form_at 5 board_forms in
+          let f : FormText = form_at lines.RANGE_FORM board_forms in
           and_true _ _ (and_true _ _ (and_true _ _ (said_at head f 0 vs k) (said_at head f 1 vs k)) (unit_fits (number_at 2 vs)))
           (below_own head (from_to 0 2 ∷ []) vs b.0 b.1),
       tt,
@@ -211,7 +211,7 @@ forbid_kept head items h =
     row_keeps head lines.FORBID lines.FORBID (λ at vs. is_pair (forbid_said (line_of at vs))) (own_lands lines.FORBID (omega arith)) (
       λ vs stands k.
           let b = both _ (keeps_rule rules_of.Apart vs) k in
-          let f : FormText = form_at 15 board_forms in
+          let f : FormText = form_at lines.FORBID_FORM board_forms in
           let one = trigger (name_at 0 vs) (said_at head f 0 vs k) in
           let other = trigger (name_at 2 vs) (said_at head f 2 vs k) in
           and_true _ _ (and_true _ _ (and_true _ _ (and_true _ _
@@ -226,52 +226,25 @@ fifo_kept head items h =
     row_keeps head lines.FIFO lines.FIFO (λ at vs. is_fifo (fifo_said (line_of at vs))) (own_lands lines.FIFO (omega arith)) (
       λ vs stands k.
           let b = both _ (keeps_rule rules_of.Even vs) k in
-          let f : FormText = form_at 17 board_forms in
+          let f : FormText = form_at lines.FIFO_FORM board_forms in
           let d = both (nat_le 2 (number_at 0 vs)) (nat_le (number_at 0 vs) 4096) (said_at head f 0 vs k) in
           let l = both (nat_le 0 (number_at 1 vs)) (nat_le (number_at 1 vs) 1000000000) (said_at head f 1 vs k) in
           and_true _ _ (and_true _ _ (and_true _ _ d.0 d.1) (even head (limits 2 4096) (from_to 0 1000000000 ∷ []) vs b.0 b.1)) l.1,
       tt,
     ) items h
 
--- the stops of version 1 are among those of later ones
-every_stop : list_all (λ mask. not (is_among 33 mask) || is_among 97 mask) (range_with_len 0 512) ≡ true
-every_stop = refl
-
-or_right : (a b : Bool) → (not a || b) ≡ true → a ≡ true → b ≡ true
-or_right true b e h = e
-or_right false b e h = cc
-
-stop_of_first : (mask : ℕ) → is_among 33 mask ≡ true → is_among 97 mask ≡ true
-stop_of_first mask h =
-    let e = (both (not (mask == 0)) (bit_and mask 33 == mask) h).1 in
-    let same : bit_and mask 33 ≡ mask = eqb-true _ _ e in
-    let less : bit_and mask 33 ≤ 33 = and_le_r mask 33 in
-    or_right (is_among 33 mask) (is_among 97 mask) (each_below (λ mask. not (is_among 33 mask) || is_among 97 mask) 512 every_stop mask (omega arith)) h
-
--- a set that is the same in each version, and the sources of a stop in any
-same_set : (b : Bool) (set mask : ℕ) → is_among (cond b set set) mask ≡ true → is_among set mask ≡ true
-same_set true set mask h = h
-same_set false set mask h = h
-
-some_stop : (b : Bool) (mask : ℕ) → is_among (cond b 97 33) mask ≡ true → is_among 97 mask ≡ true
-some_stop true mask h = h
-some_stop false mask h = stop_of_first mask h
-
 -- the sources of a line that names them
 abbrev pub sources_of : List Value → Masks
 sources_of vs = record { start = number_at 0 vs; scan_begin = number_at 1 vs; convert = number_at 2 vs; scan_end = number_at 3 vs; stop = number_at 4 vs }
 
 pub sources_kept : (head : Head) (items : List ItemText) → AreGood head items →
-    list_all (λ item. are_full (sources_of item.values)) (of_row lines.SOURCES items) ≡ true
+    list_all (λ item. are_full head.version (sources_of item.values)) (of_row lines.SOURCES items) ≡ true
 sources_kept head items h =
-    row_keeps head lines.SOURCES lines.SOURCES (λ at vs. are_full (sources_of vs)) (own_lands lines.SOURCES (omega arith)) (
+    row_keeps head lines.SOURCES lines.SOURCES (λ at vs. are_full head.version (sources_of vs)) (own_lands lines.SOURCES (omega arith)) (
       λ vs stands k.
-          let f : FormText = form_at 6 board_forms in
-          let later : Bool = nat_le 2 head.version in
-          and_true _ _ (and_true _ _ (and_true _ _ (and_true _ _
-          (same_set later 194 (number_at 0 vs) (said_at head f 0 vs k)) (same_set later 84 (number_at 1 vs) (said_at head f 1 vs k)))
-          (same_set later 82 (number_at 2 vs) (said_at head f 2 vs k))) (same_set later 32 (number_at 3 vs) (said_at head f 3 vs k)))
-          (some_stop later (number_at 4 vs) (said_at head f 4 vs k)),
+          let f : FormText = form_at lines.SOURCES_FORM board_forms in
+          and_true _ _ (and_true _ _ (and_true _ _ (and_true _ _ (said_at head f 0 vs k) (said_at head f 1 vs k)) (said_at head f 2 vs k))
+          (said_at head f 3 vs k)) (said_at head f 4 vs k),
       tt,
     ) items h
 
@@ -281,7 +254,7 @@ pub chan_bits_kept : (head : Head) (chan : ℕ) (items : List ItemText) → AreG
 chan_bits_kept head chan items h =
     row_keeps head (channel_place chan lines.CHAN_BITS) lines.CHAN_BITS (λ at vs. is_within (limits 1 24) (number_at 1 vs))
     (chan_lands chan lines.CHAN_BITS (omega arith))
-    (λ vs stands k. said_at head (form_at (lines.CHAN_MUNGE_NONE - 1) board_forms) 1 vs k, tt) items h
+    (λ vs stands k. said_at head (form_at lines.CHAN_BITS_FORM board_forms) 1 vs k, tt) items h
 
 pub chan_munge_kept : (head : Head) (chan : ℕ) (items : List ItemText) → AreGood head items →
     list_all (λ item. is_munge (munge_by_form (item.form - lines.CHAN_MUNGE_NONE) (number_at 1 item.values))) (of_row (channel_place chan lines.CHAN_MUNGE) items) ≡ true
@@ -293,7 +266,7 @@ chan_munge_kept head chan items h =
         λ vs stands k. refl,
         (
           λ vs stands k. refl,
-          (λ vs stands k. left_fits (number_at 1 vs) (said_at head (form_at (lines.CHAN_MUNGE_NONE + 3) board_forms) 1 vs k), tt),
+          (λ vs stands k. left_fits (number_at 1 vs) (said_at head (form_at lines.CHAN_MUNGE_LEFT board_forms) 1 vs k), tt),
         ),
       ),
     ) items h
@@ -305,7 +278,7 @@ chan_range_kept head chan items h =
     (chan_lands chan lines.CHAN_RANGE (omega arith)) (
       λ vs stands k.
           let b = both _ (keeps_rule rules_of.Below vs) k in
-          let f : FormText = form_at (lines.CHAN_MUNGE_NONE + 4) board_forms in
+          let f : FormText = form_at lines.CHAN_RANGE_FORM board_forms in
           and_true _ _ (and_true _ _ (and_true _ _ (said_at head f 1 vs k) (said_at head f 2 vs k)) (unit_fits (number_at 3 vs)))
           (below_chan head (codes "range") (from_to 0 2 ∷ []) vs b.0 b.1),
       tt,

@@ -2,7 +2,7 @@
 use Rattle.std.proofs.Common.{◌≡◌, ℕ, zero, suc, ◌+◌, ◌-◌, ◌^◌, ◌<◌, ◌≤◌, Bool, true, false, cond, not, ◌&&◌, ◌||◌, List, [], ◌∷◌, ◌++◌, length, Option, Some, None, option_to_list, Ok, refl, sym, ap, ◌∙◌, nat_le, nat_lt, ◌==◌, arith, append_assoc, append-nil, bit_and, decimal}
 use Rattle.std.specs.List.{list_all}
 use Rattle.std.specs.Str.{bytes_eq}
-use Rattle.std.proofs.lemmas.Bool.{eqb-true, ltb-true}
+use Rattle.std.proofs.lemmas.Bool.{eq-eqb, eqb-true, ltb-true}
 use Rattle.std.proofs.lemmas.Bool.Decides.{nat_tests}
 use Rattle.std.proofs.lemmas.Nat.{and_le_r}
 use Rattle.cm_base.specs.Lines.{is_word}
@@ -14,14 +14,20 @@ use Rattle.cm_base.proofs.Bools.{and_true, both}
 use Rattle.cm_base.proofs.NumbersBack.{number_in-decimal, number_of-decimal, signed_number-decimal, word-decimal, word-signed_decimal}
 use Rattle.cm_base.proofs.SourcesBack.{source_back, word-source}
 use Rattle.cm_board.specs.Kept.{are_kept, is_among, is_kept, is_source, is_within, set_in}
-use Rattle.cm_board_text.specs.IsTable.{are_apart, are_names, differ, is_place, is_proper}
+use Rattle.cm_board_text.specs.IsTable.{are_apart, are_names, differ, differ_somewhere, is_place, is_proper}
 use Rattle.cm_board_text.specs.Printed.{name_at, value_text, words_text}
-use Rattle.cm_board_text.specs.Reading.{fixed_is, is_fixed, is_form, place_from, read_word, values_after}
+use Rattle.cm_board_text.specs.Reading.{begins_form, fixed_is, is_form, place_from, read_word, values_after}
 use Rattle.cm_board.specs.Table.{WordText, Fixed, Number, Signed, Sources, Source, Name, Channel}
 use Rattle.cm_board.specs.declared.table.Head.{Head}
 use Rattle.cm_board.specs.declared.table.Limits.{Limits}
+use Rattle.cm_board.specs.declared.table.Sets.{Sets}
 use Rattle.cm_board.specs.declared.table.Value.{Value}
 use Rattle.cm_board.specs.declared.table.Value.TheVariants as values_of
+
+-- a word that says nothing
+abbrev pub is_fixed : WordText → Bool
+is_fixed (Fixed key) = true
+is_fixed other = false
 
 -- a mask of the nine sources is less than 512
 few_bits : (set mask : ℕ) → set < 512 → is_among set mask ≡ true → mask < 512
@@ -67,12 +73,13 @@ name_back names n h below =
 small_number : (l : Limits) (n : ℕ) → nat_lt l.most 4294967296 ≡ true → is_within l n ≡ true → n < 2 ^ 32
 small_number l n k h = let e = (both (nat_le l.least n) (nat_le n l.most) h).1 in grind (arith, nat_tests, e, k)
 
-small_set : (head : Head) (first second : ℕ) → (nat_lt first 512 && nat_lt second 512) ≡ true → set_in head first second < 512
-small_set head first second h = by (nat_le 2 head.version)
+small_set : (version : ℕ) (sets : Sets) → (nat_lt sets.first 512 && nat_lt sets.second 512 && nat_lt sets.wide 512) ≡ true → set_in version sets < 512
+small_set version sets h = by (nat_le 3 version) (nat_le 2 version)
   where
-    by : (b : Bool) → cond b second first < 512
-    by true = ltb-true second 512 (both (nat_lt first 512) (nat_lt second 512) h).1
-    by false = ltb-true first 512 (both (nat_lt first 512) (nat_lt second 512) h).0
+    by : (wide second : Bool) → cond wide sets.wide (cond second sets.second sets.first) < 512
+    by true second = ltb-true sets.wide 512 (both (nat_lt sets.first 512 && nat_lt sets.second 512) (nat_lt sets.wide 512) h).1
+    by false true = ltb-true sets.second 512 (both (nat_lt sets.first 512) (nat_lt sets.second 512) (both _ (nat_lt sets.wide 512) h).0).1
+    by false false = ltb-true sets.first 512 (both (nat_lt sets.first 512) (nat_lt sets.second 512) (both _ (nat_lt sets.wide 512) h).0).0
 
 -- a channel of a block
 channel_back : (limit n : ℕ) → limit < 2 ^ 32 → nat_lt n limit ≡ true → number_below limit (decimal n) ≡ Ok n
@@ -96,11 +103,11 @@ word_back head Signed (values_of.Signed z) s p h =
     record { read = ap (λ r. r >>= λ m. Ok (Some (values_of.Signed m))) (signed_number-decimal z h); word = word-signed_decimal z h }
 word_back head Signed (values_of.Number n) s p h = cc
 word_back head Signed (values_of.Name n) s p h = cc
-word_back head (Sources first second) (values_of.Number n) s p h =
-    let small = small_set head first second p in
-    record { read = ap (λ r. r >>= λ m. Ok (Some (values_of.Number m))) (sources_back (set_in head first second) n small h); word = word-source n (few_bits (set_in head first second) n small h) }
-word_back head (Sources first second) (values_of.Signed z) s p h = cc
-word_back head (Sources first second) (values_of.Name n) s p h = cc
+word_back head (Sources sets) (values_of.Number n) s p h =
+    let small = small_set head.version sets p in
+    record { read = ap (λ r. r >>= λ m. Ok (Some (values_of.Number m))) (sources_back (set_in head.version sets) n small h); word = word-source n (few_bits (set_in head.version sets) n small h) }
+word_back head (Sources sets) (values_of.Signed z) s p h = cc
+word_back head (Sources sets) (values_of.Name n) s p h = cc
 word_back head Source (values_of.Number n) s p h = record {
   read = ap (λ r. r >>= λ m. Ok (Some (values_of.Number m))) (source_in_back n h);
   word = word-source n (few_bits 511 n (omega arith) (both (is_among 511 n) (bit_and n (n - 1) == 0) h).0);
@@ -122,8 +129,7 @@ word_back head Channel (values_of.Name n) s p h = cc
 pub record AreBack (head : Head) (kinds : List WordText) (vs : List Value) : Type 0 where
   pub read : (before : List Value) → values_after head before kinds (words_text kinds vs) ≡ Ok (before ++ vs)
   pub words : list_all is_word (words_text kinds vs) ≡ true
-  pub form : is_form kinds (words_text kinds vs) ≡ true
-  pub many : length (words_text kinds vs) ≡ length kinds
+  pub begins : begins_form kinds (words_text kinds vs) ≡ true
 
 value_more : (head : Head) (kind : WordText) (kinds : List WordText) (v : Value) (vs : List Value) → is_fixed kind ≡ false → IsBack head kind v →
     AreBack head kinds vs → (before : List Value) → values_after head before (kind ∷ kinds) (value_text kind v ∷ words_text kinds vs) ≡ Ok (before ++ v ∷ vs)
@@ -138,13 +144,12 @@ fixed_more head key kinds vs p a =
     record {
       read = λ before. ap (λ (xs : List Value). values_after head xs kinds (words_text kinds vs)) (append-nil before) ∙ a.read before;
       words = and_true _ _ b.0 a.words;
-      form = and_true _ _ b.1 a.form;
-      many = ap suc a.many;
+      begins = and_true _ _ b.1 a.begins;
     }
 
 words_back : (head : Head) (kinds : List WordText) (vs : List Value) → head.channels < 2 ^ 32 → list_all is_proper kinds ≡ true →
     are_kept head kinds vs ≡ true → AreBack head kinds vs
-words_back head [] [] s p h = record { read = λ before. ap Ok (sym (append-nil before)); words = refl; form = refl; many = refl }
+words_back head [] [] s p h = record { read = λ before. ap Ok (sym (append-nil before)); words = refl; begins = refl }
 words_back head [] (v ∷ vs) s p h = cc
 words_back head (Fixed key ∷ kinds) vs s p h =
     let q = both (is_proper (Fixed key)) (list_all is_proper kinds) p in
@@ -155,11 +160,23 @@ words_back head (kind ∷ kinds) (v ∷ vs) s p h =
     let b = both (is_kept head kind v) (are_kept head kinds vs) h in
     let here = word_back head kind v s q.0 b.0 in
     let more = words_back head kinds vs s q.1 b.1 in
-    record { read = value_more head kind kinds v vs refl here more; words = and_true _ _ here.word more.words; form = more.form; many = ap suc more.many }
+    record { read = value_more head kind kinds v vs refl here more; words = and_true _ _ here.word more.words; begins = more.begins }
 
 pub kept_back : (head : Head) (kinds : List WordText) (vs : List Value) → head.channels < 2 ^ 32 → list_all is_proper kinds ≡ true →
     are_kept head kinds vs ≡ true → AreBack head kinds vs
 kept_back = words_back
+
+-- as many words as the form has
+as_many : (head : Head) (kinds : List WordText) (vs : List Value) → are_kept head kinds vs ≡ true → length (words_text kinds vs) ≡ length kinds
+as_many head [] vs h = refl
+as_many head (Fixed key ∷ kinds) vs h = ap suc (as_many head kinds vs h)
+as_many head (kind ∷ kinds) [] h = cc
+as_many head (kind ∷ kinds) (v ∷ vs) h = ap suc (as_many head kinds vs (both (is_kept head kind v) (are_kept head kinds vs) h).1)
+
+-- a printed line is of its form
+pub form_kept : (head : Head) (kinds : List WordText) (vs : List Value) → AreBack head kinds vs → are_kept head kinds vs ≡ true →
+    is_form kinds (words_text kinds vs) ≡ true
+form_kept head kinds vs a h = and_true _ _ (eq-eqb _ _ (as_many head kinds vs h)) a.begins
 
 -- a line of one form has no other that is apart from it
 not_both : (a : Bool) → (a && false) ≡ false
@@ -174,7 +191,7 @@ fixed_apart : (g : WordText) (key : List ℕ) → differ g (Fixed key) ≡ true 
 fixed_apart (Fixed a) key h = not_fixed (bytes_eq key a) h
 fixed_apart (Number l) key h = cc
 fixed_apart Signed key h = cc
-fixed_apart (Sources first second) key h = cc
+fixed_apart (Sources sets) key h = cc
 fixed_apart Source key h = cc
 fixed_apart (Name names) key h = cc
 fixed_apart Channel key h = cc
@@ -183,36 +200,44 @@ never_differ : (g kind : WordText) → is_fixed kind ≡ false → differ g kind
 never_differ g (Fixed key) h = cc
 never_differ (Fixed a) (Number l) h = refl
 never_differ (Fixed a) Signed h = refl
-never_differ (Fixed a) (Sources first second) h = refl
+never_differ (Fixed a) (Sources sets) h = refl
 never_differ (Fixed a) Source h = refl
 never_differ (Fixed a) (Name names) h = refl
 never_differ (Fixed a) Channel h = refl
 never_differ g other h = refl
 
-or_right : (a b : Bool) → a ≡ false → (a || b) ≡ true → b ≡ true
-or_right true b e h = cc
-or_right false b e h = h
-
 -- the first word of two that differ, or the words after them
-apart_word : (head : Head) (g kind : WordText) (gs kinds : List WordText) (w : List ℕ) (ws : List (List ℕ)) → (differ g kind ≡ true → fixed_is g w ≡ false) →
-    (are_apart gs kinds ≡ true → is_form gs ws ≡ false) → (differ g kind || are_apart gs kinds) ≡ true → (fixed_is g w && is_form gs ws) ≡ false
-apart_word head g kind gs kinds w ws here more h = by (differ g kind) refl h
+apart_word : (g kind : WordText) (gs kinds : List WordText) (w : List ℕ) (ws : List (List ℕ)) → (differ g kind ≡ true → fixed_is g w ≡ false) →
+    (differ_somewhere gs kinds ≡ true → begins_form gs ws ≡ false) → (differ g kind || differ_somewhere gs kinds) ≡ true →
+    (fixed_is g w && begins_form gs ws) ≡ false
+apart_word g kind gs kinds w ws here more h = by (differ g kind) refl h
   where
-    by : (d : Bool) → differ g kind ≡ d → (d || are_apart gs kinds) ≡ true → (fixed_is g w && is_form gs ws) ≡ false
-    by true e h = ap (λ b. b && is_form gs ws) (here e)
+    by : (d : Bool) → differ g kind ≡ d → (d || differ_somewhere gs kinds) ≡ true → (fixed_is g w && begins_form gs ws) ≡ false
+    by true e h = ap (λ b. b && begins_form gs ws) (here e)
     by false e h = ap (λ b. fixed_is g w && b) (more h) ∙ not_both (fixed_is g w)
 
-other_form : (head : Head) (gs kinds : List WordText) (vs : List Value) → are_apart gs kinds ≡ true → are_kept head kinds vs ≡ true →
-    is_form gs (words_text kinds vs) ≡ false
-other_form head [] kinds vs a h = cc
-other_form head (g ∷ gs) [] vs a h = cc
-other_form head (g ∷ gs) (Fixed key ∷ kinds) vs a h =
-    apart_word head g (Fixed key) gs kinds key (words_text kinds vs) (fixed_apart g key) (λ b. other_form head gs kinds vs b h) a
-other_form head (g ∷ gs) (kind ∷ kinds) [] a h = cc
-other_form head (g ∷ gs) (kind ∷ kinds) (v ∷ vs) a h =
+other_words : (head : Head) (gs kinds : List WordText) (vs : List Value) → differ_somewhere gs kinds ≡ true → are_kept head kinds vs ≡ true →
+    begins_form gs (words_text kinds vs) ≡ false
+other_words head [] kinds vs d h = cc
+other_words head (g ∷ gs) [] vs d h = cc
+other_words head (g ∷ gs) (Fixed key ∷ kinds) vs d h =
+    apart_word g (Fixed key) gs kinds key (words_text kinds vs) (fixed_apart g key) (λ later. other_words head gs kinds vs later h) d
+other_words head (g ∷ gs) (kind ∷ kinds) [] d h = cc
+other_words head (g ∷ gs) (kind ∷ kinds) (v ∷ vs) d h =
     let b = both (is_kept head kind v) (are_kept head kinds vs) h in
-    apart_word head g kind gs kinds (value_text kind v) (words_text kinds vs) (λ d. let n = never_differ g kind refl in cc) (λ c. other_form head gs kinds vs c b.1) a
+    apart_word g kind gs kinds (value_text kind v) (words_text kinds vs) (λ here. let n = never_differ g kind refl in cc)
+    (λ later. other_words head gs kinds vs later b.1) d
 
 pub apart_back : (head : Head) (gs kinds : List WordText) (vs : List Value) → are_apart gs kinds ≡ true → are_kept head kinds vs ≡ true →
     is_form gs (words_text kinds vs) ≡ false
-apart_back = other_form
+apart_back head gs kinds vs a h = by (length gs == length kinds) refl a
+  where
+    ws : List (List ℕ)
+    ws = words_text kinds vs
+
+    fewer : (length gs == length kinds) ≡ false → (length ws == length gs) ≡ false
+    fewer e = let many = as_many head kinds vs h in grind (arith, nat_tests, e, many)
+
+    by : (b : Bool) → (length gs == length kinds) ≡ b → (not b || differ_somewhere gs kinds) ≡ true → is_form gs ws ≡ false
+    by true e d = ap (λ b. length ws == length gs && b) (other_words head gs kinds vs d h) ∙ not_both (length ws == length gs)
+    by false e d = ap (λ b. b && begins_form gs ws) (fewer e)

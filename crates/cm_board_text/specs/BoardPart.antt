@@ -1,5 +1,6 @@
 -- The board part of a text.
-use Rattle.std.specs.Prelude.{ℕ, ◌+◌, Bool, true, ◌&&◌, ◌||◌, nat_le, nat_lt, List, [], ◌∷◌, length, drop, codes, Result, Ok, Err, if◌then◌else◌}
+use Rattle.std.specs.Prelude.{ℕ, ◌+◌, Bool, true, false, ◌&&◌, ◌||◌, nat_le, nat_lt, if◌then◌else◌}
+use Rattle.std.specs.Prelude.{List, [], ◌∷◌, length, drop, codes, Result, Ok, Err}
 use Rattle.std.specs.List.{before_first, position_or_len}
 use Rattle.cm_base.specs.Lines.{LineText, is_word}
 use Rattle.cm_base.specs.Parts.{begins, fixed}
@@ -72,9 +73,22 @@ abbrev pub is_part_end : List LineText → Bool
 is_part_end [] = true
 is_part_end (line ∷ lines) = is_signals line
 
--- the version of the format, 1 or 2
+-- the version of the format after `comedi`, 1 or 2
 abbrev pub version_words : Form ℕ
 version_words = one (λ version. version) (number_in 1 2)
+
+-- and after `zendrouz`: it has a version of its own, 1, and is the third of all
+abbrev pub wide_words : Form ℕ
+wide_words = one (λ version. version + 2) (number_in 1 1)
+
+-- whether the first of these lines is that of a wider text
+abbrev pub is_wide : List LineText → Bool
+is_wide [] = false
+is_wide (line ∷ lines) = begins (codes "zendrouz") line
+
+-- the version that the first line says
+abbrev pub version_of : ℕ → List LineText → Result ℕ Refused
+version_of end lines = if is_wide lines then fixed end (codes "zendrouz") wide_words lines else fixed end (codes "comedi") version_words lines
 
 -- the board's name, of at most 32 bytes
 abbrev pub name_words : Form (List ℕ)
@@ -91,7 +105,7 @@ any_words words = Ok true
 -- the board that these lines describe up to the `signals` line, and that line's place
 abbrev pub board_of : ℕ → List LineText → Result (BoardText × ℕ) Refused
 board_of end lines =
-    fixed end (codes "comedi") version_words lines >>= λ version.
+    version_of end lines >>= λ version.
     fixed end (codes "board") name_words (drop 1 lines) >>= λ name.
     fixed end (codes "subdevice") any_words (drop 2 lines) >>= λ any.
     blocks_from version end 0 (drop 2 lines) >>= λ subs.

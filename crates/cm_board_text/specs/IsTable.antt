@@ -29,7 +29,7 @@ are_names all n (name ∷ names) = is_place n (place_from 0 name all) && is_word
 abbrev pub is_proper : WordText → Bool
 is_proper (Fixed key) = is_word key && bytes_eq key key
 is_proper (Number l) = nat_lt l.most 4294967296
-is_proper (Sources first second) = nat_lt first 512 && nat_lt second 512
+is_proper (Sources sets) = nat_lt sets.first 512 && nat_lt sets.second 512 && nat_lt sets.wide 512
 is_proper (Name names) = are_names names 0 names
 is_proper other = true
 
@@ -53,10 +53,14 @@ abbrev pub differ : WordText → WordText → Bool
 differ (Fixed a) (Fixed b) = not (bytes_eq b a)
 differ one other = false
 
+-- words that differ at some place
+abbrev pub differ_somewhere : List WordText → List WordText → Bool
+differ_somewhere (a ∷ as_) (b ∷ bs) = differ a b || differ_somewhere as_ bs
+differ_somewhere as_ bs = false
+
 -- two forms that no line has both
 abbrev pub are_apart : List WordText → List WordText → Bool
-are_apart (a ∷ as_) (b ∷ bs) = differ a b || are_apart as_ bs
-are_apart as_ bs = false
+are_apart one other = not (length one == length other) || differ_somewhere one other
 
 -- a form of a row of the table, which names a channel where the row is about one
 abbrev pub is_listed : TableText → FormText → Bool
@@ -71,7 +75,7 @@ all_apart (form ∷ forms) = list_all (λ later. are_apart form.words later.word
 
 -- a word that says the same in each block
 abbrev pub is_constant : WordText → Bool
-is_constant (Sources first second) = false
+is_constant (Sources sets) = false
 is_constant Channel = false
 is_constant other = true
 

@@ -1,5 +1,5 @@
 -- A board as text.
-use Rattle.std.specs.Prelude.{ℕ, zero, suc, List, [], ◌∷◌, ◌++◌, map, flat_map, codes, decimal}
+use Rattle.std.specs.Prelude.{ℕ, zero, suc, nat_le, if◌then◌else◌, List, [], ◌∷◌, ◌++◌, map, flat_map, codes, decimal}
 use Rattle.std.specs.Fmt.{signed_decimal}
 use Rattle.cm_base.specs.SourceText.{source_text}
 use Rattle.cm_base.specs.WrittenLines.{line_of}
@@ -20,7 +20,7 @@ name_at (suc n) (name ∷ names) = name_at n names
 
 -- sources, or a number
 abbrev pub number_text : WordText → ℕ → List ℕ
-number_text (Sources first second) n = source_text n
+number_text (Sources sets) n = source_text n
 number_text Source n = source_text n
 number_text other n = decimal n
 
@@ -67,9 +67,10 @@ head_line s = codes "subdevice" ∷ kind_text s.kind ∷ decimal s.channels ∷ 
 abbrev pub block_text : SubText → List ℕ
 block_text s = line_of (head_line s) ++ items_text board_table s.block
 
--- the line of the version
+-- the line of the version; the third is the first of the wider texts
 abbrev pub version_line : ℕ → List (List ℕ)
-version_line version = codes "comedi" ∷ decimal version ∷ []
+version_line version =
+    if nat_le 3 version then codes "zendrouz" ∷ codes "1" ∷ [] else codes "comedi" ∷ decimal version ∷ []
 
 -- the line of the board's name
 abbrev pub name_line : List ℕ → List (List ℕ)

@@ -1,5 +1,5 @@
 -- What the lines of a block say, by a table.
-use Rattle.std.specs.Prelude.{ℕ, ◌+◌, Bool, true, false, not, ◌&&◌, ◌==◌, nat_lt, Option, Some, None, option_to_list, Result, Ok, Err, if◌then◌else◌}
+use Rattle.std.specs.Prelude.{ℕ, ◌+◌, Bool, true, ◌&&◌, ◌==◌, nat_lt, Option, Some, None, option_to_list, Result, Ok, Err, if◌then◌else◌}
 use Rattle.std.specs.Prelude.{List, [], ◌∷◌, ◌++◌, length}
 use Rattle.std.specs.List.{list_any}
 use Rattle.std.specs.Str.{bytes_eq}
@@ -19,27 +19,20 @@ use Rattle.cm_board.specs.declared.table.Row.{Row}
 use Rattle.cm_board.specs.declared.table.Value.{Value}
 use Rattle.cm_board.specs.declared.table.Value.TheVariants as values_of
 
--- a word that says nothing
-abbrev pub is_fixed : WordText → Bool
-is_fixed (Fixed key) = true
-is_fixed other = false
-
 -- a word that stands where a form fixes it
 abbrev pub fixed_is : WordText → List ℕ → Bool
 fixed_is (Fixed key) w = bytes_eq w key
 fixed_is other w = true
 
--- a line with all words that a form fixes
-abbrev pub is_form : List WordText → List (List ℕ) → Bool
-is_form [] ws = true
-is_form (kind ∷ kinds) [] = not (is_fixed kind) && is_form kinds []
-is_form (kind ∷ kinds) (w ∷ ws) = fixed_is kind w && is_form kinds ws
-
--- a line with those words that a form fixes, as far as the line goes
+-- a line with those words that a form fixes, as far as both go
 abbrev pub begins_form : List WordText → List (List ℕ) → Bool
 begins_form [] ws = true
 begins_form (kind ∷ kinds) [] = true
 begins_form (kind ∷ kinds) (w ∷ ws) = fixed_is kind w && begins_form kinds ws
+
+-- a line of a form: as many words, and all that the form fixes
+abbrev pub is_form : List WordText → List (List ℕ) → Bool
+is_form kinds ws = length ws == length kinds && begins_form kinds ws
 
 -- a form and its place in the table
 pub record Found : Type 0 where
@@ -58,17 +51,9 @@ found_from rows head ws n (form ∷ forms) =
 abbrev pub is_begun : List Row → Head → List (List ℕ) → FormText → Bool
 is_begun rows head ws form = begins_form form.words ws && may_stand head (row_at form.row rows)
 
--- the form of a line, which has as many words as the form
-abbrev pub counted : List (List ℕ) → Found → Result Found Fault
-counted ws f = if length ws == length f.form.words then Ok f else Err BadLine
-
-abbrev pub form_or : Fault → List (List ℕ) → Option Found → Result Found Fault
-form_or fault ws None = Err fault
-form_or fault ws (Some f) = counted ws f
-
--- the form of these words
+-- the form of these words; where they only begin one, words are missing or too many
 abbrev pub form_of_words : TableText → Head → List (List ℕ) → Result Found Fault
-form_of_words t head ws = form_or (if list_any (is_begun t.rows head ws) t.forms then BadLine else Unknown) ws (found_from t.rows head ws 0 t.forms)
+form_of_words t head ws = or_fault (if list_any (is_begun t.rows head ws) t.forms then BadLine else Unknown) (found_from t.rows head ws 0 t.forms)
 
 -- the form of a line
 abbrev pub form_of : TableText → Head → LineText → Result Found Fault
@@ -84,7 +69,7 @@ abbrev pub read_word : Head → WordText → List ℕ → Result (Option Value) 
 read_word head (Fixed key) w = Ok None
 read_word head (Number l) w = number_in l.least l.most w >>= λ n. Ok (Some (values_of.Number n))
 read_word head Signed w = signed_number w >>= λ z. Ok (Some (values_of.Signed z))
-read_word head (Sources first second) w = sources_in (set_in head first second) w >>= λ n. Ok (Some (values_of.Number n))
+read_word head (Sources sets) w = sources_in (set_in head.version sets) w >>= λ n. Ok (Some (values_of.Number n))
 read_word head Source w = source_in 511 w >>= λ n. Ok (Some (values_of.Number n))
 read_word head (Name names) w = or_fault Unknown (place_from 0 w names) >>= λ n. Ok (Some (values_of.Name n))
 read_word head Channel w = number_below head.channels w >>= λ n. Ok (Some (values_of.Number n))

@@ -15,7 +15,7 @@ fn put_number(out: &mut Vec<u8>, kind: &Word, number: u32) -> Result<(), NoMemor
     ensures { OnOk result (out.new.items ≡ out.old.items ++ number_text (word_text kind.now) number) }
 {
     match kind {
-        Word::Sources(_, _) => put_sources(out, number),
+        Word::Sources(_) => put_sources(out, number),
         Word::Source => put_sources(out, number),
         _ => put_u64(out, number as u64),
     }

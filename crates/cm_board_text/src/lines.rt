@@ -13,13 +13,13 @@ ghost use Rattle.cm_board.specs.Table as table;
 ghost use Rattle.cm_board.specs.Table.{form_text, may_stand, row_at, table_text, word_text};
 ghost use Rattle.cm_board_text.specs.FoundView.{found_text};
 ghost use Rattle.cm_board_text.specs.Reading as spec;
-ghost use Rattle.cm_board_text.specs.Reading.{admitted, begins_form, fixed_is, form_of, form_of_words, found_from, is_begun, is_fixed, is_form, item_after, items_said, place_from, values_after};
+ghost use Rattle.cm_board_text.specs.Reading.{admitted, begins_form, fixed_is, form_of, form_of_words, found_from, is_begun, is_form, item_after, items_said, place_from, values_after};
 
 use cm_base::faults::{Fault, ReadStop};
 use cm_base::lines::Line;
 use cm_base::words::{at_line, number_below, number_in, signed_number, source_in, sources_in};
 use cm_board::items::Item;
-use cm_board::table::{Absent, Form, Head, Place, Row, Table, Value, Word};
+use cm_board::table::{Absent, Form, Head, Place, Row, Sets, Table, Value, Word};
 use smallvec::SmallVec;
 use std::alloc::{AllocError, Global};
 
@@ -51,24 +51,7 @@ fn fixed_is(kind: &Word, word: &[u8]) -> bool
     }
 }
 
-fn is_fixed(kind: &Word) -> bool
-    ensures { result ≡ is_fixed (word_text kind.now) }
-{
-    matches!(kind, Word::Fixed(_))
-}
-
-// Whether a line has all words that a form fixes.
-fn is_form(kinds: &[Word], words: &[&[u8]]) -> bool
-    ensures { result ≡ is_form (map word_text kinds.now) (map (λ word. word.now) words.now) }
-{
-    match (kinds, words) {
-        ([], _) => true,
-        ([kind, kinds @ ..], []) => !is_fixed(kind) && is_form(kinds, &[]),
-        ([kind, kinds @ ..], [word, words @ ..]) => fixed_is(kind, word) && is_form(kinds, words),
-    }
-}
-
-// Whether it has those words that a form fixes, as far as it goes.
+// Whether a line has those words that a form fixes, as far as both go.
 fn begins_form(kinds: &[Word], words: &[&[u8]]) -> bool
     ensures { result ≡ begins_form (map word_text kinds.now) (map (λ word. word.now) words.now) }
 {
@@ -79,6 +62,13 @@ fn begins_form(kinds: &[Word], words: &[&[u8]]) -> bool
             fixed_is(kind, word) && begins_form(kinds, words)
         }
     }
+}
+
+// Whether a line is of a form: as many words, and all that the form fixes.
+fn is_form(kinds: &[Word], words: &[&[u8]]) -> bool
+    ensures { result ≡ is_form (map word_text kinds.now) (map (λ word. word.now) words.now) }
+{
+    words.len() == kinds.len() && begins_form(kinds, words)
 }
 
 // Whether a form may stand in the block.
@@ -114,18 +104,12 @@ fn is_begun(table: &Table, head: &Head, words: &[&[u8]]) -> bool
     false
 }
 
-// The form of these words.
+// The form of these words. Where they only begin one, words are missing or too many.
 fn form_of_words(table: &Table, head: &Head, words: &[&[u8]]) -> Result<(usize, Form), Fault>
     ensures { seen found_text result ≡ form_of_words (table_text table.now) head.now (map (λ word. word.now) words.now) }
 {
     match find(table, head, words) {
-        Some((at, form)) => {
-            if words.len() == form.words.len() {
-                Ok((at, form))
-            } else {
-                Err(Fault::BadLine)
-            }
-        }
+        Some(found) => Ok(found),
         None => {
             if is_begun(table, head, words) {
                 Err(Fault::BadLine)
@@ -171,6 +155,19 @@ fn read_name(names: &[&[u8]], word: &[u8]) -> Result<usize, Fault>
     }
 }
 
+// The sources that a word may have on a board of a version.
+fn set_in(version: u32, sets: &Sets) -> u32
+    ensures { result ≡ set_in version sets.now }
+{
+    if 3 <= version {
+        sets.wide
+    } else if 2 <= version {
+        sets.second
+    } else {
+        sets.first
+    }
+}
+
 // What a word says.
 fn read_word(head: &Head, kind: &Word, word: &[u8]) -> Result<Option<Value>, Fault>
     ensures { result ≡ spec.read_word head.now (word_text kind.now) word.now }
@@ -183,8 +180,8 @@ fn read_word(head: &Head, kind: &Word, word: &[u8]) -> Result<Option<Value>, Fau
             limits.most,
         )?))),
         Word::Signed => Ok(Some(Value::Signed(signed_number(word)?))),
-        Word::Sources(first, second) => {
-            let set = if 2 <= head.version { *second } else { *first };
+        Word::Sources(sets) => {
+            let set = set_in(head.version, sets);
             Ok(Some(Value::Number(sources_in(word, set)?)))
         }
         Word::Source => Ok(Some(Value::Number(source_in(word, 511)?))),

@@ -4,7 +4,7 @@ ghost use Rattle.std.specs.List.{All};
 ghost use Rattle.cm_base.specs.WrittenLines.{line_of};
 ghost use Rattle.cm_board.specs.Board.{IsSoundSub};
 ghost use Rattle.cm_board_text.specs.PrintedReads.{ReadsAs};
-ghost use Rattle.cm_board_text.specs.Printed.{block_text, kind_text, name_line, printed_board};
+ghost use Rattle.cm_board_text.specs.Printed.{block_text, kind_text, name_line, printed_board, version_line};
 
 use crate::line_text::put_items;
 use cm_base::numbers::put_u64;
@@ -20,10 +20,21 @@ pub fn print_board(alloc: Global, board: &BoardDesc) -> Result<Vec<u8>, NoMemory
     ensures reads { IfOk result (λ text. ReadsAs board.now text.items) }
 {
     let mut out = Vec::new(alloc);
-    put_one(&mut out, b"comedi", board.version)?;
+    put_version(&mut out, board.version)?;
     put_name(&mut out, &board.name)?;
     put_subs(&mut out, &board.subs)?;
     Ok(out)
+}
+
+// The line of the version; the third is the first of the wider texts.
+fn put_version(out: &mut Vec<u8>, version: u32) -> Result<(), NoMemory>
+    ensures { OnOk result (out.new.items ≡ out.old.items ++ line_of (version_line version)) }
+{
+    if 3 <= version {
+        put_one(out, b"zendrouz", 1)
+    } else {
+        put_one(out, b"comedi", version)
+    }
 }
 
 // The line of the board's name.

@@ -7,7 +7,7 @@ ghost use Rattle.cm_base.specs.ReadStop.{Gives};
 ghost use Rattle.cm_base.specs.Reading.{at_line, read_each, seen};
 ghost use Rattle.cm_board_text.specs.Block.{finished};
 ghost use Rattle.cm_base.specs.Parts as parts;
-ghost use Rattle.cm_board_text.specs.BoardPart.{block_at, block_lines, blocks_from, is_between, is_part_end, lines_after, next_block, board_of, any_words, ends_block, head_after, is_name, is_signals, name_words, version_words};
+ghost use Rattle.cm_board_text.specs.BoardPart.{block_at, block_lines, blocks_from, is_between, is_part_end, lines_after, next_block, board_of, any_words, ends_block, head_after, is_name, is_signals, is_wide, name_words, version_of, version_words, wide_words};
 ghost use Rattle.cm_board.specs.Board.{IsSoundBoard, has_channels};
 ghost use Rattle.cm_board.specs.BoardTable.{board_table};
 ghost use Rattle.cm_board_text.specs.Kept.{AreItems};
@@ -255,21 +255,46 @@ fn lines_from<'a, 'b>(lines: &'a [Line<'b>], at: usize) -> &'a [Line<'b>]
     if at <= lines.len() { &lines[at..] } else { &[] }
 }
 
-// The version of the board part.
-fn read_version(lines: &[Line<'_>], end: u32) -> Result<u32, ReadStop>
-    ensures value { Gives (λ version. version) result (parts.fixed end (codes "comedi") version_words (map line_view lines.now)) }
-    ensures limit { IfOk result (λ version. (1 ≤ version) × (version ≤ 2)) }
+// Whether the first of these lines is that of a wider text.
+fn is_wide(lines: &[Line<'_>]) -> bool
+    ensures { result ≡ is_wide (map line_view lines.now) }
 {
-    let (number, words) = first(lines, b"comedi", end)?;
-    at_line(number, version(words))
+    match lines {
+        [] => false,
+        [line, ..] => begins(b"zendrouz", line),
+    }
 }
 
+// The version of the board part.
+fn read_version(lines: &[Line<'_>], end: u32) -> Result<u32, ReadStop>
+    ensures value { Gives (λ version. version) result (version_of end (map line_view lines.now)) }
+    ensures limit { IfOk result (λ version. (1 ≤ version) × (version ≤ 3)) }
+{
+    if is_wide(lines) {
+        let (number, words) = first(lines, b"zendrouz", end)?;
+        at_line(number, wide_version(words))
+    } else {
+        let (number, words) = first(lines, b"comedi", end)?;
+        at_line(number, version(words))
+    }
+}
+
+// The version after `comedi`.
 fn version(words: &[&[u8]]) -> Result<u32, Fault>
     ensures value { result ≡ version_words (map (λ word. word.now) words.now) }
-    ensures limit { IfOk result (λ version. (1 ≤ version) × (version ≤ 2)) }
+    ensures limit { IfOk result (λ version. (1 ≤ version) × (version ≤ 3)) }
 {
     let version = one(words)?;
     number_in(version, 1, 2)
+}
+
+// The version after `zendrouz`: that has a version of its own, 1, and is the third of all.
+fn wide_version(words: &[&[u8]]) -> Result<u32, Fault>
+    ensures value { result ≡ wide_words (map (λ word. word.now) words.now) }
+    ensures limit { IfOk result (λ version. (1 ≤ version) × (version ≤ 3)) }
+{
+    let version = one(words)?;
+    Ok(number_in(version, 1, 1)? + 2)
 }
 
 // The board's name.

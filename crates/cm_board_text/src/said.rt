@@ -10,12 +10,15 @@ ghost use Rattle.cm_board.specs.declared.lines.TheConstants as lines;
 ghost use Rattle.cm_board_text.specs.UncheckedView.{unchecked_text};
 
 use crate::unchecked::Unchecked;
-use cm_board::board::{ChanSet, Fifo, Forbid, Munge, Range};
+use cm_board::board::{
+    ChanSet, Fifo, Forbid, LeastScan, ListOrder, ListRules, Munge, Order, Range, Rounding, Way,
+};
 use cm_board::items::Item;
 use cm_board::lines::{
     BITS, BUFFER, CHAN_BITS, CHAN_MUNGE, CHAN_MUNGE_NONE, CHAN_RANGE, CONVERT, FIFO, FORBID,
-    INVERT, LINES, LIST, MUNGE, MUNGE_NONE, RANGE, ROW_COUNT, SAME_RANGE, SCAN, SCANS, SOURCES,
-    TICK,
+    HALF_DOWN, HOLDS, INVERT, LINES, LIST, MUNGE, MUNGE_NONE, ORDER, PER_ENTRY, RANGE,
+    REPEATED_FORM, ROUNDS, ROW_COUNT, SAME_POLARITY, SAME_RANGE, SAME_REFERENCE, SCAN, SCANS,
+    SOURCES, TICK,
 };
 use cm_board::said::{has_line, name_at, number_at, number_of, signed_at};
 use cm_board::table::Head;
@@ -165,6 +168,96 @@ fn fifo_of(items: &[Item]) -> Option<Fifo>
     None
 }
 
+// An order by its number among their names.
+fn order_named(name: usize) -> Order
+    ensures { result ≡ spec.order_named name }
+{
+    match name {
+        0 => Order::Consecutive,
+        1 => Order::Straight,
+        2 => Order::First,
+        3 => Order::Rising,
+        _ => Order::Distinct,
+    }
+}
+
+// The order of a list that a line says, which may be repeated.
+fn order_said(item: &Item) -> ListOrder
+    ensures { result ≡ spec.order_said item.now }
+{
+    ListOrder {
+        order: order_named(name_at(item.values.as_slice(), 0)),
+        repeats: item.form == REPEATED_FORM,
+    }
+}
+
+// The order of a list, where a line says it.
+fn order_of(items: &[Item]) -> Option<ListOrder>
+    ensures { result ≡ first_of (map spec.order_said (of_row lines.ORDER items.now)) }
+{
+    for item in items {
+        if item.row == ORDER {
+            return Some(order_said(item));
+        }
+    }
+    None
+}
+
+// What a list keeps.
+fn lists_said(items: &[Item]) -> ListRules
+    ensures { result ≡ spec.lists_said items.now }
+{
+    ListRules {
+        same_range: has_line(items, SAME_RANGE),
+        order: order_of(items),
+        same_reference: has_line(items, SAME_REFERENCE),
+        same_polarity: has_line(items, SAME_POLARITY),
+    }
+}
+
+// A way of rounding by its number among their names.
+fn way_named(name: usize) -> Way
+    ensures { result ≡ spec.way_named name }
+{
+    match name {
+        0 => Way::Nearest,
+        1 => Way::Down,
+        _ => Way::Up,
+    }
+}
+
+// The way of rounding, where a line says it.
+fn way_of(items: &[Item]) -> Option<Way>
+    ensures { result ≡ first_of (map (λ item. spec.way_named (spec.name_at 0 item.values)) (of_row lines.ROUNDS items.now)) }
+{
+    for item in items {
+        if item.row == ROUNDS {
+            return Some(way_named(name_at(item.values.as_slice(), 0)));
+        }
+    }
+    None
+}
+
+// How times are rounded.
+fn rounding_said(items: &[Item]) -> Rounding
+    ensures { result ≡ spec.rounding_said items.now }
+{
+    Rounding {
+        own: way_of(items),
+        half_down: has_line(items, HALF_DOWN),
+    }
+}
+
+// What a timed scan holds at least.
+fn least_scan_said(items: &[Item]) -> LeastScan
+    ensures { result ≡ spec.least_scan_said items.now }
+{
+    LeastScan {
+        per_entry: number_of(items, PER_ENTRY, 0, 0),
+        holds: has_line(items, HOLDS),
+    }
+}
+
 // The place before the rows of a channel.
 fn channel_place(chan: u32) -> usize
     ensures place { result ≡ spec.channel_place chan 0 }
@@ -267,7 +360,9 @@ pub(crate) fn describe_sub(
         scans_max: number_of(&block, SCANS, 0, 1),
         lines: number_of(&block, LINES, 0, 0),
         buffer: number_of(&block, BUFFER, 0, 1),
-        same_range: has_line(&block, SAME_RANGE),
+        rounding: rounding_said(&block),
+        least_scan: least_scan_said(&block),
+        lists: lists_said(&block),
         forbidden,
         chans,
         invert: has_line(&block, INVERT),

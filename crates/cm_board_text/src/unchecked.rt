@@ -1,10 +1,14 @@
 // A subdevice before the rules over its lines are asked.
 ghost use Rattle.std.specs.Prelude.{◌≡◌};
+ghost use Rattle.std.specs.Prelude.{◌<◌};
+ghost use Rattle.cm_base.specs.Source.{allows};
 ghost use Rattle.cm_board_text.specs.Block.{has_line};
-ghost use Rattle.cm_board.specs.Board.{swaps};
+ghost use Rattle.cm_board.specs.Board.{down, swaps, up};
 
-use cm_base::source::EXT;
-use cm_board::board::{ChanSet, Fifo, Forbid, Kind, Munge, Range, Sub};
+use cm_base::source::{EXT, TIMER};
+use cm_board::board::{
+    ChanSet, Fifo, Forbid, Kind, LeastScan, ListRules, Munge, Range, Rounding, Sub,
+};
 use cm_board::channels::{maxdata_by, munge_by};
 use cm_board::items::Item;
 
@@ -27,7 +31,9 @@ pub struct Unchecked {
     pub scans_max: u32,
     pub lines: u32,
     pub buffer: u32,
-    pub same_range: bool,
+    pub rounding: Rounding,
+    pub least_scan: LeastScan,
+    pub lists: ListRules,
     pub forbidden: Vec<Forbid>,
     pub chans: Vec<ChanSet>,
     pub invert: bool,
@@ -36,17 +42,20 @@ pub struct Unchecked {
 }
 
 impl Unchecked {
-    ghost use Rattle.cm_board_text.specs.Block.{is_board_ok, is_lines_ok, is_list_ok, is_ticks_ok};
+    ghost use Rattle.cm_board_text.specs.Block.{are_on_tick, fits_timed, is_board_ok, is_entries_ok, is_lines_ok, is_list_ok, is_ticks_ok};
     ghost use Rattle.cm_board.specs.Board.{IsSoundSub, is_bits_ok, is_channel_ok};
     ghost use Rattle.cm_board_text.specs.UncheckedView.{unchecked_text};
-    ghost use Rattle.std.specs.Prelude.{◌<◌};
 
     /// The rules over the lines of a block.
     pub(crate) fn is_board_ok(&self) -> bool
         requires { 0 < self.now.tick }
         ensures { result ≡ is_board_ok (unchecked_text self.now) }
     {
-        self.is_bits_ok() && self.is_ticks_ok() && self.is_list_ok() && self.is_lines_ok()
+        self.is_bits_ok()
+            && self.is_ticks_ok()
+            && self.is_list_ok()
+            && self.is_lines_ok()
+            && self.is_entries_ok()
     }
 
     /// The subdevice, where all rules hold.
@@ -72,7 +81,9 @@ impl Unchecked {
             scans_max: self.scans_max,
             lines: self.lines,
             buffer: self.buffer,
-            same_range: self.same_range,
+            rounding: self.rounding,
+            least_scan: self.least_scan,
+            lists: self.lists,
             forbidden: self.forbidden,
             chans: self.chans,
             invert: self.invert,
@@ -99,9 +110,9 @@ impl Unchecked {
     }
 
     // The limits of times are multiples of the tick.
-    fn is_ticks_ok(&self) -> bool
+    fn are_on_tick(&self) -> bool
         requires { 0 < self.now.tick }
-        ensures { result ≡ is_ticks_ok (unchecked_text self.now) }
+        ensures { result ≡ are_on_tick (unchecked_text self.now) }
     {
         self.scan_min % self.tick == 0
             && self.scan_max % self.tick == 0
@@ -109,11 +120,45 @@ impl Unchecked {
             && self.conv_max % self.tick == 0
     }
 
-    // All conversions of the longest list fit into the longest scan.
+    // They are that but in the wider texts; there a multiple is between those of a scan, and one
+    // between those of a conversion.
+    fn is_ticks_ok(&self) -> bool
+        requires { 0 < self.now.tick }
+        ensures { result ≡ is_ticks_ok (unchecked_text self.now) }
+    {
+        (3 <= self.version || self.are_on_tick())
+            && up(self.tick, self.scan_min) <= u64::from(self.scan_max)
+            && up(self.tick, self.conv_min) <= u64::from(self.conv_max)
+    }
+
+    // Where scans may be timed, the longest of a time that is on the tick holds so much.
+    fn fits_timed(&self, time: u128) -> bool
+        requires { 0 < self.now.tick }
+        ensures { result ≡ fits_timed (unchecked_text self.now) time }
+    {
+        let [_, scan_begin, _, _, _] = self.sources;
+        !allows(scan_begin, TIMER) || time <= u128::from(down(self.tick, self.scan_max))
+    }
+
+    // All conversions of the longest list fit into the longest scan, and where both are timed
+    // those on the tick.
     fn is_list_ok(&self) -> bool
+        requires { 0 < self.now.tick }
         ensures { result ≡ is_list_ok (unchecked_text self.now) }
     {
-        self.conv_min as u64 * self.list_max as u64 <= self.scan_max as u64
+        let [_, _, convert, _, _] = self.sources;
+        let on_tick = u128::from(up(self.tick, self.conv_min)) * u128::from(self.list_max);
+        u64::from(self.conv_min) * u64::from(self.list_max) <= u64::from(self.scan_max)
+            && (!allows(convert, TIMER) || self.fits_timed(on_tick))
+    }
+
+    // The longest scan has the time that the board needs for the entries of the longest list.
+    fn is_entries_ok(&self) -> bool
+        requires { 0 < self.now.tick }
+        ensures { result ≡ is_entries_ok (unchecked_text self.now) }
+    {
+        let time = u128::from(self.least_scan.per_entry) * u128::from(self.list_max);
+        time <= u128::from(self.scan_max) && self.fits_timed(time)
     }
 
     // Where an external source may stand there is an external line.
@@ -133,7 +178,31 @@ impl Unchecked {
 fn has_line(lines: u32, mask: u32) -> bool
     ensures { result ≡ has_line lines mask }
 {
-    EXT & mask != EXT || 1 <= lines
+    !allows(mask, EXT) || 1 <= lines
+}
+
+// The mask has all bits of a source.
+fn allows(mask: u32, source: u32) -> bool
+    ensures { result ≡ allows mask source }
+{
+    source & mask == source
+}
+
+// The least multiple of the tick not below a time.
+fn up(tick: u32, time: u32) -> u64
+    requires { 0 < tick }
+    ensures { result ≡ up tick time }
+{
+    let tick = u64::from(tick);
+    (u64::from(time) + (tick - 1)) / tick * tick
+}
+
+// The greatest multiple of the tick not above it.
+fn down(tick: u32, time: u32) -> u32
+    requires { 0 < tick }
+    ensures { result ≡ down tick time }
+{
+    time / tick * tick
 }
 
 fn swaps(munge: Munge) -> bool

@@ -12,12 +12,12 @@ use Rattle.cm_board_text.proofs.printing.print_board.Goals as goal
 pub returns-clause-text : goal.returns-clause-text
 returns-clause-text c =
     let board : BoardText = c.args.board.now in
-    let first : List ℕ = c.put_one.new.out.items in
+    let first : List ℕ = c.put_version.new.out.items in
     let second : List ℕ = c.put_name.new.out.items in
     let name = ap (λ (n : List ℕ). first ++ line_of (name_line n)) (c.deref.ensures.value ∙ ap (λ (b : BoardText). b.name) c.board.view_is) in
     let subs = ap (λ (s : List SubText). second ++ flat_map block_text s) (c.deref-2.ensures.value ∙ ap (λ (b : BoardText). b.subs) c.board.view_is) in
     three_pieces [] (line_of (version_line board.version)) (line_of (name_line board.name)) (flat_map block_text board.subs) first second c.put_subs.new.out.items
-    (c.in_ok-put_one.ensures ∙ ap (λ (items : List ℕ). items ++ line_of (version_line c.board.inside.version)) c.new-out.ensures.items ∙ ap (λ (b : BoardText). line_of (version_line b.version)) c.board.view_is)
+    (c.in_ok-put_version.ensures ∙ ap (λ (items : List ℕ). items ++ line_of (version_line c.board.inside.version)) c.new-out.ensures.items ∙ ap (λ (b : BoardText). line_of (version_line b.version)) c.board.view_is)
     (c.in_ok-put_name.ensures ∙ name)
     (c.in_ok-put_subs.ensures.text ∙ subs)
 
