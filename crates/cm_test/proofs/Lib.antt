@@ -6,3 +6,4 @@ pub mod Kept
 pub mod Passed
 pub mod Rounding
 pub mod Moved
+pub mod Walks

@@ -7,7 +7,7 @@ use Rattle.cm_cmd.specs.Command.{CmdText}
 use Rattle.cm_cmd.specs.Entry.{chan, range}
 use Rattle.cm_test.specs.Law.{AreInside}
 use Rattle.cm_test.specs.Questions.{is_endless, is_one_bit, tested}
-use Rattle.cm_test.specs.ValidList.{has_valid_ranges}
+use Rattle.cm_test.specs.ValidList.{keeps_rules}
 
 -- one source, and one of the mask
 pub record IsOneOf (mask src : ℕ) : Type 0 where
@@ -23,9 +23,9 @@ IsStart src = (src ≡ source.now) ⊎ ((src ≡ source.ext) ⊎ (src ≡ source
 abbrev pub IsScanBegin : ℕ → Type 0
 IsScanBegin src = (src ≡ source.follow) ⊎ ((src ≡ source.timer) ⊎ (src ≡ source.ext))
 
--- conversions are made at once, are timed or come at edges
+-- conversions are made at once, follow each other, which is the same, are timed or come at edges
 abbrev pub IsConvert : ℕ → Type 0
-IsConvert src = (src ≡ source.now) ⊎ ((src ≡ source.timer) ⊎ (src ≡ source.ext))
+IsConvert src = (src ≡ source.now) ⊎ ((src ≡ source.follow) ⊎ ((src ≡ source.timer) ⊎ (src ≡ source.ext)))
 
 -- a command never stops, or it stops after a count of scans or at an edge
 abbrev pub IsStop : ℕ → Type 0
@@ -55,10 +55,11 @@ pub record IsPassed (sub : SubText) (cmd : CmdText) : Type 0 where
   pub period : cmd.scan_begin.src ≡ source.timer → 1 ≤ cmd.scan_begin.arg
   pub gap : cmd.convert.src ≡ source.timer → 1 ≤ cmd.convert.arg
   pub fits : cmd.scan_begin.src ≡ source.timer → cmd.convert.src ≡ source.timer → cmd.convert.arg * length cmd.list ≤ cmd.scan_begin.arg
+  pub entries_fit : cmd.scan_begin.src ≡ source.timer → sub.least_scan.per_entry * length cmd.list ≤ cmd.scan_begin.arg
   pub scans : cmd.stop.src ≡ source.count → IsFrom1To sub.scans_max cmd.stop.arg
   pub list : IsFrom1To sub.list_max (length cmd.list)
   pub entries : All (IsEntry sub) cmd.list
-  pub one_range : IsTrue (has_valid_ranges sub cmd.list)
+  pub rules : IsTrue (keeps_rules sub cmd.list)
 
 -- what passes the test is a command that the subdevice takes
 abbrev pub PassedIsTaken : Type 0

@@ -5,6 +5,7 @@ pub mod accepting;
 pub mod law;
 pub mod limits;
 pub mod lists;
+mod orders;
 pub mod sources;
 pub mod test;
 pub mod times;

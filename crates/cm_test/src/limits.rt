@@ -100,15 +100,43 @@ fn start_limits(sub: &Sub, cmd: &Cmd) -> Limits
 }
 
 fn scan_begin_limits(sub: &Sub, cmd: &Cmd) -> Limits
+    requires { length cmd.now.list < 2 ^ 32 }
     ensures { result ≡ spec.scan_begin_limits sub.now cmd.now }
 {
     match cmd.scan_begin.src {
         TIMER => Limits {
-            low: sub.scan_min,
+            low: least_period(sub, cmd).max(held_time(sub, cmd)),
             high: sub.scan_max,
         },
         EXT => Limits::lines(sub),
         _ => Limits::exactly(0),
+    }
+}
+
+/// The least period of scans, in nanoseconds: one with the time that the board needs for each entry
+/// of the list. The longest period is not shorter.
+pub(crate) fn least_period(sub: &Sub, cmd: &Cmd) -> u32
+    requires { length cmd.now.list < 2 ^ 32 }
+    ensures value { result ≡ spec.least_period sub.now cmd.now }
+    ensures fits { result ≤ sub.now.scan_max }
+{
+    let entries = sub.least_scan.per_entry * scan_length(sub, cmd);
+    sub.scan_min.max(entries)
+}
+
+// The time of timed conversions within their limits, where a shorter timed scan is outside its limits.
+fn held_time(sub: &Sub, cmd: &Cmd) -> u32
+    requires few { length cmd.now.list < 2 ^ 32 }
+    requires timed { IsTrue (cmd.now.scan_begin.src == source.timer) }
+    ensures value { result ≡ spec.held_time sub.now cmd.now }
+    ensures fits { result ≤ sub.now.scan_max }
+{
+    if sub.least_scan.holds && cmd.convert.src == TIMER {
+        let mut convert = cmd.convert;
+        convert_limits(sub, cmd).repair(sub, &mut convert);
+        convert.arg * scan_length(sub, cmd)
+    } else {
+        0
     }
 }
 

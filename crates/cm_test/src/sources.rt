@@ -66,11 +66,12 @@ fn is_one_bit(src: u32) -> bool
     src & src.saturating_sub(1) == 0
 }
 
-// Whether scans follow each other at once, with all conversions at once.
+// Whether scans follow each other at once, with all conversions at once, which those are that follow
+// each other.
 fn is_endless(cmd: &Cmd) -> bool
     ensures { result ≡ is_endless cmd.now }
 {
-    cmd.scan_begin.src == FOLLOW && cmd.convert.src == NOW
+    cmd.scan_begin.src == FOLLOW && (cmd.convert.src == NOW || cmd.convert.src == FOLLOW)
 }
 
 fn has_forbidden(pairs: &[Forbid], cmd: &Cmd) -> bool

@@ -1,3 +1,4 @@
+use Rattle.cm_test.proofs.Kept.{rounded_between, rounded_possible}
 use Rattle.cm_test.proofs.Rounding.{named, on_tick}
 use Rattle.cm_test.proofs.law.rounding_is_as_named.Goals as goal
 
@@ -6,3 +7,9 @@ returns-clause-named c = named
 
 pub returns-clause-on_tick : goal.returns-clause-on_tick
 returns-clause-on_tick c = on_tick
+
+pub returns-clause-possible : goal.returns-clause-possible
+returns-clause-possible c = rounded_possible
+
+pub returns-clause-unmoved : goal.returns-clause-unmoved
+returns-clause-unmoved c = rounded_between
