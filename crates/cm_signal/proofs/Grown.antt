@@ -13,13 +13,13 @@ use Rattle.std.proofs.lemmas.List.Elements.{All-nil, All-push}
 use Rattle.std.proofs.lemmas.List.{get_or-set_same, get_or-set_other, length-set, with_items_is}
 use Rattle.cm_base.proofs.Bools.{both, neither, not_true}
 use Rattle.cm_signal.specs.Said.{HasPeriod}
-use Rattle.cm_signal.specs.Signals.{SignalsText, IsSoundSignals, IsWave, AreEdges, edge_count, have_own, is_at, times_at}
-use Rattle.cm_signal.specs.SignalsPart.{is_fine, has_room, rises_from, silent, with_times}
+use Rattle.cm_signal.specs.Signals.{SignalsText, IsSoundSignals, IsWave, AreEdges, edge_count, have_own, is_at, recorded_count, recorded_in, times_at}
+use Rattle.cm_signal.specs.SignalsPart.{is_fine, has_record_room, has_room, rises_from, silent, with_times}
 use Rattle.cm_signal.specs.declared.signals.IntAt.{IntAt}
 use Rattle.cm_signal.specs.declared.signals.Slope.{Slope}
 use Rattle.cm_signal.specs.declared.signals.Slope.TheVariants as slopes
 use Rattle.cm_signal.specs.declared.wave.Wave.{Wave}
-use Rattle.cm_signal.specs.declared.wave.Wave.TheVariants.{Const, Square, Saw, Table}
+use Rattle.cm_signal.specs.declared.wave.Wave.TheVariants.{Const, Square, Saw, Table, Record}
 use Rattle.cm_signal.specs.declared.wave.WaveAt.{WaveAt}
 
 -- what holds of all items by a test
@@ -35,6 +35,7 @@ is_wave (Const level) has fine = tt
 is_wave (Square low high period) has fine = has
 is_wave (Saw low high period) has fine = (let h : int_le low high ≡ true = fine in search rules, has.0, has.1)
 is_wave (Table period levels) has fine = has
+is_wave (Record period levels) has fine = has
 
 -- two waves are of one channel, seen from either
 same_channel : (w x : WaveAt) → is_at w.sub w.chan x ≡ false → is_at x.sub x.chan w ≡ false
@@ -152,6 +153,7 @@ sound_with s slopes.Rise line new sound h are room =
       few_edges = omega arith;
       waves = sound.waves;
       own = sound.own;
+      few_recorded = sound.few_recorded;
       ints = sound.ints;
       few_ints = sound.few_ints;
     }
@@ -167,6 +169,7 @@ sound_with s slopes.Fall line new sound h are room =
       few_edges = omega arith;
       waves = sound.waves;
       own = sound.own;
+      few_recorded = sound.few_recorded;
       ints = sound.ints;
       few_ints = sound.few_ints;
     }
@@ -209,17 +212,38 @@ early s times sound room k h =
     let high = sound.horizon in
     omega arith
 
+-- the recorded levels with those of one wave more
+recorded_more : (ws : List WaveAt) (w : WaveAt) → recorded_count (ws ++ w ∷ []) ≡ recorded_count ws + recorded_in w.wave
+recorded_more [] w = omega arith
+recorded_more (x ∷ xs) w = let rest = recorded_more xs w in omega arith
+
+-- where there is room for them, they aren't too many
+few_more : (s : SignalsText) (wave : Wave) → recorded_count s.waves ≤ 10 ^ 5 → has_record_room s wave ≡ true → recorded_count s.waves + recorded_in wave ≤ 10 ^ 5
+few_more s (Const level) few room = omega arith
+few_more s (Square low high period) few room = omega arith
+few_more s (Saw low high period) few room = omega arith
+few_more s (Table period levels) few room = omega arith
+few_more s (Record period levels) few room = let all = leb-true (recorded_count s.waves + length levels) 100000 room in omega arith
+
+-- a wave that may stand with those before it
+pub record MayWave (s : SignalsText) (w : WaveAt) : Type 0 where
+  pub period : HasPeriod w.wave
+  pub room : has_record_room s w.wave ≡ true
+  pub own : list_any (is_at w.sub w.chan) s.waves ≡ false
+  pub fine : is_fine w.wave ≡ true
+
 -- one wave more
-pub more_waves : (s : SignalsText) (w : WaveAt) → IsSoundSignals s → HasPeriod w.wave → list_any (is_at w.sub w.chan) s.waves ≡ false → is_fine w.wave ≡ true → IsSoundSignals (record s { waves = s.waves ++ w ∷ [] })
-more_waves s w sound period other fine = record {
+pub more_waves : (s : SignalsText) (w : WaveAt) → IsSoundSignals s → MayWave s w → IsSoundSignals (record s { waves = s.waves ++ w ∷ [] })
+more_waves s w sound may = record {
   horizon = sound.horizon;
   lines = sound.lines;
   fall_lines = sound.fall_lines;
   edges = sound.edges;
   falls = sound.falls;
   few_edges = sound.few_edges;
-  waves = All-push (λ x. IsWave x.wave) s.waves w sound.waves (is_wave w.wave period fine);
-  own = own_more s.waves w sound.own other;
+  waves = All-push (λ x. IsWave x.wave) s.waves w sound.waves (is_wave w.wave may.period may.fine);
+  own = own_more s.waves w sound.own may.own;
+  few_recorded = let all = recorded_more s.waves w in let few = few_more s w.wave sound.few_recorded may.room in omega arith;
   ints = sound.ints;
   few_ints = sound.few_ints;
 }
@@ -271,6 +295,7 @@ silent_sound horizon h = record {
   few_edges = let none = none_counted 16 in omega arith;
   waves = All-nil (λ x. IsWave x.wave);
   own = refl;
+  few_recorded = omega arith;
   ints = All-nil (λ int. int.time ≤ horizon);
   few_ints = omega arith;
 }

@@ -1,4 +1,5 @@
 pub mod Grown
 pub mod Parts
 pub mod Progressions
+pub mod Records
 pub mod Refusal

@@ -10,7 +10,7 @@ use Rattle.cm_base.specs.Words.{alone}
 use Rattle.cm_base.specs.declared.faults.ReadStop.{ReadStop}
 use Rattle.cm_base.specs.declared.faults.ReadStop.TheVariants as stops
 use Rattle.cm_base.specs.declared.faults.Refused.{Refused}
-use Rattle.cm_board.specs.Board.{BoardText, SubText}
+use Rattle.cm_board.specs.Board.{BoardText}
 use Rattle.cm_signal.specs.Signals.{SignalsText}
 use Rattle.cm_signal.specs.SignalsPart.{horizon_words, is_session, lines_after, lines_inside, said_after, signals_after, signals_of, silent}
 
@@ -23,8 +23,8 @@ raised_twice m n (Ok s) = ap (λ (k : ℕ). let r : Result (SignalsText × ℕ) 
 raised_twice m n (Err e) = refl
 
 -- the signals of lines of which so many are inside
-abbrev cut_at : List SubText → ℕ → SignalsText → List LineText → ℕ → Result (SignalsText × ℕ) Refused
-cut_at subs end before lines n = read_on (said_after subs) before (take n lines) >>= λ signals. fixed end (codes "session") (alone true) (drop n lines) >>= λ closed. Ok (signals, 1 + n)
+abbrev cut_at : BoardText → ℕ → SignalsText → List LineText → ℕ → Result (SignalsText × ℕ) Refused
+cut_at board end before lines n = read_on (said_after board) before (take n lines) >>= λ signals. fixed end (codes "session") (alone true) (drop n lines) >>= λ closed. Ok (signals, 1 + n)
 
 reported_raised : {C : Type 0} (read : Result SignalsText Refused) (closed : Result C Refused) (k n : ℕ) → k ≡ 1 + n →
     (read >>= λ s. closed >>= λ c. Ok (s, k)) ≡ raised 1 (read >>= λ s. closed >>= λ c. Ok (s, n))
@@ -36,54 +36,54 @@ one_more : (n : ℕ) → 1 + n ≡ suc n
 one_more n = omega arith
 
 -- the `session` line ends the part
-pub session_here : (subs : List SubText) (end : ℕ) (before : SignalsText) (line : LineText) (rest : List LineText) → is_session line ≡ true →
-    signals_after subs end before (line ∷ rest) ≡ (fixed 0 (codes "session") (alone true) (line ∷ []) >>= λ closed. Ok (before, 1))
-session_here subs end before line rest e = ap (λ (b : Bool). cut_at subs end before (line ∷ rest) (cond (not b) (1 + position_or_len is_session rest) 0)) e
+pub session_here : (board : BoardText) (end : ℕ) (before : SignalsText) (line : LineText) (rest : List LineText) → is_session line ≡ true →
+    signals_after board end before (line ∷ rest) ≡ (fixed 0 (codes "session") (alone true) (line ∷ []) >>= λ closed. Ok (before, 1))
+session_here board end before line rest e = ap (λ (b : Bool). cut_at board end before (line ∷ rest) (cond (not b) (1 + position_or_len is_session rest) 0)) e
 
-inside : (subs : List SubText) (end : ℕ) (before : SignalsText) (line : LineText) (rest : List LineText) → is_session line ≡ false →
-    signals_after subs end before (line ∷ rest) ≡ cut_at subs end before (line ∷ rest) (suc (position_or_len is_session rest))
-inside subs end before line rest e =
-    ap (λ (b : Bool). cut_at subs end before (line ∷ rest) (cond (not b) (1 + position_or_len is_session rest) 0)) e
-    ∙ ap (cut_at subs end before (line ∷ rest)) (one_more (position_or_len is_session rest))
+inside : (board : BoardText) (end : ℕ) (before : SignalsText) (line : LineText) (rest : List LineText) → is_session line ≡ false →
+    signals_after board end before (line ∷ rest) ≡ cut_at board end before (line ∷ rest) (suc (position_or_len is_session rest))
+inside board end before line rest e =
+    ap (λ (b : Bool). cut_at board end before (line ∷ rest) (cond (not b) (1 + position_or_len is_session rest) 0)) e
+    ∙ ap (cut_at board end before (line ∷ rest)) (one_more (position_or_len is_session rest))
 
 -- a line more is read
-pub line_inside : (subs : List SubText) (end : ℕ) (before more : SignalsText) (line : LineText) (rest : List LineText) → is_session line ≡ false →
-    at_line line.number (said_after subs before line) ≡ Ok more → signals_after subs end before (line ∷ rest) ≡ raised 1 (signals_after subs end more rest)
-line_inside subs end before more line rest e said =
+pub line_inside : (board : BoardText) (end : ℕ) (before more : SignalsText) (line : LineText) (rest : List LineText) → is_session line ≡ false →
+    at_line line.number (said_after board before line) ≡ Ok more → signals_after board end before (line ∷ rest) ≡ raised 1 (signals_after board end more rest)
+line_inside board end before more line rest e said =
     let n = position_or_len is_session rest in
-    inside subs end before line rest e
-    ∙ ap (λ (r : Result SignalsText Refused). (r >>= λ m. read_on (said_after subs) m (take n rest)) >>= λ signals. fixed end (codes "session") (alone true) (drop n rest) >>= λ closed. Ok (signals, 1 + suc n)) said
-    ∙ reported_raised (read_on (said_after subs) more (lines_inside rest)) (fixed end (codes "session") (alone true) (lines_after rest)) (1 + suc n) (1 + n) (omega arith)
+    inside board end before line rest e
+    ∙ ap (λ (r : Result SignalsText Refused). (r >>= λ m. read_on (said_after board) m (take n rest)) >>= λ signals. fixed end (codes "session") (alone true) (drop n rest) >>= λ closed. Ok (signals, 1 + suc n)) said
+    ∙ reported_raised (read_on (said_after board) more (lines_inside rest)) (fixed end (codes "session") (alone true) (lines_after rest)) (1 + suc n) (1 + n) (omega arith)
 
 -- after others too
-pub line_more : (subs : List SubText) (end : ℕ) (first before more : SignalsText) (all : List LineText) (line : LineText) (now rest : List LineText) (count : ℕ) →
-    signals_after subs end first all ≡ raised count (signals_after subs end before now) → now ≡ line ∷ rest → is_session line ≡ false → at_line line.number (said_after subs before line) ≡ Ok more →
-    signals_after subs end first all ≡ raised (count + 1) (signals_after subs end more rest)
-line_more subs end first before more all line now rest count reported here e said =
-    reported ∙ ap (λ (ls : List LineText). raised count (signals_after subs end before ls)) here
-    ∙ ap (raised count) (line_inside subs end before more line rest e said)
-    ∙ raised_twice count 1 (signals_after subs end more rest)
+pub line_more : (board : BoardText) (end : ℕ) (first before more : SignalsText) (all : List LineText) (line : LineText) (now rest : List LineText) (count : ℕ) →
+    signals_after board end first all ≡ raised count (signals_after board end before now) → now ≡ line ∷ rest → is_session line ≡ false → at_line line.number (said_after board before line) ≡ Ok more →
+    signals_after board end first all ≡ raised (count + 1) (signals_after board end more rest)
+line_more board end first before more all line now rest count reported here e said =
+    reported ∙ ap (λ (ls : List LineText). raised count (signals_after board end before ls)) here
+    ∙ ap (raised count) (line_inside board end before more line rest e said)
+    ∙ raised_twice count 1 (signals_after board end more rest)
 
 raised_stops : (stop : ReadStop) (count : ℕ) (r : Result (SignalsText × ℕ) Refused) → Stops stop r → Stops stop (raised count r)
 raised_stops stops.NoMemory count r said = tt
 raised_stops (stops.Refused why) count r said = ap (raised count) said
 
 -- a line of the part that is refused
-pub line_stops : (subs : List SubText) (end : ℕ) (before : SignalsText) (line : LineText) (rest : List LineText) (stop : ReadStop) → is_session line ≡ false →
-    Stops stop (at_line line.number (said_after subs before line)) → Stops stop (signals_after subs end before (line ∷ rest))
-line_stops subs end before line rest stops.NoMemory e said = tt
-line_stops subs end before line rest (stops.Refused why) e said =
+pub line_stops : (board : BoardText) (end : ℕ) (before : SignalsText) (line : LineText) (rest : List LineText) (stop : ReadStop) → is_session line ≡ false →
+    Stops stop (at_line line.number (said_after board before line)) → Stops stop (signals_after board end before (line ∷ rest))
+line_stops board end before line rest stops.NoMemory e said = tt
+line_stops board end before line rest (stops.Refused why) e said =
     let n = position_or_len is_session rest in
-    inside subs end before line rest e
-    ∙ ap (λ (r : Result SignalsText Refused). (r >>= λ m. read_on (said_after subs) m (take n rest)) >>= λ signals. fixed end (codes "session") (alone true) (drop n rest) >>= λ closed. Ok (signals, 1 + suc n)) said
+    inside board end before line rest e
+    ∙ ap (λ (r : Result SignalsText Refused). (r >>= λ m. read_on (said_after board) m (take n rest)) >>= λ signals. fixed end (codes "session") (alone true) (drop n rest) >>= λ closed. Ok (signals, 1 + suc n)) said
 
 -- a line that is refused after others
-pub lines_stop : (subs : List SubText) (end : ℕ) (first before : SignalsText) (all : List LineText) (line : LineText) (now rest : List LineText) (count : ℕ) (stop : ReadStop) →
-    signals_after subs end first all ≡ raised count (signals_after subs end before now) → now ≡ line ∷ rest → is_session line ≡ false → Stops stop (at_line line.number (said_after subs before line)) →
-    Stops stop (signals_after subs end first all)
-lines_stop subs end first before all line now rest count stop reported here e said =
-    subst (Stops stop) (sym (reported ∙ ap (λ (ls : List LineText). raised count (signals_after subs end before ls)) here))
-    (raised_stops stop count (signals_after subs end before (line ∷ rest)) (line_stops subs end before line rest stop e said))
+pub lines_stop : (board : BoardText) (end : ℕ) (first before : SignalsText) (all : List LineText) (line : LineText) (now rest : List LineText) (count : ℕ) (stop : ReadStop) →
+    signals_after board end first all ≡ raised count (signals_after board end before now) → now ≡ line ∷ rest → is_session line ≡ false → Stops stop (at_line line.number (said_after board before line)) →
+    Stops stop (signals_after board end first all)
+lines_stop board end first before all line now rest count stop reported here e said =
+    subst (Stops stop) (sym (reported ∙ ap (λ (ls : List LineText). raised count (signals_after board end before ls)) here))
+    (raised_stops stop count (signals_after board end before (line ∷ rest)) (line_stops board end before line rest stop e said))
 
 -- an answer that stops for the same reason
 pub gives_err : {X Y : Type 0} (view : X → Y) (r : Result X ReadStop) (stop : ReadStop) (read : Result Y Refused) → IsErrAnd r (λ e. e ≡ stop) → Stops stop read → Gives view r read
@@ -92,33 +92,31 @@ gives_err view (Err e) stop read h s = subst (λ st. Stops st read) (sym h) s
 
 -- the whole part, from what is after its first line
 pub part_after : (board : BoardText) (end horizon : ℕ) (lines : List LineText) → fixed end (codes "signals") horizon_words lines ≡ Ok horizon →
-    signals_of board end lines ≡ raised 1 (signals_after board.subs end (silent horizon) (drop 1 lines))
+    signals_of board end lines ≡ raised 1 (signals_after board end (silent horizon) (drop 1 lines))
 part_after board end horizon lines e =
     let rest = drop 1 lines in
     let n = position_or_len is_session rest in
-    ap (λ (r : Result ℕ Refused). r >>= λ h. read_on (said_after board.subs) (silent h) (lines_inside rest) >>= λ signals. fixed end (codes "session") (alone true) (lines_after rest) >>= λ closed. Ok (signals, 2 + n)) e
-    ∙ reported_raised (read_on (said_after board.subs) (silent horizon) (lines_inside rest)) (fixed end (codes "session") (alone true) (lines_after rest)) (2 + n) (1 + n) (omega arith)
+    ap (λ (r : Result ℕ Refused). r >>= λ h. read_on (said_after board) (silent h) (lines_inside rest) >>= λ signals. fixed end (codes "session") (alone true) (lines_after rest) >>= λ closed. Ok (signals, 2 + n)) e
+    ∙ reported_raised (read_on (said_after board) (silent horizon) (lines_inside rest)) (fixed end (codes "session") (alone true) (lines_after rest)) (2 + n) (1 + n) (omega arith)
 
 -- what was read after the first line
-pub record IsBegun (board : BoardText) (end horizon : ℕ) (lines rest : List LineText) (subs : List SubText) (start : SignalsText) : Type 0 where
+pub record IsBegun (board : BoardText) (end horizon : ℕ) (lines rest : List LineText) (start : SignalsText) : Type 0 where
   pub head : fixed end (codes "signals") horizon_words lines ≡ Ok horizon
   pub rest_is : rest ≡ drop 1 lines
-  pub subs_are : subs ≡ board.subs
   pub silence : start ≡ silent horizon
 
-begun : (board : BoardText) (end horizon : ℕ) (lines rest : List LineText) (subs : List SubText) (start : SignalsText) → IsBegun board end horizon lines rest subs start →
-    signals_of board end lines ≡ raised 1 (signals_after subs end start rest)
-begun board end horizon lines rest subs start b =
+begun : (board : BoardText) (end horizon : ℕ) (lines rest : List LineText) (start : SignalsText) → IsBegun board end horizon lines rest start →
+    signals_of board end lines ≡ raised 1 (signals_after board end start rest)
+begun board end horizon lines rest start b =
     part_after board end horizon lines b.head
-    ∙ ap (λ (ss : List SubText). raised 1 (signals_after ss end (silent horizon) (drop 1 lines))) (sym b.subs_are)
-    ∙ ap (λ (s : SignalsText). raised 1 (signals_after subs end s (drop 1 lines))) (sym b.silence)
-    ∙ ap (λ (ls : List LineText). raised 1 (signals_after subs end start ls)) (sym b.rest_is)
+    ∙ ap (λ (s : SignalsText). raised 1 (signals_after board end s (drop 1 lines))) (sym b.silence)
+    ∙ ap (λ (ls : List LineText). raised 1 (signals_after board end start ls)) (sym b.rest_is)
 
-pub part_stops : (board : BoardText) (end horizon : ℕ) (lines rest : List LineText) (subs : List SubText) (start : SignalsText) (stop : ReadStop) → IsBegun board end horizon lines rest subs start →
-    Stops stop (signals_after subs end start rest) → Stops stop (signals_of board end lines)
-part_stops board end horizon lines rest subs start stop b said =
-    subst (Stops stop) (sym (begun board end horizon lines rest subs start b)) (raised_stops stop 1 (signals_after subs end start rest) said)
+pub part_stops : (board : BoardText) (end horizon : ℕ) (lines rest : List LineText) (start : SignalsText) (stop : ReadStop) → IsBegun board end horizon lines rest start →
+    Stops stop (signals_after board end start rest) → Stops stop (signals_of board end lines)
+part_stops board end horizon lines rest start stop b said =
+    subst (Stops stop) (sym (begun board end horizon lines rest start b)) (raised_stops stop 1 (signals_after board end start rest) said)
 
-pub part_reported : (board : BoardText) (end horizon : ℕ) (lines rest : List LineText) (subs : List SubText) (start signals : SignalsText) (count : ℕ) → IsBegun board end horizon lines rest subs start →
-    signals_after subs end start rest ≡ Ok (signals, count) → signals_of board end lines ≡ Ok (signals, 1 + count)
-part_reported board end horizon lines rest subs start signals count b said = begun board end horizon lines rest subs start b ∙ ap (raised 1) said
+pub part_reported : (board : BoardText) (end horizon : ℕ) (lines rest : List LineText) (start signals : SignalsText) (count : ℕ) → IsBegun board end horizon lines rest start →
+    signals_after board end start rest ≡ Ok (signals, count) → signals_of board end lines ≡ Ok (signals, 1 + count)
+part_reported board end horizon lines rest start signals count b said = begun board end horizon lines rest start b ∙ ap (raised 1) said

@@ -11,25 +11,25 @@ use Rattle.cm_base.specs.declared.faults.Fault.TheVariants as faults
 use Rattle.cm_base.specs.declared.faults.ReadStop.TheVariants as stops
 use Rattle.cm_base.specs.declared.faults.Refused.{Refused}
 use Rattle.cm_base.proofs.Refusal.{err_is, fixed_number}
-use Rattle.cm_board.specs.Board.{BoardText, SubText}
+use Rattle.cm_board.specs.Board.{BoardText}
 use Rattle.cm_signal.specs.Refusal.{FirstIsRefused, IsFirstFault}
 use Rattle.cm_signal.specs.Signals.{SignalsText}
 use Rattle.cm_signal.specs.SignalsPart.{horizon_words, is_session, lines_after, lines_inside, said_after, signals_after, silent}
 use Rattle.cm_signal.proofs.Parts.{line_inside, line_stops, part_after, raised, session_here}
 
 -- the first line that fails of those after the `signals` line
-record IsFault (subs : List SubText) (signals : SignalsText) (end : ℕ) (lines : List LineText) (refused : Refused) : Type 0 where
+record IsFault (board : BoardText) (signals : SignalsText) (end : ℕ) (lines : List LineText) (refused : Refused) : Type 0 where
   good : List LineText
   rest : List LineText
   parts : lines ≡ good ++ rest
   line : refused.line ≡ next_number end rest
-  before : (other : ℕ) → signals_after subs other signals good ≡ Err (record { line = other; cause = faults.Missing })
-  here : signals_after subs end signals (good ++ take 1 rest) ≡ Err refused
+  before : (other : ℕ) → signals_after board other signals good ≡ Err (record { line = other; cause = faults.Missing })
+  here : signals_after board end signals (good ++ take 1 rest) ≡ Err refused
 
 -- the first of some lines fails
-fails_here : (subs : List SubText) (signals : SignalsText) (end : ℕ) (line : LineText) (rest : List LineText) (refused : Refused) → refused.line ≡ line.number →
-    signals_after subs end signals (line ∷ []) ≡ Err refused → IsFault subs signals end (line ∷ rest) refused
-fails_here subs signals end line rest refused n e = record {
+fails_here : (board : BoardText) (signals : SignalsText) (end : ℕ) (line : LineText) (rest : List LineText) (refused : Refused) → refused.line ≡ line.number →
+    signals_after board end signals (line ∷ []) ≡ Err refused → IsFault board signals end (line ∷ rest) refused
+fails_here board signals end line rest refused n e = record {
   good = [];
   rest = line ∷ rest;
   parts = refl;
@@ -51,8 +51,8 @@ closed_err : (before : SignalsText) (closed : Result Bool Refused) (refused : Re
 closed_err before (Ok c) refused e = cc
 closed_err before (Err r) refused e = ap (λ (x : Refused). Err x) (err_is _ _ e)
 
-after_refused : (subs : List SubText) (signals : SignalsText) (end : ℕ) (lines : List LineText) (refused : Refused) → signals_after subs end signals lines ≡ Err refused → IsFault subs signals end lines refused
-after_refused subs signals end [] refused e = record {
+after_refused : (board : BoardText) (signals : SignalsText) (end : ℕ) (lines : List LineText) (refused : Refused) → signals_after board end signals lines ≡ Err refused → IsFault board signals end lines refused
+after_refused board signals end [] refused e = record {
   good = [];
   rest = [];
   parts = refl;
@@ -60,37 +60,37 @@ after_refused subs signals end [] refused e = record {
   before = λ other. refl;
   here = e;
 }
-after_refused subs signals end (line ∷ rest) refused e = by (is_session line) refl (λ more. after_refused subs more end rest refused)
+after_refused board signals end (line ∷ rest) refused e = by (is_session line) refl (λ more. after_refused board more end rest refused)
   where
-    by_said : is_session line ≡ false → (said : Result SignalsText Fault) → said_after subs signals line ≡ said → ((more : SignalsText) → signals_after subs end more rest ≡ Err refused → IsFault subs more end rest refused) → IsFault subs signals end (line ∷ rest) refused
+    by_said : is_session line ≡ false → (said : Result SignalsText Fault) → said_after board signals line ≡ said → ((more : SignalsText) → signals_after board end more rest ≡ Err refused → IsFault board more end rest refused) → IsFault board signals end (line ∷ rest) refused
     by_said inside (Err cause) said later =
-        let stop : at_line line.number (said_after subs signals line) ≡ Err (record { line = line.number; cause = cause }) = ap (at_line line.number) said in
-        let same : record { line = line.number; cause = cause } ≡ refused = err_is _ _ (sym (line_stops subs end signals line rest (stops.Refused (record { line = line.number; cause = cause })) inside stop) ∙ e) in
-        fails_here subs signals end line rest refused (ap (λ (r : Refused). r.line) (sym same))
-        (line_stops subs end signals line [] (stops.Refused (record { line = line.number; cause = cause })) inside stop ∙ ap (λ (r : Refused). Err r) same)
+        let stop : at_line line.number (said_after board signals line) ≡ Err (record { line = line.number; cause = cause }) = ap (at_line line.number) said in
+        let same : record { line = line.number; cause = cause } ≡ refused = err_is _ _ (sym (line_stops board end signals line rest (stops.Refused (record { line = line.number; cause = cause })) inside stop) ∙ e) in
+        fails_here board signals end line rest refused (ap (λ (r : Refused). r.line) (sym same))
+        (line_stops board end signals line [] (stops.Refused (record { line = line.number; cause = cause })) inside stop ∙ ap (λ (r : Refused). Err r) same)
     by_said inside (Ok more) said later =
-        let read : at_line line.number (said_after subs signals line) ≡ Ok more = ap (at_line line.number) said in
-        let f = later more (raised_err 1 (signals_after subs end more rest) refused (sym (line_inside subs end signals more line rest inside read) ∙ e)) in
+        let read : at_line line.number (said_after board signals line) ≡ Ok more = ap (at_line line.number) said in
+        let f = later more (raised_err 1 (signals_after board end more rest) refused (sym (line_inside board end signals more line rest inside read) ∙ e)) in
         record {
           good = line ∷ f.good;
           rest = f.rest;
           parts = ap (λ (ls : List LineText). line ∷ ls) f.parts;
           line = f.line;
-          before = λ other. line_inside subs other signals more line f.good inside read ∙ ap (raised 1) (f.before other);
-          here = line_inside subs end signals more line (f.good ++ take 1 f.rest) inside read ∙ ap (raised 1) f.here;
+          before = λ other. line_inside board other signals more line f.good inside read ∙ ap (raised 1) (f.before other);
+          here = line_inside board end signals more line (f.good ++ take 1 f.rest) inside read ∙ ap (raised 1) f.here;
         }
 
-    by : (session : Bool) → is_session line ≡ session → ((more : SignalsText) → signals_after subs end more rest ≡ Err refused → IsFault subs more end rest refused) → IsFault subs signals end (line ∷ rest) refused
+    by : (session : Bool) → is_session line ≡ session → ((more : SignalsText) → signals_after board end more rest ≡ Err refused → IsFault board more end rest refused) → IsFault board signals end (line ∷ rest) refused
     by true is later =
-        let closed = closed_err signals (fixed 0 (codes "session") (alone true) (line ∷ [])) refused (sym (session_here subs end signals line rest is) ∙ e) in
-        fails_here subs signals end line rest refused (fixed_number 0 (codes "session") (alone true) line [] refused closed)
-        (session_here subs end signals line [] is ∙ ap (closes signals) closed)
-    by false is later = by_said is (said_after subs signals line) refl later
+        let closed = closed_err signals (fixed 0 (codes "session") (alone true) (line ∷ [])) refused (sym (session_here board end signals line rest is) ∙ e) in
+        fails_here board signals end line rest refused (fixed_number 0 (codes "session") (alone true) line [] refused closed)
+        (session_here board end signals line [] is ∙ ap (closes signals) closed)
+    by false is later = by_said is (said_after board signals line) refl later
 
 -- a signals part by what its first line says, and the lines after it
 abbrev after_head : BoardText → ℕ → List LineText → Result ℕ Refused → Result (SignalsText × ℕ) Refused
 after_head board end more said =
-    said >>= λ horizon. read_on (said_after board.subs) (silent horizon) (lines_inside more) >>= λ signals.
+    said >>= λ horizon. read_on (said_after board) (silent horizon) (lines_inside more) >>= λ signals.
     fixed end (codes "session") (alone true) (lines_after more) >>= λ closed. Ok (signals, 2 + position_or_len is_session more)
 
 first_fails : (board : BoardText) (end : ℕ) (line : LineText) (rest : List LineText) (refused : Refused) → fixed end (codes "signals") horizon_words (line ∷ rest) ≡ Err refused → IsFirstFault board end (line ∷ rest) refused
@@ -119,7 +119,7 @@ first_refused board end (line ∷ rest) refused e = by (fixed end (codes "signal
         let same : r ≡ refused = err_is _ _ (sym (ap (after_head board end rest) is) ∙ e) in
         first_fails board end line rest refused (is ∙ ap (λ (x : Refused). Err x) same)
     by (Ok horizon) is =
-        let f = after_refused board.subs (silent horizon) end rest refused (raised_err 1 (signals_after board.subs end (silent horizon) rest) refused (sym (part_after board end horizon (line ∷ rest) is) ∙ e)) in
+        let f = after_refused board (silent horizon) end rest refused (raised_err 1 (signals_after board end (silent horizon) rest) refused (sym (part_after board end horizon (line ∷ rest) is) ∙ e)) in
         record {
           good = line ∷ f.good;
           rest = f.rest;

@@ -1,5 +1,5 @@
 -- The signals part of a text.
-use Rattle.std.specs.Prelude.{ℕ, zero, suc, ◌+◌, Bool, true, false, ◌&&◌, nat_le, nat_lt, int_le, List, [], ◌∷◌, ◌++◌, length}
+use Rattle.std.specs.Prelude.{ℕ, ℤ, zero, suc, ◌+◌, Bool, true, ◌&&◌, nat_le, nat_lt, int_le, List, [], ◌∷◌, ◌++◌, length}
 use Rattle.std.specs.Prelude.{drop, replicate, slice_get, slice_set, Option, Some, None, codes, Result, Ok, Err, if◌then◌else◌}
 use Rattle.std.specs.List.{before_first, list_all, list_any, position_or_len}
 use Rattle.cm_base.specs.Lines.{LineText}
@@ -9,10 +9,10 @@ use Rattle.cm_base.specs.Reading.{◌>>=◌, read_on}
 use Rattle.cm_base.specs.Words.{Form, alone, each_word, four_words, keyword, limited, number_below, number_in, one}
 use Rattle.cm_base.specs.Words.{one_and_more, one_word, or_fault, signed_number, three_and_more, three_words, values}
 use Rattle.cm_base.specs.declared.faults.Fault.{Fault}
-use Rattle.cm_base.specs.declared.faults.Fault.TheVariants.{Bad, BadLine, BadNumber, Double, Limit}
+use Rattle.cm_base.specs.declared.faults.Fault.TheVariants.{Bad, BadLine, BadNumber, Double, Limit, Unknown}
 use Rattle.cm_base.specs.declared.faults.Refused.{Refused}
 use Rattle.cm_board.specs.Board.{BoardText, SubText, has_levels}
-use Rattle.cm_signal.specs.Signals.{SignalsText, edge_count, is_at, times_at}
+use Rattle.cm_signal.specs.Signals.{SignalsText, edge_count, is_at, recorded_count, times_at}
 use Rattle.cm_signal.specs.declared.said.Said.{Said}
 use Rattle.cm_signal.specs.declared.said.Said.TheVariants as said
 use Rattle.cm_signal.specs.declared.signals.Slope.{Slope}
@@ -64,24 +64,36 @@ saw_words subs sub chan words =
     signed_number w.0 >>= λ low. signed_number w.1 >>= λ high. period_word w.2 >>= λ period.
     Ok (wave_said at (waves.Saw low high period))
 
+-- the channel, the period and the levels of a wave whose levels each last one period, of which at most so many may stand
+abbrev pub levels_words : ℕ → List SubText → List ℕ → List ℕ → Form ((ℕ × ℕ) × ℕ × List ℤ)
+levels_words most subs sub chan words =
+    one_and_more words >>= λ w. channel_words subs sub chan >>= λ at.
+    period_word w.0 >>= λ period. values most signed_number [] w.1 >>= λ levels.
+    Ok (at, period, levels)
+
 -- a table: its period, and at most 64 levels
 abbrev pub table_words : List SubText → List ℕ → List ℕ → Form Said
-table_words subs sub chan words =
-    one_and_more words >>= λ w. channel_words subs sub chan >>= λ at.
-    period_word w.0 >>= λ period. values 64 signed_number [] w.1 >>= λ levels.
-    Ok (wave_said at (waves.Table period levels))
+table_words subs sub chan words = levels_words 64 subs sub chan words >>= λ l. Ok (wave_said l.0 (waves.Table l.1 l.2))
+
+-- a record: its period, and as many levels as the line has; boards have it whose text begins with `zendrouz 1`, the third version
+abbrev pub record_words : BoardText → List ℕ → List ℕ → Form Said
+record_words board sub chan words =
+    if nat_le 3 board.version
+    then (levels_words (length words) board.subs sub chan words >>= λ l. Ok (wave_said l.0 (waves.Record l.1 l.2)))
+    else Err Unknown
 
 -- the waves by their names
-abbrev pub wave_forms : List SubText → List (List ℕ × (List ℕ → List ℕ → Form Said))
-wave_forms subs =
-    (codes "const", const_words subs) ∷
-    (codes "square", square_words subs) ∷
-    (codes "saw", saw_words subs) ∷
-    (codes "table", table_words subs) ∷ []
+abbrev pub wave_forms : BoardText → List (List ℕ × (List ℕ → List ℕ → Form Said))
+wave_forms board =
+    (codes "const", const_words board.subs) ∷
+    (codes "square", square_words board.subs) ∷
+    (codes "saw", saw_words board.subs) ∷
+    (codes "table", table_words board.subs) ∷
+    (codes "record", record_words board) ∷ []
 
 -- `wave SUB CHAN KIND ..`
-abbrev pub wave_words : List SubText → Form Said
-wave_words subs words = three_and_more words >>= λ w. keyword (wave_forms subs) w.2 >>= λ form. form w.0 w.1 w.3
+abbrev pub wave_words : BoardText → Form Said
+wave_words board words = three_and_more words >>= λ w. keyword (wave_forms board) w.2 >>= λ form. form w.0 w.1 w.3
 
 -- the number of an external line
 abbrev pub line_word : List ℕ → Result ℕ Fault
@@ -117,19 +129,19 @@ int_words subs horizon words =
     Ok (said.Int (record { sub = sub; time = time; arg = arg }))
 
 -- the lines of the part, by their first word
-abbrev pub signal_forms : List SubText → ℕ → List (List ℕ × Form Said)
-signal_forms subs horizon =
-    (codes "wave", wave_words subs) ∷ (codes "edges", edges_words slopes.Rise horizon) ∷ (codes "falls", edges_words slopes.Fall horizon) ∷
-    (codes "every", every_words) ∷ (codes "int", int_words subs horizon) ∷ []
+abbrev pub signal_forms : BoardText → ℕ → List (List ℕ × Form Said)
+signal_forms board horizon =
+    (codes "wave", wave_words board) ∷ (codes "edges", edges_words slopes.Rise horizon) ∷ (codes "falls", edges_words slopes.Fall horizon) ∷
+    (codes "every", every_words) ∷ (codes "int", int_words board.subs horizon) ∷ []
 
 -- what a line of the signals part says
-abbrev pub said_words : List SubText → ℕ → List (List ℕ) → Result Said Fault
-said_words subs horizon [] = Err BadLine
-said_words subs horizon (key ∷ words) = keyword (signal_forms subs horizon) key >>= λ form. form words
+abbrev pub said_words : BoardText → ℕ → List (List ℕ) → Result Said Fault
+said_words board horizon [] = Err BadLine
+said_words board horizon (key ∷ words) = keyword (signal_forms board horizon) key >>= λ form. form words
 
 -- what a line of the part says by itself
-abbrev pub said_line : List SubText → ℕ → LineText → Result Said Fault
-said_line subs horizon line = if line.bad then Err BadLine else said_words subs horizon line.words
+abbrev pub said_line : BoardText → ℕ → LineText → Result Said Fault
+said_line board horizon line = if line.bad then Err BadLine else said_words board horizon line.words
 
 -- a saw does not fall
 abbrev pub is_fine : Wave → Bool
@@ -145,9 +157,18 @@ rises_from least (time ∷ times) = nat_le least time && rises_from (time + 1) t
 abbrev pub has_room : SignalsText → List ℕ → Bool
 has_room s times = list_all (λ time. nat_le time s.horizon) times && nat_le (edge_count s.edges + edge_count s.falls + length times) 100000
 
+-- a record's levels and all recorded ones before it aren't too many together
+abbrev pub has_record_room : SignalsText → Wave → Bool
+has_record_room s (waves.Record period levels) = nat_le (recorded_count s.waves + length levels) 100000
+has_record_room s wave = true
+
+-- whether a channel may have this wave, where there is room for it
+abbrev pub checked_own : SignalsText → WaveAt → Result (Unit {0}) Fault
+checked_own s w = if list_any (is_at w.sub w.chan) s.waves then Err Double else (if is_fine w.wave then Ok tt else Err Bad)
+
 -- whether a line's wave may stand after those before it
 abbrev pub checked_wave : SignalsText → WaveAt → Result (Unit {0}) Fault
-checked_wave s w = if list_any (is_at w.sub w.chan) s.waves then Err Double else (if is_fine w.wave then Ok tt else Err Bad)
+checked_wave s w = if has_record_room s w.wave then checked_own s w else Err Limit
 
 -- whether a line's edges may stand after those before them with the same slope
 abbrev pub checked_edges : SignalsText → Slope → ℕ → List ℕ → Result (Unit {0}) Fault
@@ -175,8 +196,8 @@ with_said s (said.Edges slope line times) = with_times s slope line (times_at s 
 with_said s (said.Int int) = record s { ints = s.ints ++ int ∷ [] }
 
 -- what a line adds to the signals of the lines before it
-abbrev pub said_after : List SubText → SignalsText → LineText → Result SignalsText Fault
-said_after subs s line = said_line subs s.horizon line >>= λ what. checked s what >>= λ fits. Ok (with_said s what)
+abbrev pub said_after : BoardText → SignalsText → LineText → Result SignalsText Fault
+said_after board s line = said_line board s.horizon line >>= λ what. checked s what >>= λ fits. Ok (with_said s what)
 
 -- no wave, no edge and no trigger
 abbrev pub silent : ℕ → SignalsText
@@ -199,9 +220,9 @@ abbrev pub lines_after : List LineText → List LineText
 lines_after lines = drop (position_or_len is_session lines) lines
 
 -- the signals with what these lines add up to the `session` line, and how many they are with it
-abbrev pub signals_after : List SubText → ℕ → SignalsText → List LineText → Result (SignalsText × ℕ) Refused
-signals_after subs end before lines =
-    read_on (said_after subs) before (lines_inside lines) >>= λ signals.
+abbrev pub signals_after : BoardText → ℕ → SignalsText → List LineText → Result (SignalsText × ℕ) Refused
+signals_after board end before lines =
+    read_on (said_after board) before (lines_inside lines) >>= λ signals.
     fixed end (codes "session") (alone true) (lines_after lines) >>= λ closed.
     Ok (signals, 1 + position_or_len is_session lines)
 
@@ -209,7 +230,7 @@ signals_after subs end before lines =
 abbrev pub signals_of : BoardText → ℕ → List LineText → Result (SignalsText × ℕ) Refused
 signals_of board end lines =
     fixed end (codes "signals") horizon_words lines >>= λ horizon.
-    read_on (said_after board.subs) (silent horizon) (lines_inside (drop 1 lines)) >>= λ signals.
+    read_on (said_after board) (silent horizon) (lines_inside (drop 1 lines)) >>= λ signals.
     fixed end (codes "session") (alone true) (lines_after (drop 1 lines)) >>= λ closed.
     Ok (signals, 2 + position_or_len is_session (drop 1 lines))
 

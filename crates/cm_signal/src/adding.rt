@@ -2,7 +2,7 @@
 ghost use Rattle.std.specs.Prelude.{◌≡◌, ℕ, ◌<◌, ◌≤◌, ◌^◌, ◌++◌, [], length, nat_le, replicate, slice_index, slice_index_or, slice_set, is_ok, if◌then◌else◌, IfOk};
 ghost use Rattle.std.specs.List.{list_all};
 ghost use Rattle.std.specs.List.Sorted.{IsStrictlyIncreasing};
-ghost use Rattle.cm_signal.specs.Signals.{edge_count};
+ghost use Rattle.cm_signal.specs.Signals.{edge_count, recorded_count};
 ghost use Rattle.cm_signal.specs.SignalsPart as part;
 
 use crate::said::Said;
@@ -19,7 +19,7 @@ impl Signals {
     ghost use Rattle.cm_base.specs.Reading.{seen};
     ghost use Rattle.cm_signal.specs.Said.{HasPeriod, IsSaid};
     ghost use Rattle.cm_signal.specs.Signals.{SignalsText, edge_count, is_at, times_at};
-    ghost use Rattle.cm_signal.specs.SignalsPart.{checked, has_room, is_fine, rises_from, silent, with_said, with_times};
+    ghost use Rattle.cm_signal.specs.SignalsPart.{checked, has_record_room, has_room, is_fine, rises_from, silent, with_said, with_times};
 
     /// No wave, no edge and no trigger up to a horizon.
     pub fn silent(alloc: Global, horizon: u64) -> Result<Signals, AllocError>
@@ -50,12 +50,26 @@ impl Signals {
     fn check_wave(&self, wave: &WaveAt) -> Result<(), Fault>
         ensures { seen (λ u. tt) result ≡ part.checked_wave self.now wave.now }
     {
-        if self.has_wave(wave.sub, wave.chan) {
+        if !self.has_record_room(&wave.wave) {
+            Err(Fault::Limit)
+        } else if self.has_wave(wave.sub, wave.chan) {
             Err(Fault::Double)
         } else if is_fine(&wave.wave) {
             Ok(())
         } else {
             Err(Fault::Bad)
+        }
+    }
+
+    // Whether a record's levels and all recorded ones so far aren't too many together.
+    fn has_record_room(&self, wave: &Wave) -> bool
+        ensures { result ≡ has_record_room self.now wave.now }
+    {
+        match wave {
+            Wave::Record(_, levels) => {
+                recorded_count(&self.waves) + levels.as_slice().len() <= 100_000
+            }
+            _ => true,
         }
     }
 
@@ -123,6 +137,7 @@ impl Signals {
 
     fn put_wave(&mut self, wave: WaveAt) -> Result<(), AllocError>
         requires period { HasPeriod wave.wave }
+        requires room { has_record_room self.old wave.wave ≡ true }
         requires own { list_any (is_at wave.sub wave.chan) self.old.waves ≡ false }
         requires fine { is_fine wave.wave ≡ true }
         ensures { OnOk result (self.new ≡ record self.old { waves = self.old.waves ++ wave ∷ [] }) }
@@ -181,6 +196,18 @@ fn count_of(lines: &[Times]) -> usize
     let mut count = 0;
     for times in lines {
         count += times.as_slice().len();
+    }
+    count
+}
+
+// How many recorded levels these waves have together.
+fn recorded_count(waves: &[WaveAt]) -> usize
+    requires few { recorded_count waves.now ≤ 10 ^ 5 }
+    ensures { result ≡ recorded_count waves.now }
+{
+    let mut count = 0;
+    for wave in waves {
+        count += wave.wave.recorded();
     }
     count
 }

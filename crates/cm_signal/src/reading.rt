@@ -14,7 +14,7 @@ use cm_base::faults::{Fault, ReadStop};
 use cm_base::lines::{Cursor, Line, Lines};
 use cm_base::parts::{begins, fixed, refused};
 use cm_base::words::{at_line, none, one, time_in};
-use cm_board::board::{BoardDesc, Sub};
+use cm_board::board::BoardDesc;
 use std::alloc::Global;
 
 /// Reads the signals part from the `signals` line, whose index is `at`, and reports the index of the
@@ -51,14 +51,7 @@ fn read_part(
     let mut line = Line::empty(alloc);
     let horizon = read_horizon(alloc, &mut cursor, &mut line, end)?;
     let mut signals = Signals::silent(alloc, horizon)?;
-    let count = add_lines(
-        alloc,
-        &board.subs,
-        &mut signals,
-        &mut cursor,
-        &mut line,
-        end,
-    )?;
+    let count = add_lines(alloc, board, &mut signals, &mut cursor, &mut line, end)?;
     Ok((signals, 1 + count))
 }
 
@@ -101,17 +94,16 @@ fn read_session(line: &Line<'_>) -> Result<(), ReadStop>
 // are with it.
 fn add_lines<'a>(
     alloc: Global,
-    subs: &[Sub],
+    board: &BoardDesc,
     signals: &mut Signals,
     cursor: &mut Cursor<'a>,
     line: &mut Line<'a>,
     end: u32,
 ) -> Result<usize, ReadStop>
-    requires subs { length subs.now < 2 ^ 32 }
     requires few { length cursor.old < 2 ^ 32 }
-    requires fits { FitBoard subs.now signals.old }
-    ensures fits { OnOk result (FitBoard subs.now signals.new) }
-    ensures value { Gives (λ count. (signals.new, count)) result (signals_after subs.now end signals.old cursor.old) }
+    requires fits { FitBoard board.now.subs signals.old }
+    ensures fits { OnOk result (FitBoard board.now.subs signals.new) }
+    ensures value { Gives (λ count. (signals.new, count)) result (signals_after board.now end signals.old cursor.old) }
     ensures within { IfOk result (λ count. count ≤ length cursor.old) }
 {
     let mut count = 0;
@@ -121,7 +113,7 @@ fn add_lines<'a>(
             read_session(line)?;
             return Ok(count);
         }
-        add_line(alloc, subs, signals, line)?;
+        add_line(alloc, board, signals, line)?;
     }
     Err(refused(end, Fault::Missing))
 }
@@ -129,16 +121,15 @@ fn add_lines<'a>(
 // Adds what a line says to the signals.
 fn add_line(
     alloc: Global,
-    subs: &[Sub],
+    board: &BoardDesc,
     signals: &mut Signals,
     line: &Line<'_>,
 ) -> Result<(), ReadStop>
-    requires subs { length subs.now < 2 ^ 32 }
-    requires fits { FitBoard subs.now signals.old }
-    ensures fits { OnOk result (FitBoard subs.now signals.new) }
-    ensures value { Gives (λ u. signals.new) result (at_line line.now.number (said_after subs.now signals.old (line_view line.now))) }
+    requires fits { FitBoard board.now.subs signals.old }
+    ensures fits { OnOk result (FitBoard board.now.subs signals.new) }
+    ensures value { Gives (λ u. signals.new) result (at_line line.now.number (said_after board.now signals.old (line_view line.now))) }
 {
-    let said = read_line(alloc, subs, signals.horizon, line)?;
+    let said = read_line(alloc, board, signals.horizon, line)?;
     at_line(line.number, signals.check(&said))?;
     signals.put(said)?;
     Ok(())

@@ -8,6 +8,7 @@ ghost use Rattle.cm_base.specs.ReadStop.{Gives};
 ghost use Rattle.cm_base.specs.Reading.{at_line};
 ghost use Rattle.cm_signal.specs.Fitting.{Fits};
 ghost use Rattle.cm_signal.specs.Said.{IsSaid};
+ghost use Rattle.cm_signal.specs.Signals.{AreHeld};
 ghost use Rattle.cm_signal.specs.SignalsPart as spec;
 
 use crate::signals::{IntAt, Slope};
@@ -21,7 +22,7 @@ use cm_base::words::{
     at_line, four, number_below, number_in, one, one_and_more, signed_number, signed_numbers,
     three, three_and_more, time_in, times_in,
 };
-use cm_board::board::Sub;
+use cm_board::board::{BoardDesc, Sub};
 use std::alloc::{AllocError, Global};
 
 /// What a line of the signals part says.
@@ -35,17 +36,16 @@ pub enum Said {
     Int(IntAt),
 }
 
-/// What a line says by itself, over a board with these subdevices and up to a horizon.
+/// What a line says by itself, over a board and up to a horizon.
 pub fn read_line(
     alloc: Global,
-    subs: &[Sub],
+    board: &BoardDesc,
     horizon: u64,
     line: &Line<'_>,
 ) -> Result<Said, ReadStop>
-    requires { length subs.now < 2 ^ 32 }
-    ensures value { Gives (λ said. said) result (at_line line.now.number (spec.said_line subs.now horizon (line_view line.now))) }
+    ensures value { Gives (λ said. said) result (at_line line.now.number (spec.said_line board.now horizon (line_view line.now))) }
     ensures limits { IfOk result (IsSaid horizon) }
-    ensures fits { IfOk result (Fits subs.now) }
+    ensures fits { IfOk result (Fits board.now.subs) }
 {
     let number = line.number;
     if line.bad {
@@ -53,7 +53,7 @@ pub fn read_line(
     }
     match line.words.as_slice() {
         [] => Err(refused(number, Fault::BadLine)),
-        [key, words @ ..] => read_words(alloc, number, subs, horizon, key, words),
+        [key, words @ ..] => read_words(alloc, number, board, horizon, key, words),
     }
 }
 
@@ -61,18 +61,17 @@ pub fn read_line(
 fn read_words(
     alloc: Global,
     number: u32,
-    subs: &[Sub],
+    board: &BoardDesc,
     horizon: u64,
     key: &[u8],
     words: &[&[u8]],
 ) -> Result<Said, ReadStop>
-    requires { length subs.now < 2 ^ 32 }
-    ensures value { Gives (λ said. said) result (at_line number (spec.said_words subs.now horizon (key.now ∷ map (λ word. word.now) words.now))) }
+    ensures value { Gives (λ said. said) result (at_line number (spec.said_words board.now horizon (key.now ∷ map (λ word. word.now) words.now))) }
     ensures limits { IfOk result (IsSaid horizon) }
-    ensures fits { IfOk result (Fits subs.now) }
+    ensures fits { IfOk result (Fits board.now.subs) }
 {
     if key == b"wave".as_slice() {
-        read_wave(alloc, number, subs, words)
+        read_wave(alloc, number, board, words)
     } else if key == b"edges".as_slice() {
         read_edges(alloc, number, Slope::Rise, horizon, words)
     } else if key == b"falls".as_slice() {
@@ -80,20 +79,25 @@ fn read_words(
     } else if key == b"every".as_slice() {
         read_every(alloc, number, words)
     } else if key == b"int".as_slice() {
-        at_line(number, read_int(subs, horizon, words))
+        at_line(number, read_int(&board.subs, horizon, words))
     } else {
         Err(refused(number, Fault::Unknown))
     }
 }
 
 // `wave SUB CHAN KIND ..`
-fn read_wave(alloc: Global, number: u32, subs: &[Sub], words: &[&[u8]]) -> Result<Said, ReadStop>
-    requires { length subs.now < 2 ^ 32 }
-    ensures value { Gives (λ said. said) result (at_line number (spec.wave_words subs.now (map (λ word. word.now) words.now))) }
+fn read_wave(
+    alloc: Global,
+    number: u32,
+    board: &BoardDesc,
+    words: &[&[u8]],
+) -> Result<Said, ReadStop>
+    ensures value { Gives (λ said. said) result (at_line number (spec.wave_words board.now (map (λ word. word.now) words.now))) }
     ensures limits { IfOk result (IsSaid 0) }
-    ensures fits { IfOk result (Fits subs.now) }
+    ensures fits { IfOk result (Fits board.now.subs) }
 {
     let (sub, chan, kind, words) = at_line(number, three_and_more(words))?;
+    let subs = &board.subs;
     if kind == b"const".as_slice() {
         at_line(number, read_const(subs, sub, chan, words))
     } else if kind == b"square".as_slice() {
@@ -102,6 +106,8 @@ fn read_wave(alloc: Global, number: u32, subs: &[Sub], words: &[&[u8]]) -> Resul
         at_line(number, read_saw(subs, sub, chan, words))
     } else if kind == b"table".as_slice() {
         read_table(alloc, number, subs, sub, chan, words)
+    } else if kind == b"record".as_slice() {
+        read_record(alloc, number, board, sub, chan, words)
     } else {
         Err(refused(number, Fault::Unknown))
     }
@@ -164,12 +170,61 @@ fn read_table(
     ensures limits { IfOk result (IsSaid 0) }
     ensures fits { IfOk result (Fits subs.now) }
 {
-    let (period, levels) = at_line(number, one_and_more(words))?;
-    let (sub, chan) = at_line(number, read_channel(subs, sub, chan))?;
-    let period = at_line(number, read_period(period))?;
-    let levels = Ints::new(signed_numbers(alloc, number, levels, 64)?);
+    let ((sub, chan), period, levels) = read_levels(alloc, number, subs, sub, chan, words, 64)?;
     let wave = Wave::Table(period, levels);
     Ok(Said::Wave(WaveAt { sub, chan, wave }))
+}
+
+// `wave SUB CHAN record PERIOD V..`, of boards whose text begins with `zendrouz 1`.
+fn read_record(
+    alloc: Global,
+    number: u32,
+    board: &BoardDesc,
+    sub: &[u8],
+    chan: &[u8],
+    words: &[&[u8]],
+) -> Result<Said, ReadStop>
+    ensures value { Gives (λ said. said) result (at_line number (spec.record_words board.now sub.now chan.now (map (λ word. word.now) words.now))) }
+    ensures limits { IfOk result (IsSaid 0) }
+    ensures fits { IfOk result (Fits board.now.subs) }
+{
+    if board.version < 3 {
+        return Err(refused(number, Fault::Unknown));
+    }
+    let most = words.len();
+    let ((sub, chan), period, levels) = read_levels(
+        alloc,
+        number,
+        &board.subs,
+        sub,
+        chan,
+        words,
+        most,
+    )?;
+    let wave = Wave::Record(period, levels);
+    Ok(Said::Wave(WaveAt { sub, chan, wave }))
+}
+
+// The channel, the period and at most `most` levels of `wave SUB CHAN KIND PERIOD V..`.
+fn read_levels(
+    alloc: Global,
+    number: u32,
+    subs: &[Sub],
+    sub: &[u8],
+    chan: &[u8],
+    words: &[&[u8]],
+    most: usize,
+) -> Result<((u32, u32), u64, Ints), ReadStop>
+    requires { length subs.now < 2 ^ 32 }
+    ensures value { Gives (λ l. (l.0, l.1, l.2)) result (at_line number (spec.levels_words most subs.now sub.now chan.now (map (λ word. word.now) words.now))) }
+    ensures limits { IfOk result (λ l. AreHeld l.1 l.2 × (length l.2 ≤ most)) }
+    ensures fits { IfOk result (λ l. l.0.1 < spec.level_channels (slice_get subs.now l.0.0)) }
+{
+    let (period, levels) = at_line(number, one_and_more(words))?;
+    let at = at_line(number, read_channel(subs, sub, chan))?;
+    let period = at_line(number, read_period(period))?;
+    let levels = signed_numbers(alloc, number, levels, most)?;
+    Ok((at, period, Ints::new(levels)))
 }
 
 // `edges LINE T..` and `falls LINE T..`

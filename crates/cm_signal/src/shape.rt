@@ -4,7 +4,7 @@ ghost use Rattle.cm_signal.specs.Signals.{wave_level};
 ghost use Rattle.cm_signal.specs.SignalsPart.{progression};
 ghost use Rattle.cm_signal.specs.declared.wave.Wave.TheVariants as waves;
 
-use crate::wave::part_of;
+use crate::wave::{part_of, recorded_level};
 use cm_base::divisor::Divisor;
 use cm_base::prover::shows;
 
@@ -52,6 +52,14 @@ pub(crate) struct TableShape<'a> {
     ghost all: { count.by ≡ length levels.now },
 }
 
+/// Levels one after another, each for one period, and from then on the last one.
+#[derive(Clone, Copy)]
+pub(crate) struct RecordShape<'a> {
+    pub levels: &'a [i32],
+    pub period: Divisor,
+    ghost some: { 1 ≤ length levels.now },
+}
+
 impl Shape for Still {
     ghost level_at = { λ s. wave_level (waves.Const s.level) };
 
@@ -91,6 +99,15 @@ impl Shape for TableShape<'_> {
     #[inline(always)]
     fn level(&self, time: u64) -> i64 {
         i64::from(self.levels[self.count.rest(self.period.of(time)) as usize])
+    }
+}
+
+impl Shape for RecordShape<'_> {
+    ghost level_at = { λ s. wave_level (waves.Record s.period.by s.levels.now) };
+
+    #[inline(always)]
+    fn level(&self, time: u64) -> i64 {
+        recorded_level(self.levels, self.period.of(time))
     }
 }
 

@@ -7,8 +7,8 @@ use Rattle.cm_signal.proofs.reading.add_lines.Given as goal
 -- the signals so far, and what the lines that are left add
 abbrev pub invariant-loop-count : goal.invariant-loop-count
 invariant-loop-count l = record {
-  reported : signals_after l.subs l.end l.initial.signals l.initial.cursor ≡ raised l.count (signals_after l.subs l.end l.signals l.cursor);
-  fits : FitBoard l.subs l.signals;
+  reported : signals_after l.board l.end l.initial.signals l.initial.cursor ≡ raised l.count (signals_after l.board l.end l.signals l.cursor);
+  fits : FitBoard l.board.subs l.signals;
   counted : l.count + length l.cursor ≡ length l.initial.cursor;
 }
 
