@@ -1,6 +1,6 @@
 use Rattle.std.proofs.Common.{◌≡◌, take}
 use Rattle.cm_loop.specs.State.{StandsFor}
-use Rattle.cm_thread_tests.proofs.loops.outputs.Given as goal
+use Rattle.cm_loop_tests.proofs.loops.outputs.Given as goal
 
 abbrev pub invariant-loop-i : goal.invariant-loop-i
 invariant-loop-i l = record {

@@ -10,7 +10,7 @@ use Rattle.cm_job.specs.declared.line.RunLine.TheVariants.{Go}
 use Rattle.cm_client.specs.LineRing.{ring_of}
 use Rattle.cm_client.specs.Whole.{IsWhole}
 use Rattle.cm_client.proofs.Wholes.{streamed_whole}
-use Rattle.cm_thread_tests.proofs.run.block_by_words.Goals as goal
+use Rattle.cm_client_tests.proofs.run.block_by_words.Goals as goal
 
 pub block_text-requires-clause-whole : goal.block_text-requires-clause-whole
 block_text-requires-clause-whole g c =

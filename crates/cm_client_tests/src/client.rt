@@ -2,7 +2,6 @@
 ghost use Rattle.std.specs.Prelude.{◌≡◌, ◌+◌, ◌<◌, ◌≤◌, length, true, Some, IfOk};
 ghost use Rattle.cm_ring_core.specs.Lawful.{first_writer, first_reader};
 
-use crate::rule::rule_of;
 use cm_base::gate::OpenGate;
 use cm_base::transfer::NoMemory;
 use cm_board::board::Munge;
@@ -17,6 +16,7 @@ use cm_ring::open::open;
 use cm_ring::reader::Reader;
 use cm_ring::writer::{Closed, Writer};
 use cm_ring_core::view::{End, EndKind};
+use cm_ring_tests::rule::rule_of;
 use cm_sample::planned::Planned;
 use crossbeam_utils::sync::EventCount;
 use std::alloc::Global;

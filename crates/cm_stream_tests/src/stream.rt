@@ -4,7 +4,6 @@ ghost use Rattle.cm_ring_core.specs.Lawful.{first_writer};
 ghost use Rattle.cm_stream.specs.Merging.{IsFresh};
 ghost use Rattle.futures.specs.Task.{Keeps};
 
-use crate::rule::rule_of;
 use cm_base::transfer::NoMemory;
 use cm_board::board::Munge;
 use cm_client::feeding::feed;
@@ -13,6 +12,7 @@ use cm_ring::munger::Munger;
 use cm_ring::open::open;
 use cm_ring::writer::{Closed, Writer};
 use cm_ring_core::view::{End, EndKind};
+use cm_ring_tests::rule::rule_of;
 use cm_sample::planned::Planned;
 use cm_stream::collect::collect_scans;
 use cm_stream::merge::{Merge, MergeStep};

@@ -1,0 +1,7 @@
+// Tests of the threads at the ends of a ring.
+#![tactic(auto)]
+
+#[cfg(test)]
+mod client;
+#[cfg(test)]
+mod run;

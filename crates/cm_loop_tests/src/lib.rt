@@ -1,0 +1,5 @@
+// Tests of a loop's filter.
+#![tactic(auto)]
+
+#[cfg(test)]
+mod loops;
