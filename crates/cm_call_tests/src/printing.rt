@@ -116,6 +116,77 @@ chan 7 bits 1
 subdevice unused 0
 ";
 
+// A wider text with all of its lines, in another order than they are printed in.
+const WIDE: &str = "zendrouz 1
+board wide
+subdevice ai 4
+samepolarity
+chan 3 bits 8
+channels rising repeat
+samearef
+scanfits
+bits 12
+perchan 250
+halfdown
+range -10000000 10000000 0
+rounds down
+sources now timer now|timer count none|count
+tick 100
+scan 1050 1000000
+convert 205 100000
+list 4
+fifo 512 20000
+buffer 8
+subdevice do 2
+bits 1
+range 0 1 2
+sources int timer now count none
+tick 1
+scan 1 1
+convert 1 1
+list 1
+buffer 1
+channels first
+";
+
+const WIDE_PRINTED: &str = "zendrouz 1
+board wide
+subdevice ai 4
+bits 12
+munge none
+range -10000000 10000000 0
+sources now timer now|timer count none|count
+tick 100
+scan 1050 1000000
+convert 205 100000
+list 4
+scans 1000000
+lines 0
+buffer 8
+fifo 512 20000
+rounds down
+halfdown
+perchan 250
+scanfits
+channels rising repeat
+samearef
+samepolarity
+chan 3 bits 8
+subdevice do 2
+bits 1
+munge none
+range 0 1 2
+sources int timer now count none
+tick 1
+scan 1 1
+convert 1 1
+list 1
+scans 1000000
+lines 0
+buffer 1
+channels first
+";
+
 #[test]
 fn boards_are_read_and_printed(rt: HostRuntime) -> Result<(), Fail> {
     let cases = [
@@ -126,6 +197,8 @@ fn boards_are_read_and_printed(rt: HostRuntime) -> Result<(), Fail> {
         (FIRST_PRINTED, FIRST_PRINTED),
         (SECOND, SECOND_PRINTED),
         (SECOND_PRINTED, SECOND_PRINTED),
+        (WIDE, WIDE_PRINTED),
+        (WIDE_PRINTED, WIDE_PRINTED),
     ];
     for (text, want) in cases {
         let printed = printed(rt.alloc(), text.as_bytes())?;

@@ -16,7 +16,7 @@ use Rattle.cm_signal.specs.Signals.{SignalsText}
 use Rattle.cm_test.proofs.Adjusted.{first_no}
 use Rattle.cm_test.specs.Questions.{is_compatible, is_narrow, is_rounded, is_within, tested}
 use Rattle.cm_test.specs.Steps.{narrowed, repaired, rounded}
-use Rattle.cm_test.specs.ValidList.{has_valid_length, has_valid_ranges, is_valid_entry, is_valid_list}
+use Rattle.cm_test.specs.ValidList.{has_valid_length, keeps_rules, is_valid_entry, is_valid_list}
 use Rattle.cm_test.specs.Accepting.{sub_at}
 use Rattle.cm_expand.specs.Totals.{has_room, length_of, length_of_all}
 use Rattle.cm_job.specs.Forms.{asked_of}
@@ -49,7 +49,7 @@ last_yes true true true true true x y z w h = refl
 pub some-entry : (sub : SubText) (cmd : CmdText) → (tested sub cmd).0 ≡ 0 → 1 ≤ length cmd.list
 some-entry sub cmd passes =
     let valid = last_yes (is_narrow sub cmd) (is_compatible sub cmd) (is_within sub cmd) (is_rounded sub cmd) (is_valid_list sub cmd.list) cmd (narrowed sub cmd) (repaired sub cmd) (rounded sub cmd) passes in
-    let most = and_parts (has_valid_length sub cmd.list && list_all (is_valid_entry sub) cmd.list) (has_valid_ranges sub cmd.list) valid in
+    let most = and_parts (has_valid_length sub cmd.list && list_all (is_valid_entry sub) cmd.list) (keeps_rules sub cmd.list) valid in
     let length_ok = and_parts (has_valid_length sub cmd.list) (list_all (is_valid_entry sub) cmd.list) most.0 in
     let some = and_parts (nat_le 1 (length cmd.list)) (nat_le (length cmd.list) sub.list_max) length_ok.0 in
     leb-true 1 (length cmd.list) some.0

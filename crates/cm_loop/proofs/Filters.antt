@@ -1,6 +1,6 @@
 -- The items of a loop's filter, entry by entry.
 use Rattle.std.proofs.Common.{◌≡◌, ℕ, zero, suc, ◌+◌, ◌%◌, ◌<◌, ◌≤◌, List, [], ◌∷◌, ◌++◌, length, take, get_or, refl, sym, ap, ◌∙◌, subst, Some, arith}
-use Rattle.std.specs.Prelude.{slice_get}
+use Rattle.std.specs.Prelude.{slice_get, slice_index}
 use Rattle.std.proofs.lemmas.List.{take_more, length-take-le}
 use Rattle.std.proofs.lemmas.Option.{slice_get_within}
 use Rattle.cm_board.specs.Board.{SubText, IsSoundSub, maxdata_of}
@@ -15,6 +15,13 @@ use Rattle.cm_text.specs.Blocks.{munged_samples}
 use Rattle.cm_text.proofs.Counts.{length-munged}
 use Rattle.cm_text.proofs.Codes.{sample_from}
 use Rattle.cm_loop.specs.LoopText.{item_of, items_of, filter_of}
+
+-- the entries of a plan's list have channels of its subdevice
+pub have_channels : (p : PlanText) (list : List ℕ) (sub : SubText) → IsFit p → list ≡ p.cmd.list → sub ≡ p.sub →
+    (i : ℕ) → i < length list → chan (slice_index list i) < sub.channels
+have_channels p list sub fits l s =
+    subst (λ (sub : SubText). (i : ℕ) → i < length list → chan (slice_index list i) < sub.channels) (sym s)
+    (subst (λ (list : List ℕ). (i : ℕ) → i < length list → chan (slice_index list i) < p.sub.channels) (sym l) fits.channels)
 
 module _ (input output : SubText) where
   pub length-items : (froms tos : List ℕ) → length froms ≡ length tos → length (items_of input output froms tos) ≡ length froms

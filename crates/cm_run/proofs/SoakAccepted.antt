@@ -20,10 +20,11 @@ sub_sound = record {
   few_ranges = omega arith;
   ranges = All-push IsRange [] soak_range (All-nil IsRange) (search rules);
   tick = record { low = omega arith; high = omega arith };
-  scan = record { some = omega arith; order = omega arith; high = omega arith; least_ticks = refl; most_ticks = refl };
-  convert = record { some = omega arith; order = omega arith; high = omega arith; least_ticks = refl; most_ticks = refl };
+  scan = record { some = omega arith; order = omega arith; high = omega arith; possible = omega arith; ticks = λ old. record { least_ticks = refl; most_ticks = refl } };
+  convert = record { some = omega arith; order = omega arith; high = omega arith; possible = omega arith; ticks = λ old. record { least_ticks = refl; most_ticks = refl } };
   list = record { low = omega arith; high = omega arith };
-  list_fits = omega arith;
+  list_fits = record { any = omega arith; timed = λ c s. omega arith };
+  entries_fit = record { small = omega arith; any = omega arith; timed = λ s. omega arith };
   scans = record { low = omega arith; high = omega arith };
   few_lines = omega arith;
   start_line = λ allowed. absurd (true≢false (sym allowed));

@@ -26,7 +26,7 @@ use Rattle.cm_run.proofs.SoakAccepted.{passes}
 
 -- a wave more at a channel that has none
 with_wave : (s : SignalsText) (i : ℕ) → IsSoundSignals s → list_any (is_at i 0) s.waves ≡ false → IsSoundSignals (record s { waves = s.waves ++ soak_wave i ∷ [] })
-with_wave s i sound other = more_waves s (soak_wave i) sound (omega arith, omega arith) other refl
+with_wave s i sound other = more_waves s (soak_wave i) sound (record { period = (omega arith, omega arith); room = refl; own = other; fine = refl })
 
 signals_sound : IsSoundSignals soak_signals
 signals_sound = with_wave _ 3 (with_wave _ 2 (with_wave _ 1 (with_wave (silent 1000000000) 0 (silent_sound 1000000000 (omega arith)) refl) refl) refl) refl

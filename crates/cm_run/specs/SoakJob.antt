@@ -1,7 +1,7 @@
 -- The job of a soak of n conversions.
 use Rattle.std.specs.Prelude.{ℕ, ◌+◌, ◌/◌, ◌%◌, ◌==◌, nat_lt, pos, neg_ℤ, false, List, [], ◌∷◌, ◌++◌, codes, map, replicate, None, if◌then◌else◌}
 use Rattle.cm_base.specs.Source as source
-use Rattle.cm_board.specs.Board.{BoardText, SubText}
+use Rattle.cm_board.specs.Board.{BoardText, SubText, any_list, any_rounding, any_scan}
 use Rattle.cm_board.specs.Items.{ItemText}
 use Rattle.cm_board.specs.declared.lines.TheConstants as lines
 use Rattle.cm_board.specs.declared.table.Value.TheVariants as values_of
@@ -31,27 +31,31 @@ numbers row form values = record { row = row; form = form; values = map values_o
 -- what the lines of its block say of codes: 16 bits in two's complement, and one range
 abbrev pub soak_codes : List ItemText
 soak_codes =
-    numbers lines.BITS 0 (16 ∷ [])
-    ∷ numbers lines.MUNGE 2 []
-    ∷ record { row = lines.RANGE; form = 5; values = values_of.Signed soak_range.min ∷ values_of.Signed soak_range.max ∷ values_of.Number 0 ∷ [] }
+    numbers lines.BITS lines.BITS_FORM (16 ∷ [])
+    ∷ numbers lines.MUNGE lines.MUNGE_OFFSET []
+    ∷ record {
+      row = lines.RANGE;
+      form = lines.RANGE_FORM;
+      values = values_of.Signed soak_range.min ∷ values_of.Signed soak_range.max ∷ values_of.Number 0 ∷ [];
+    }
     ∷ []
 
 -- of the sources and the times of commands
 abbrev pub soak_times : List ItemText
 soak_times =
-    numbers lines.SOURCES 6 (source.now ∷ source.timer ∷ source.now ∷ source.count ∷ source.count ∷ [])
-    ∷ numbers lines.TICK 7 (1 ∷ [])
-    ∷ numbers lines.SCAN 8 (1 ∷ 1000000 ∷ [])
-    ∷ numbers lines.CONVERT 9 (1 ∷ 1 ∷ [])
+    numbers lines.SOURCES lines.SOURCES_FORM (source.now ∷ source.timer ∷ source.now ∷ source.count ∷ source.count ∷ [])
+    ∷ numbers lines.TICK lines.TICK_FORM (1 ∷ [])
+    ∷ numbers lines.SCAN lines.SCAN_FORM (1 ∷ 1000000 ∷ [])
+    ∷ numbers lines.CONVERT lines.CONVERT_FORM (1 ∷ 1 ∷ [])
     ∷ []
 
 -- of how much a command may ask for
 abbrev pub soak_sizes : List ItemText
 soak_sizes =
-    numbers lines.LIST 10 (1 ∷ [])
-    ∷ numbers lines.SCANS lines.SCANS_SAID (1000000 ∷ [])
-    ∷ numbers lines.LINES lines.LINES_SAID (0 ∷ [])
-    ∷ numbers lines.BUFFER 13 (256 ∷ [])
+    numbers lines.LIST lines.LIST_FORM (1 ∷ [])
+    ∷ numbers lines.SCANS lines.SCANS_FORM (1000000 ∷ [])
+    ∷ numbers lines.LINES lines.LINES_FORM (0 ∷ [])
+    ∷ numbers lines.BUFFER lines.BUFFER_FORM (256 ∷ [])
     ∷ []
 
 -- all lines of the block
@@ -77,7 +81,9 @@ soak_sub = record {
   scans_max = 1000000;
   lines = 0;
   buffer = 256;
-  same_range = false;
+  rounding = any_rounding;
+  least_scan = any_scan;
+  lists = any_list;
   forbidden = [];
   chans = [];
   invert = false;

@@ -7,11 +7,12 @@ ghost use Rattle.cm_run.specs.SoakJob as spec;
 use cm_base::prover::shows;
 use cm_base::source::{COUNT, NOW, TIMER};
 use cm_base::transfer::NoMemory;
-use cm_board::board::{BoardDesc, Kind, Munge, Range, Sub};
+use cm_board::board::{BoardDesc, Kind, LeastScan, ListRules, Munge, Range, Rounding, Sub};
 use cm_board::items::Item;
 use cm_board::lines::{
-    BITS, BUFFER, CONVERT, LINES, LINES_SAID, LIST, MUNGE, RANGE, SCAN, SCANS, SCANS_SAID, SOURCES,
-    TICK,
+    BITS, BITS_FORM, BUFFER, BUFFER_FORM, CONVERT, CONVERT_FORM, LINES, LINES_FORM, LIST,
+    LIST_FORM, MUNGE, MUNGE_OFFSET, RANGE, RANGE_FORM, SCAN, SCAN_FORM, SCANS, SCANS_FORM, SOURCES,
+    SOURCES_FORM, TICK, TICK_FORM,
 };
 use cm_board::table::Value;
 use cm_cmd::command::{Cmd, Trig};
@@ -60,9 +61,9 @@ fn put_codes(block: &mut Vec<Item>, alloc: Global) -> Result<(), AllocError>
         Value::Signed(10_000_000),
         Value::Number(0),
     ];
-    put_line(block, alloc, BITS, 0, &[Value::Number(16)])?;
-    put_line(block, alloc, MUNGE, 2, &[])?;
-    put_line(block, alloc, RANGE, 5, &range)
+    put_line(block, alloc, BITS, BITS_FORM, &[Value::Number(16)])?;
+    put_line(block, alloc, MUNGE, MUNGE_OFFSET, &[])?;
+    put_line(block, alloc, RANGE, RANGE_FORM, &range)
 }
 
 // What they say of the sources and the times of commands.
@@ -76,20 +77,20 @@ fn put_times(block: &mut Vec<Item>, alloc: Global) -> Result<(), AllocError>
         Value::Number(COUNT),
         Value::Number(COUNT),
     ];
-    put_line(block, alloc, SOURCES, 6, &sources)?;
-    put_line(block, alloc, TICK, 7, &[Value::Number(1)])?;
+    put_line(block, alloc, SOURCES, SOURCES_FORM, &sources)?;
+    put_line(block, alloc, TICK, TICK_FORM, &[Value::Number(1)])?;
     put_line(
         block,
         alloc,
         SCAN,
-        8,
+        SCAN_FORM,
         &[Value::Number(1), Value::Number(1_000_000)],
     )?;
     put_line(
         block,
         alloc,
         CONVERT,
-        9,
+        CONVERT_FORM,
         &[Value::Number(1), Value::Number(1)],
     )
 }
@@ -98,10 +99,10 @@ fn put_times(block: &mut Vec<Item>, alloc: Global) -> Result<(), AllocError>
 fn put_sizes(block: &mut Vec<Item>, alloc: Global) -> Result<(), AllocError>
     ensures { OnOk result (block.new.items ≡ block.old.items ++ spec.soak_sizes) }
 {
-    put_line(block, alloc, LIST, 10, &[Value::Number(1)])?;
-    put_line(block, alloc, SCANS, SCANS_SAID, &[Value::Number(1_000_000)])?;
-    put_line(block, alloc, LINES, LINES_SAID, &[Value::Number(0)])?;
-    put_line(block, alloc, BUFFER, 13, &[Value::Number(256)])
+    put_line(block, alloc, LIST, LIST_FORM, &[Value::Number(1)])?;
+    put_line(block, alloc, SCANS, SCANS_FORM, &[Value::Number(1_000_000)])?;
+    put_line(block, alloc, LINES, LINES_FORM, &[Value::Number(0)])?;
+    put_line(block, alloc, BUFFER, BUFFER_FORM, &[Value::Number(256)])
 }
 
 // The lines of its block.
@@ -136,7 +137,20 @@ fn soak_sub(alloc: Global) -> Result<Sub, AllocError>
         scans_max: 1_000_000,
         lines: 0,
         buffer: 256,
-        same_range: false,
+        rounding: Rounding {
+            own: None,
+            half_down: false,
+        },
+        least_scan: LeastScan {
+            per_entry: 0,
+            holds: false,
+        },
+        lists: ListRules {
+            same_range: false,
+            order: None,
+            same_reference: false,
+            same_polarity: false,
+        },
         forbidden: Vec::new(alloc),
         chans: Vec::new(alloc),
         invert: false,
