@@ -85,8 +85,9 @@ def sources(name, at, kind, channels, lines):
 def pairs(lines):
     """The pairs of sources that a command of this subdevice may not have, a line for each."""
     made = ["  forbidden: %s %s with %s %s" % tuple(words) for words in lines.get("forbid", [])]
-    if "follow" in one(lines, "sources", 1).split("|") and "now" in one(lines, "sources", 2).split("|"):
-        made.append("  forbidden: scan_begin follow with convert now, on every board")
+    if "follow" in one(lines, "sources", 1).split("|"):
+        made += ["  forbidden: scan_begin follow with convert %s, on every board" % source
+                 for source in one(lines, "sources", 2).split("|") if source in ("now", "follow")]
     return made
 
 

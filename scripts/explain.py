@@ -76,7 +76,7 @@ def show_step(texts, step, was, now, where):
 
 def explain_block(job, texts, refusal):
     first, lines, kind, channels = block_of(job, refusal.at)
-    number, about = broken_rule(lines, kind, channels)
+    number, about = broken_rule(lines, kind, channels, job.is_wide)
     show("the block above", "lines %d to %d, which this line ended" % (first, refusal.at - 1))
     if number:
         asked, _, _, repair = texts.rules[number]
@@ -116,7 +116,7 @@ def show_entries(job, command):
     if wrong:
         show("not there", "; ".join(wrong[:8]))
     elif said:
-        show("the list", "each entry is there: it is longer than `list` says, or the ranges differ under `samerange`")
+        show("the list", "each entry is there: it is longer than `list` says, or its entries break a rule of the board, as `samerange`")
 
 
 def head_of(refusal, place):
@@ -307,7 +307,7 @@ def small_waves(job):
         elif words[:1] == ["range"] or words[:1] == ["chan"] and words[2] == "range":
             subs[-1].append(int(words[-2]) - int(words[-3]))
         elif words[:1] == ["wave"]:
-            levels = {"const": words[4:], "table": words[5:]}.get(words[3], words[4:6])
+            levels = {"const": words[4:], "table": words[5:], "record": words[5:]}.get(words[3], words[4:6])
             most = max(abs(int(level)) for level in levels)
             if 0 < most and 1000 * most < min(subs[int(words[1])]):
                 made.append((number, line))

@@ -1,12 +1,14 @@
 #!/usr/bin/env python3
 """Prints a column of a table of comma-separated values as a line for the signals part of a job.
 
-    scripts/from_csv.py [-p PERIOD] [-u UNIT] [-f ROW] [-n COUNT] [-e EACH] FILE COLUMN SUB CHAN
+    scripts/from_csv.py [-r] [-p PERIOD] [-u UNIT] [-f ROW] [-n COUNT] [-e EACH] FILE COLUMN SUB CHAN
 
 COLUMN is the column's number, from 1, or its name in the first line. The values become whole microvolts, rounded to
 the nearest, and a half to the even one. The line is a table of a wave, whose values stand for PERIOD each and then
 come over and over again.
 
+    -r         prints a record in place of a table: after its last value it stays there. It needs a board whose text
+               begins with `zendrouz 1`
     -p PERIOD  nanoseconds from row to row. Without it they are taken from the first column, where its name is time_s,
                time_ms, time_us or time_ns, or time, which is in seconds, and its times are evenly spaced
     -u UNIT    what the values are in: V (which is meant without it), mV, uV, mA, uA or nA
@@ -14,7 +16,7 @@ come over and over again.
     -n COUNT   takes so many values at most
     -e EACH    takes each second value (2), each third one (3) .., so that they are EACH times PERIOD apart
 
-A table holds 64 values. Where there are more, nothing is printed: take fewer of them by -f, -n and -e.
+A table holds 64 values, and a record 100000. Where there are more, nothing is printed: take fewer of them by -f, -n and -e.
 """
 
 import csv
@@ -90,7 +92,7 @@ class Table:
 
 
 def main(arguments):
-    words, options = usage.words_of(arguments, 4, 4, "-p", "-u", "-f", "-n", "-e")
+    words, options = usage.words_of(arguments, 4, 4, "-r!", "-p", "-u", "-f", "-n", "-e")
     sub, channel = usage.number(words[2], 0, 15), usage.number(words[3], 0, 63)
     period, first, count, each = [
         usage.number(options[name], 1, jobs.PERIOD) if name in options else none
@@ -103,12 +105,13 @@ def main(arguments):
     rows = table.rows[first - 1::each][:count]
     if not rows:
         raise jobs.Fault("%s: no row %d: it has %d" % (words[0], first, len(table.rows)))
-    if len(rows) > jobs.TABLE:
-        raise jobs.Fault("%s: %d values, and a table holds %d: take fewer by -f ROW, -n COUNT or -e EACH (-e %d)" % (
-            words[0], len(rows), jobs.TABLE, each * -(-len(rows) // jobs.TABLE)))
+    kind, most = ("record", jobs.RECORD) if "-r" in options else ("table", jobs.TABLE)
+    if len(rows) > most:
+        raise jobs.Fault("%s: %d values, and a %s holds %d: take fewer by -f ROW, -n COUNT or -e EACH (-e %d)" % (
+            words[0], len(rows), kind, most, each * -(-len(rows) // most)))
     values = table.values(at, UNITS[options.get("-u", "V")], rows)
     print(jobs.table(sub, channel, period, [
-        int(value.to_integral_value(decimal.ROUND_HALF_EVEN)) for value in values]))
+        int(value.to_integral_value(decimal.ROUND_HALF_EVEN)) for value in values], kind))
 
 
 if __name__ == "__main__":

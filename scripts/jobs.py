@@ -11,21 +11,21 @@ import collections
 FALLS = 1 << 31
 UNITS = ("V", "mA", "")
 # How many values the table of a wave holds, the longest period of one, and the levels that a wave may have.
-TABLE, PERIOD, LEAST, GREATEST = 64, 10 ** 12, -1 << 31, (1 << 31) - 1
+TABLE, RECORD, PERIOD, LEAST, GREATEST = 64, 100000, 10 ** 12, -1 << 31, (1 << 31) - 1
 
 
 class Fault(Exception):
     """A job, an answer or a file that can't be used, with what is wrong."""
 
 
-def table(sub, channel, period, values):
-    """The line of a wave that is a table, within the limits of docs/FORMATS.md."""
+def table(sub, channel, period, values, kind="table"):
+    """The line of a wave that is a table or a record, within the limits of docs/FORMATS.md."""
     if period > PERIOD:
-        raise Fault("a table's values stand for %d ns each, and %d is the most" % (period, PERIOD))
+        raise Fault("a %s's values stand for %d ns each, and %d is the most" % (kind, period, PERIOD))
     for value in values:
         if not LEAST <= value <= GREATEST:
             raise Fault("%d microvolts are outside the levels of a wave, %d to %d" % (value, LEAST, GREATEST))
-    return "wave %d %d table %d %s" % (sub, channel, period, " ".join(map(str, values)))
+    return "wave %d %d %s %d %s" % (sub, channel, kind, period, " ".join(map(str, values)))
 
 
 class Sub:

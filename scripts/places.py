@@ -32,6 +32,7 @@ class Job:
             self.lines.pop()
         self.added = []
         firsts = [line.split()[0] for line in self.lines if is_text(line)]
+        self.is_wide = firsts[:1] == ["zendrouz"]
         if "session" not in firsts and not (set(firsts) & set(FIRST)):
             if not set(firsts) & set(SIGNALS):
                 self.added.append("signals 0")
@@ -186,13 +187,42 @@ def lacking(lines, kind):
     lacks = [word for word in ("bits", "range") if word not in lines and kind != "unused"]
     if lacks:
         return "a", "lacks " + " and ".join(lacks)
-    command = needed + ("scans", "lines", "samerange", "forbid", "invert", "fifo")
+    command = needed + ("scans", "lines", "samerange", "forbid", "invert", "fifo", "rounds", "halfdown", "perchan", "scanfits",
+                        "channels", "samearef", "samepolarity")
     if any(word in lines for word in command):
         lacks = [word for word in needed if word not in lines]
     return ("b", "lacks " + " and ".join(lacks)) if lacks else None
 
 
-def broken_rule(lines, kind, channels):
+def off_tick(lines, tick, is_wide):
+    """Rule 3 where a block breaks it: a limit off the tick, or in a wider text two without a time on the tick between them."""
+    for name in ("scan", "convert"):
+        least, most = map(int, lines[name][0])
+        line = " ".join([name] + lines[name][0])
+        if is_wide and (least + tick - 1) // tick * tick > most:
+            return "3", "no multiple of %d is within `%s`" % (tick, line)
+        for value in () if is_wide else (least, most):
+            if value % tick:
+                return "3", "%d / %d leaves %d, in `%s`" % (value, tick, value % tick, line)
+    return None
+
+
+def too_long(lines, tick):
+    """Rule 4 or 6 where a block breaks it: the longest list doesn't fit into the longest scan."""
+    is_timed = ["timer" in words.split("|") for words in lines["sources"][0]]
+    longest, most = int(lines["list"][0][0]), int(lines["scan"][0][1])
+    least, entry = int(lines["convert"][0][0]), int(lines.get("perchan", [["0"]])[0][0])
+    asked = [("4", least, most)]
+    if is_timed[1] and is_timed[2]:
+        asked.append(("4", (least + tick - 1) // tick * tick, most // tick * tick))
+    asked.append(("6", entry, most // tick * tick if is_timed[1] else most))
+    for number, time, scan in asked:
+        if time * longest > scan:
+            return number, "%d * %d = %d, above %d" % (time, longest, time * longest, scan)
+    return None
+
+
+def broken_rule(lines, kind, channels, is_wide):
     """The first rule of REFUSALS.md that a block breaks, as its number there and what it is about."""
     if lacking(lines, kind):
         return lacking(lines, kind)
@@ -208,12 +238,5 @@ def broken_rule(lines, kind, channels):
     if "tick" not in lines:
         return None, ""
     tick = int(lines["tick"][0][0])
-    for name in ("scan", "convert"):
-        for text in lines[name][0]:
-            if int(text) % tick:
-                line = " ".join([name] + lines[name][0])
-                return "3", "%s / %d leaves %d, in `%s`" % (text, tick, int(text) % tick, line)
-    least, longest, most = int(lines["convert"][0][0]), int(lines["list"][0][0]), int(lines["scan"][0][1])
-    if least * longest > most:
-        return "4", "%d * %d = %d, above %d" % (least, longest, least * longest, most)
-    return "5", "`sources %s` has ext, and there are no lines" % " ".join(lines["sources"][0])
+    found = off_tick(lines, tick, is_wide) or too_long(lines, tick)
+    return found or ("5", "`sources %s` has ext, and there are no lines" % " ".join(lines["sources"][0]))

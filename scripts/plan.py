@@ -138,13 +138,13 @@ def plan_of(job, command, call, what):
 
 def is_known(job, command):
     """Whether a command has sources, periods and a list that can be planned."""
-    kinds = [("now", "ext", "int"), ("follow", "timer", "ext"), ("now", "timer", "ext"), ("count",),
+    kinds = [("now", "ext", "int"), ("follow", "timer", "ext"), ("now", "follow", "timer", "ext"), ("count",),
              ("none", "count", "ext")]
     triggers = [command.start, command.scan, command.convert, command.end, command.stop]
     return (job.subs[command.sub].buffer is not None and command.list
             and all(source in known for (source, _), known in zip(triggers, kinds))
             and all(argument > 0 for source, argument in triggers if source in ("timer", "count"))
-            and (command.scan[0], command.convert[0]) != ("follow", "now"))
+            and not (command.scan[0] == "follow" and command.convert[0] in ("now", "follow")))
 
 
 def block_of(job, number, what, call, text):

@@ -7,7 +7,7 @@ from pathlib import Path
 
 from needed import TOP, Case, needs, run_python
 from zendrouz import (FALLING, Board, Channel, ChannelForm, Command, Flag, Job, Missing, Reference, Refused, Signals,
-                      Source, Subdevice, ask, const, expand, replay, saw, sine, square, table)
+                      Source, Subdevice, ask, const, expand, record, replay, saw, sine, square, table)
 
 BOARDS = sorted((TOP / "examples" / "boards").glob("*.txt"))
 DEMO = Board("demo", [Subdevice("ai", 2, bits=16, ranges=[(-10_000_000, 10_000_000, 0)], tick=100, list=4, buffer=8,
@@ -80,6 +80,34 @@ chan 3 munge left 4
         read = Board.parse(wanted)
         self.assertEqual(str(Board(read.name, read.subdevices, read.version)), wanted)
 
+    def test_all_lines_of_version_3(self) -> None:
+        board = Board("wide", [Subdevice(
+            "ai", 4, bits=16, ranges=[(-10e6, 10e6, 0)], sources="now timer now count count", tick=100, scan=(1050, 1e6),
+            convert=(200, 1e5), list=4, buffer=64, rounds="down", halfdown=True, perchan=250, scanfits=True,
+            order="rising repeat", samearef=True, samepolarity=True)], version=3)
+        wanted = """zendrouz 1
+board wide
+subdevice ai 4
+bits 16
+sources now timer now count count
+tick 100
+scan 1050 1000000
+convert 200 100000
+list 4
+buffer 64
+rounds down
+perchan 250
+channels rising repeat
+range -10000000 10000000 0
+halfdown
+scanfits
+samearef
+samepolarity
+"""
+        self.assertEqual(str(board), wanted)
+        read = Board.parse(wanted)
+        self.assertEqual((str(Board(read.name, read.subdevices, read.version)), read.version), (wanted, 3))
+
     def test_a_changed_board_is_another_one(self) -> None:
         changed = DEMO.changed(0, buffer=64)
         self.assertEqual(str(changed), str(DEMO).replace("buffer 8", "buffer 64"))
@@ -100,7 +128,8 @@ chan 3 munge left 4
 class SignalsOf(Case):
     def test_all_lines(self) -> None:
         signals = Signals(5_000_000, waves={(0, 0): saw(-10e6, 10e6, 1e6), (0, 1): const(2.5e6),
-                                            (0, 2): square(0, 5, 10), (0, 3): table(1000, [1, -2, 3])},
+                                            (0, 2): square(0, 5, 10), (0, 3): table(1000, [1, -2, 3]),
+                                            (0, 4): record(500, [3, -4])},
                           edges={0: [1000, 2000], 1: []}, falls={0: [1500]}, every={1: (0, 1000, 4)},
                           triggers={0: [1500, 2500]})
         self.assertEqual(str(signals), """signals 5000000
@@ -108,6 +137,7 @@ wave 0 0 saw -10000000 10000000 1000000
 wave 0 1 const 2500000
 wave 0 2 square 0 5 10
 wave 0 3 table 1000 1 -2 3
+wave 0 4 record 500 3 -4
 every 1 0 1000 4
 edges 0 1000 2000
 falls 0 1500

@@ -10,12 +10,12 @@ from .refusals import ComediError, Failed, Refused, TimedOut
 from .session import Info, Session
 from .sweeping import SweepFailed, sweep
 from .texts import (FALLING, Board, Channel, ChannelForm, Command, Flag, Job, Reference, Signals, Source, Subdevice,
-                    Wave, const, saw, sine, square, table)
+                    Wave, const, record, saw, sine, square, table)
 
 __all__ = [
     "Board", "Channel", "ChannelForm", "ComediError", "Command", "CommandEnd", "Conversion", "Done", "Dry", "End",
     "FALLING", "Failed", "Fifo", "Flag", "Idle", "Info", "Job", "Missing", "Out", "Overrun", "ProgramRun", "ProgramTimedOut",
     "Reference", "Refused", "Sample", "Session", "Signals", "Source", "Subdevice", "SweepFailed", "Taken", "TimedOut", "Underrun",
-    "Wave", "ask", "const", "expand", "find", "insn", "loop", "replay", "run", "run_program", "saw", "sine", "soak",
-    "square", "sweep", "table", "test", "watch",
+    "Wave", "ask", "const", "expand", "find", "insn", "loop", "record", "replay", "run", "run_program", "saw", "sine",
+    "soak", "square", "sweep", "table", "test", "watch",
 ]

@@ -17,11 +17,15 @@ from .commands import FALLING, Channel, Command, Flag, Number, Reference, Source
 from .programs import Missing, folder
 
 __all__ = ["FALLING", "Board", "Channel", "ChannelForm", "Command", "Flag", "Job", "Reference", "Signals", "Source",
-           "Subdevice", "Wave", "const", "saw", "sine", "square", "table"]
+           "Subdevice", "Wave", "const", "record", "saw", "sine", "square", "table"]
 
 # The least and the greatest level of a range, and its unit: 0 volt, 1 mA, 2 none.
 Range = Tuple[Number, Number, int]
 PathLike = Union[str, os.PathLike[str]]
+# The lines of a block with values, and those that are their first word alone.
+_VALUES = ("bits", "munge", "sources", "tick", "scan", "convert", "list", "scans", "lines", "buffer", "fifo",
+           "rounds", "perchan", "order")
+_FLAGS = ("samerange", "invert", "halfdown", "scanfits", "samearef", "samepolarity")
 # How many values the table of a wave holds, and the greatest horizon, in nanoseconds.
 TABLE, GREATEST_HORIZON = 64, 1_000_000_000_000
 
@@ -85,7 +89,8 @@ class Subdevice:
 
     `ranges` are (least, greatest, unit). `sources` are the five words of that line, `forbid` has lines without their
     first word. `tick`, `scan` and `convert` are in nanoseconds, and `buffer` in samples. `fifo` is (depth, latency),
-    and `chans` has the forms of channels that have their own.
+    and `chans` has the forms of channels that have their own. What stands from `rounds` on needs a board of version 3;
+    `order` is what follows the word `channels` in its line.
     """
 
     kind: str
@@ -105,6 +110,13 @@ class Subdevice:
     forbid: Sequence[str] = ()
     invert: bool = False
     fifo: Optional[Tuple[int, Number]] = None
+    rounds: Optional[str] = None
+    halfdown: bool = False
+    perchan: Optional[Number] = None
+    scanfits: bool = False
+    order: Optional[str] = None
+    samearef: bool = False
+    samepolarity: bool = False
     chans: Mapping[int, ChannelForm] = dataclasses.field(default_factory=dict)
 
     @property
@@ -119,13 +131,14 @@ class Subdevice:
 
     def __str__(self) -> str:
         made = ["subdevice %s %d" % (self.kind, self.channels)]
-        for name in ("bits", "munge", "sources", "tick", "scan", "convert", "list", "scans", "lines", "buffer", "fifo"):
+        for name in _VALUES:
             value = getattr(self, name)
             if value is not None:
                 values = value if isinstance(value, tuple) else (value,)
-                made.append("%s %s" % (name, value if isinstance(value, str) else _numbers(values)))
+                text = value if isinstance(value, str) else _numbers(values)
+                made.append("%s %s" % ("channels" if name == "order" else name, text))
         made += ["range " + _numbers(values) for values in self.ranges]
-        made += [name for name in ("samerange", "invert") if getattr(self, name)]
+        made += [name for name in _FLAGS if getattr(self, name)]
         made += ["forbid " + words for words in self.forbid]
         for chan, form in self.chans.items():
             made += form.lines(chan)
@@ -147,13 +160,15 @@ class _Block:
             self.fields["ranges"] = (*self.fields.get("ranges", ()), _range(rest))
         elif name == "forbid":
             self.fields["forbid"] = (*self.fields.get("forbid", ()), " ".join(rest))
-        elif name in ("samerange", "invert"):
+        elif name in _FLAGS:
             self.fields[name] = True
-        elif name in ("munge", "sources"):
+        elif name in ("munge", "sources", "rounds"):
             self.fields[name] = " ".join(rest)
+        elif name == "channels":
+            self.fields["order"] = " ".join(rest)
         elif name in ("scan", "convert", "fifo"):
             self.fields[name] = int(rest[0]), int(rest[1])
-        elif name in ("bits", "tick", "list", "scans", "lines", "buffer"):
+        elif name in ("bits", "tick", "list", "scans", "lines", "buffer", "perchan"):
             self.fields[name] = int(rest[0])
 
     @staticmethod
@@ -167,11 +182,15 @@ class _Block:
 
 
 class Board:
-    """A board: its name, its subdevices, its text. What was read keeps its text as it was, comments too."""
+    """A board: its name, its subdevices, its text. What was read keeps its text as it was, comments too.
+
+    `version` is 1 or 2 for texts that begin with `comedi`, and 3 for the wider ones, which begin with `zendrouz 1`.
+    """
 
     def __init__(self, name: str, subdevices: Sequence[Subdevice], version: int = 2) -> None:
         self.name, self.version, self.subdevices = name, version, tuple(subdevices)
-        self._text = "comedi %d\nboard %s\n%s" % (version, name, "".join(map(str, subdevices)))
+        first = "zendrouz 1" if version == 3 else "comedi %d" % version
+        self._text = "%s\nboard %s\n%s" % (first, name, "".join(map(str, subdevices)))
 
     @classmethod
     def parse(cls, text: str) -> "Board":
@@ -180,8 +199,8 @@ class Board:
         name, version, blocks = "", 1, []  # type: str, int, List[_Block]
         for words in _text_lines(text):
             try:
-                if words[0] == "comedi":
-                    version = int(words[1])
+                if words[0] in ("comedi", "zendrouz"):
+                    version = int(words[1]) + (2 if words[0] == "zendrouz" else 0)
                 elif words[0] == "board":
                     name = words[1]
                 elif words[0] == "subdevice":
@@ -250,6 +269,14 @@ def saw(low: Number, high: Number, period: Number) -> Wave:
 def table(period: Number, values: Iterable[Number]) -> Wave:
     """Levels one after another and over again, each for `period` nanoseconds: at most 64, a list or a numpy array."""
     return Wave("table %d %s" % (whole(period), _numbers(values)))
+
+
+def record(period: Number, values: Iterable[Number]) -> Wave:
+    """Recorded levels one after another, each for `period` nanoseconds, and from then on the last: a list or a numpy array.
+
+    All records of a job have at most 100,000 levels together. The text of the board begins with `zendrouz 1`.
+    """
+    return Wave("record %d %s" % (whole(period), _numbers(values)))
 
 
 def sine(amplitude: Number, period: Number, offset: Number = 0, steps: Optional[int] = None) -> Wave:
