@@ -2,9 +2,11 @@
 #![tactic(auto)]
 
 pub mod board;
+mod channel_lines;
 pub mod channels;
 pub mod items;
 pub mod kind;
 pub mod lines;
 pub mod said;
 pub mod table;
+mod words;

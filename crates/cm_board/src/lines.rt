@@ -3,7 +3,9 @@ ghost use Rattle.std.specs.Prelude.{◌≡◌};
 ghost use Rattle.cm_board.specs.BoardTable.{board_table};
 ghost use Rattle.cm_board.specs.Table.{table_text};
 
-use crate::table::{Absent, Form, Limits, Place, Row, Rule, Sets, Table, Word};
+use crate::channel_lines;
+use crate::table::{Absent, Form, Limits, Place, Row, Rule, Table, Word};
+use crate::words::{CONVERTS, FIELD, FOLLOWING, SCAN_BEGINS, SCAN_ENDS, STARTS, STOPS, TIME};
 
 /// The bits of a code.
 pub const BITS: usize = 0;
@@ -152,24 +154,6 @@ pub const CHAN_MUNGE_LEFT: usize = 30;
 /// The form of `chan C range`.
 pub const CHAN_RANGE_FORM: usize = 31;
 
-// A time between triggers: 1 nanosecond to 4 seconds.
-const TIME: Word = Word::Number(Limits {
-    least: 1,
-    most: 4_000_000_000,
-});
-
-// A trigger of a command.
-const FIELD: Word = Word::Name(&[b"start", b"scan_begin", b"convert", b"scan_end", b"stop"]);
-
-// How the channels of a list follow each other.
-const FOLLOWING: Word = Word::Name(&[
-    b"consecutive",
-    b"straight",
-    b"first",
-    b"rising",
-    b"distinct",
-]);
-
 // A line that each block with commands needs, once.
 const NEEDED: Row = Row {
     most: 1,
@@ -277,30 +261,10 @@ static ROWS: [Row; ROW_COUNT] = [
     WIDE,
     WIDE,
     WIDE,
-    // chan C bits
-    Row {
-        most: 1,
-        since: 2,
-        place: Place::Any,
-        absent: Absent::Nothing,
-        of_channel: true,
-    },
-    // chan C munge
-    Row {
-        most: 1,
-        since: 2,
-        place: Place::Any,
-        absent: Absent::Nothing,
-        of_channel: true,
-    },
-    // chan C range
-    Row {
-        most: 16,
-        since: 2,
-        place: Place::Any,
-        absent: Absent::Nothing,
-        of_channel: true,
-    },
+    // chan C bits, chan C munge, chan C range
+    channel_lines::ONE,
+    channel_lines::ONE,
+    channel_lines::RANGES,
 ];
 
 static FORMS: [Form; 32] = [
@@ -350,31 +314,11 @@ static FORMS: [Form; 32] = [
         row: SOURCES,
         words: &[
             Word::Fixed(b"sources"),
-            Word::Sources(Sets {
-                first: 194,
-                second: 194,
-                wide: 194,
-            }),
-            Word::Sources(Sets {
-                first: 84,
-                second: 84,
-                wide: 84,
-            }),
-            Word::Sources(Sets {
-                first: 82,
-                second: 82,
-                wide: 86,
-            }),
-            Word::Sources(Sets {
-                first: 32,
-                second: 32,
-                wide: 32,
-            }),
-            Word::Sources(Sets {
-                first: 33,
-                second: 97,
-                wide: 97,
-            }),
+            STARTS,
+            SCAN_BEGINS,
+            CONVERTS,
+            SCAN_ENDS,
+            STOPS,
         ],
         rule: Rule::Free,
     },
@@ -523,69 +467,12 @@ static FORMS: [Form; 32] = [
         words: &[Word::Fixed(b"samepolarity")],
         rule: Rule::Free,
     },
-    Form {
-        row: CHAN_BITS,
-        words: &[
-            Word::Fixed(b"chan"),
-            Word::Channel,
-            Word::Fixed(b"bits"),
-            Word::Number(Limits { least: 1, most: 24 }),
-        ],
-        rule: Rule::Free,
-    },
-    Form {
-        row: CHAN_MUNGE,
-        words: &[
-            Word::Fixed(b"chan"),
-            Word::Channel,
-            Word::Fixed(b"munge"),
-            Word::Fixed(b"none"),
-        ],
-        rule: Rule::Free,
-    },
-    Form {
-        row: CHAN_MUNGE,
-        words: &[
-            Word::Fixed(b"chan"),
-            Word::Channel,
-            Word::Fixed(b"munge"),
-            Word::Fixed(b"offset"),
-        ],
-        rule: Rule::Free,
-    },
-    Form {
-        row: CHAN_MUNGE,
-        words: &[
-            Word::Fixed(b"chan"),
-            Word::Channel,
-            Word::Fixed(b"munge"),
-            Word::Fixed(b"swap16"),
-        ],
-        rule: Rule::Free,
-    },
-    Form {
-        row: CHAN_MUNGE,
-        words: &[
-            Word::Fixed(b"chan"),
-            Word::Channel,
-            Word::Fixed(b"munge"),
-            Word::Fixed(b"left"),
-            Word::Number(Limits { least: 1, most: 8 }),
-        ],
-        rule: Rule::Free,
-    },
-    Form {
-        row: CHAN_RANGE,
-        words: &[
-            Word::Fixed(b"chan"),
-            Word::Channel,
-            Word::Fixed(b"range"),
-            Word::Signed,
-            Word::Signed,
-            Word::Number(Limits { least: 0, most: 2 }),
-        ],
-        rule: Rule::Below,
-    },
+    channel_lines::BITS,
+    channel_lines::PLAIN,
+    channel_lines::OFFSET,
+    channel_lines::SWAPPED,
+    channel_lines::LEFT,
+    channel_lines::RANGE,
 ];
 
 /// The lines of a block.

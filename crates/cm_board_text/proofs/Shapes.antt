@@ -159,19 +159,19 @@ pub chan_lands : (chan row : ℕ) → row < lines.ROW_COUNT → Lands (channel_p
 chan_lands chan row below = λ k values within e. eq-eqb _ _ (chan_form (form_at k board_forms) values chan row below (row_below k board_forms refl within) e)
 
 -- what each line of a place keeps
-pub row_keeps : (head : Head) (place row : ℕ) (q : ℕ → List Value → Bool) → Lands place row → EachOf (Says head q) row 0 board_forms →
+pub row_keeps : (head : Head) (place wanted : ℕ) (q : ℕ → List Value → Bool) → Lands place wanted → EachOf (Says head q) wanted 0 board_forms →
     (items : List ItemText) → list_all (is_good board_table head) items ≡ true → list_all (λ item. q item.form item.values) (of_row place items) ≡ true
-row_keeps head place row q lands each [] h = refl
-row_keeps head place row q lands each (item ∷ items) h =
+row_keeps head place wanted q lands each [] h = refl
+row_keeps head place wanted q lands each (item ∷ items) h =
     let b = both (is_good board_table head item) (list_all (is_good board_table head) items) h in
-    by (item.row == place) refl (good_line head item b.0) (row_keeps head place row q lands each items b.1)
+    by (item.row == place) refl (good_line head item b.0) (row_keeps head place wanted q lands each items b.1)
   where
     here : (item.row == place) ≡ true → IsLine head item → q item.form item.values ≡ true
     here e line =
         let form : FormText = form_at item.form board_forms in
         let of_it = lands item.form item.values line.below (line.place ∙ eqb-true item.row place e) in
         let same : 0 + item.form ≡ item.form = omega arith in
-        let says : Says head q item.form form = subst (λ (m : ℕ). Says head q m form) same (each_at (Says head q) row 0 item.form board_forms each line.below of_it) in
+        let says : Says head q item.form form = subst (λ (m : ℕ). Says head q m form) same (each_at (Says head q) wanted 0 item.form board_forms each line.below of_it) in
         says item.values line.stands line.keeps
 
     by : (t : Bool) → (item.row == place) ≡ t → IsLine head item → list_all (λ item. q item.form item.values) (of_row place items) ≡ true →

@@ -40,12 +40,12 @@ two_keep q f g d e [] h k = h
 two_keep q f g d e (x ∷ xs) h k = (both (q (f x) (g x)) (list_all (λ x. q (f x) (g x)) xs) k).0
 
 -- the number of a row of one form, or its default, is within the limits of that form
-number_keeps : (head : Head) (items : List ItemText) → AreGood head items → (row at least most default : ℕ) → row < lines.ROW_COUNT →
-    is_only row at 0 board_forms ≡ true → word_at 0 (form_at at board_forms).words ≡ Number (limits least most) →
-    is_within (limits least most) default ≡ true → is_within (limits least most) (number_of row 0 default items) ≡ true
-number_keeps head items h row at least most default below only word fits =
-    first_keeps (is_within (limits least most)) (λ (item : ItemText). number_at 0 item.values) default (of_row row items) fits
-    (number_fits head row at least most items h below only word)
+number_keeps : (head : Head) (items : List ItemText) → AreGood head items → (place at least most default : ℕ) → place < lines.ROW_COUNT →
+    is_only place at 0 board_forms ≡ true → word_at 0 (form_at at board_forms).words ≡ Number (limits least most) →
+    is_within (limits least most) default ≡ true → is_within (limits least most) (number_of place 0 default items) ≡ true
+number_keeps head items h place at least most default below only word fits =
+    first_keeps (is_within (limits least most)) (λ (item : ItemText). number_at 0 item.values) default (of_row place items) fits
+    (number_fits head place at least most items h below only word)
 
 -- the two times of a row, or their defaults, are in order
 times_keep : (place : ℕ) (items : List ItemText) → list_all (λ item. are_times (number_at 0 item.values) (number_at 1 item.values)) (of_row place items) ≡ true →

@@ -16,9 +16,10 @@ use std::marker::Model;
 /// 1 leaves each trigger only sources that the subdevice has, 2 changes nothing, 3 moves each
 /// argument to the nearest one in its limits, which are about the line of an external one and not
 /// about the edges that it asks for, and of a timed scan also about the time for each entry of the list
-/// and, where the subdevice asks for that, for its conversions; 4 puts times on the tick and within
-/// their limits, and gives a scan the time for its conversions, 5 changes nothing. A command that step 4
-/// has changed fails step 5 at most. It takes no memory.
+/// and, where the subdevice asks for that, for its conversions; 4 puts times on the tick, rounded in the
+/// subdevice's own way or else in that of the flags, and within their limits, and gives a scan the time
+/// for its conversions, 5 changes nothing. A command that step 4 has changed fails step 5 at most. It
+/// takes no memory.
 pub fn command_test(sub: &Sub, cmd: &mut Cmd) -> u8
     requires { length cmd.old.list < 2 ^ 32 }
     ensures { (result, cmd.new) ≡ tested sub.now cmd.old }
