@@ -77,10 +77,10 @@ munge_kept channels (Some c) whole h k = default_keeps is_munge c.munge whole h.
 -- ranges that can be those of a channel
 record AreRanges (ranges : List Range) : Type 0 where
   pub some : 1 ≤ length ranges
-  pub few : length ranges ≤ 16
+  pub few : length ranges ≤ 32
   pub proper : All IsRange ranges
 
-some_kept : (own whole : List Range) → length own ≤ 16 → All IsRange own → AreRanges whole → AreRanges (some_or own whole)
+some_kept : (own whole : List Range) → length own ≤ 32 → All IsRange own → AreRanges whole → AreRanges (some_or own whole)
 some_kept [] whole few proper h = h
 some_kept (r ∷ own) whole few proper h = record { some = omega arith; few = few; proper = proper }
 
@@ -90,13 +90,13 @@ ranges_kept channels None whole h k = k
 ranges_kept channels (Some c) whole h k = some_kept c.ranges whole h.few_ranges h.ranges k
 
 -- a subdevice with channels is in use
-in_use : (kind : Kind) (channels chan : ℕ) → has_channels kind channels ≡ true → chan < channels → is_unused kind ≡ false
-in_use kinds.Unused channels chan h below = absurd (grind (arith, nat_tests))
-in_use kinds.Ai channels chan h below = refl
-in_use kinds.Ao channels chan h below = refl
-in_use kinds.Di channels chan h below = refl
-in_use kinds.Do channels chan h below = refl
-in_use kinds.Dio channels chan h below = refl
+in_use : (version : ℕ) (kind : Kind) (channels chan : ℕ) → has_channels version kind channels ≡ true → chan < channels → is_unused kind ≡ false
+in_use version kinds.Unused channels chan h below = absurd (grind (arith, nat_tests))
+in_use version kinds.Ai channels chan h below = refl
+in_use version kinds.Ao channels chan h below = refl
+in_use version kinds.Di channels chan h below = refl
+in_use version kinds.Do channels chan h below = refl
+in_use version kinds.Dio channels chan h below = refl
 
 or_right_of : (a b : Bool) → a ≡ false → (a || b) ≡ true → b ≡ true
 or_right_of true b e h = cc
@@ -104,7 +104,7 @@ or_right_of false b e h = h
 
 -- what a sound subdevice says of its channels
 record HasNumbers (s : SubText) : Type 0 where
-  pub channels : has_channels s.kind s.channels ≡ true
+  pub channels : has_channels s.version s.kind s.channels ≡ true
   pub some_ranges : (is_unused s.kind || nat_le 1 (length s.ranges)) ≡ true
   pub maxdata : is_maxdata s.maxdata ≡ true
   pub munge : is_munge s.munge ≡ true
@@ -116,7 +116,7 @@ numbers_kept s h =
     let b = both (fits_kind s) (fits_commands s) a.0 in
     let k1 = both _ (not (is_unused s.kind) || is_bare s) b.0 in
     let k2 = both _ _ k1.0 in
-    let k3 = both (has_channels s.kind s.channels) (is_unused s.kind || nat_le 1 (length s.ranges)) k2.0 in
+    let k3 = both (has_channels s.version s.kind s.channels) (is_unused s.kind || nat_le 1 (length s.ranges)) k2.0 in
     let l1 = both _ _ a.1 in
     let l2 = both _ _ l1.0 in
     let l3 = both _ _ l2.0 in
@@ -129,7 +129,7 @@ unfolding is_bits_ok maxdata_of munge_of ranges_of
 channel s chan h below =
     let n = numbers_kept s h in
     let set = set_sound s.channels s.chans chan h.chans in
-    let unused = in_use s.kind s.channels chan n.channels below in
+    let unused = in_use s.version s.kind s.channels chan n.channels below in
     let some : 1 ≤ length s.ranges = grind (arith, nat_tests, or_right_of (is_unused s.kind) (nat_le 1 (length s.ranges)) unused n.some_ranges) in
     let ranges = ranges_kept s.channels (set_for s.chans chan) s.ranges set (record { some = some; few = h.few_ranges; proper = h.ranges }) in
     let bits = all_below (is_channel_ok s) s.channels 0 chan h.bits (omega arith) (omega arith) in

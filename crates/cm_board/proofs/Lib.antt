@@ -1,1 +1,4 @@
 pub mod ChannelNumbers
+pub mod Searches
+pub mod Products
+pub mod Made

@@ -22,7 +22,12 @@ use Rattle.cm_board.specs.Said.{head_of, sub_of}
 pub use Rattle.cm_board.specs.Kept.{is_among, is_source}
 pub use Rattle.cm_board.specs.Kinds.{has_levels, is_digital, is_dio, is_output, is_unused, may_command, may_fifo}
 pub use Rattle.cm_board.specs.Records.{ChanText, Masks, SubText, any_list, any_rounding, any_scan, says_any}
-pub use Rattle.cm_board.specs.Times.{down, up}
+pub use Rattle.cm_board.specs.Times.{AreTimers, TimersText, are_divisors, are_rising, can_make, down, up}
+pub use Rattle.cm_board.specs.Versions.{is_wide, most_in}
+
+-- timers that can make each time
+abbrev pub each_nanosecond : TimersText
+each_nanosecond = record { tick = 1; clock = [] }
 
 -- a subdevice of a kind that takes no commands, with this many channels, this greatest code and these ranges, and nothing else
 abbrev pub idle_sub : Kind → ℕ → ℕ → List Range → SubText
@@ -34,7 +39,7 @@ idle_sub kind channels maxdata ranges = record {
   munge = munges.Plain;
   ranges = ranges;
   masks = record { start = 0; scan_begin = 0; convert = 0; scan_end = 0; stop = 0 };
-  tick = 1;
+  timers = each_nanosecond;
   scan_min = 1;
   scan_max = 1;
   conv_min = 1;
@@ -131,10 +136,10 @@ abbrev pub is_munge : Munge → Bool
 is_munge (munges.Left bits) = nat_le 1 bits && nat_le bits 8
 is_munge munge = true
 
--- 1 to 64 channels, and none where the subdevice is unused
-abbrev pub has_channels : Kind → ℕ → Bool
-has_channels kinds.Unused channels = channels == 0
-has_channels kind channels = nat_le 1 channels && nat_le channels 64
+-- 1 to 64 channels, in the wider texts to 256, and none where the subdevice is unused
+abbrev pub has_channels : ℕ → Kind → ℕ → Bool
+has_channels version kinds.Unused channels = channels == 0
+has_channels version kind channels = nat_le 1 channels && nat_le channels (most_in version 64 256)
 
 -- the greatest number of 1 to 24 bits
 abbrev pub is_maxdata : ℕ → Bool
@@ -184,7 +189,7 @@ takes_any_scan l = l.per_entry == 0 && not l.holds
 -- the numbers of a subdevice that takes no commands
 abbrev pub is_idle : SubText → Bool
 is_idle s =
-    are_empty s.masks && s.tick == 1 && s.scan_min == 1 && s.scan_max == 1 && s.conv_min == 1 && s.conv_max == 1
+    are_empty s.masks && s.timers.tick == 1 && length s.timers.clock == 0 && s.scan_min == 1 && s.scan_max == 1 && s.conv_min == 1 && s.conv_max == 1
     && s.list_max == 1 && s.scans_max == 1 && s.lines == 0 && s.buffer == 1 && rounds_by_flags s.rounding && takes_any_scan s.least_scan
     && takes_any_list s.lists
     && length s.forbidden == 0 && not s.invert && not (is_some s.fifo)
@@ -207,22 +212,23 @@ pub record AreOnTick (tick least most : ℕ) : Type 0 where
   pub least_ticks : least % tick ≡ 0
   pub most_ticks : most % tick ≡ 0
 
--- two times in their order, with a multiple of the tick between them; both are multiples but in the wider texts
-pub record AreTimes (version tick least most : ℕ) : Type 0 where
+-- two times in their order, with one between them that the board can make; both are multiples of the tick but in the wider texts
+pub record AreTimes (sub : SubText) (least most : ℕ) : Type 0 where
   pub some : 1 ≤ least
   pub order : least ≤ most
-  pub high : most ≤ 4000000000
-  pub possible : up tick least ≤ most
-  pub ticks : version ≤ 2 → AreOnTick tick least most
+  pub high : most < 2 ^ 32
+  pub possible : up sub.timers least ≤ most
+  pub ticks : sub.version ≤ 2 → AreOnTick sub.timers.tick least most
 
--- where scans may be timed, the longest of a time that is on the tick holds so much
+-- where scans may be timed, the longest that the board can make holds so much
 abbrev pub FitsTimed : SubText → ℕ → Type 0
-FitsTimed sub time = IsTrue (allows sub.masks.scan_begin timer) → time ≤ down sub.tick sub.scan_max
+FitsTimed sub time = IsTrue (allows sub.masks.scan_begin timer) → time ≤ down sub.timers sub.scan_max
 
--- the longest scan holds the least conversions of the longest list, and where both are timed the longest on the tick those on the tick
+-- the longest scan holds the least conversions of the longest list, and where both are timed the longest that the board can make those that
+-- it can make
 pub record HoldsList (sub : SubText) : Type 0 where
   pub any : sub.conv_min * sub.list_max ≤ sub.scan_max
-  pub timed : IsTrue (allows sub.masks.convert timer) → FitsTimed sub (up sub.tick sub.conv_min * sub.list_max)
+  pub timed : IsTrue (allows sub.masks.convert timer) → FitsTimed sub (up sub.timers sub.conv_min * sub.list_max)
 
 -- and the time that it needs for the entries of the longest list
 pub record HoldsEntries (sub : SubText) : Type 0 where
@@ -237,7 +243,7 @@ HasLine lines mask = IsTrue (allows mask ext) → 1 ≤ lines
 -- what the kind asks: channels, ranges, commands and a FIFO, and nothing of an unused subdevice
 abbrev pub fits_kind : SubText → Bool
 fits_kind s =
-    has_channels s.kind s.channels && (is_unused s.kind || nat_le 1 (length s.ranges)) && (not (is_some s.fifo) || may_fifo s.kind)
+    has_channels s.version s.kind s.channels && (is_unused s.kind || nat_le 1 (length s.ranges)) && (not (is_some s.fifo) || may_fifo s.kind)
     && (not (is_unused s.kind) || is_bare s)
 
 -- a subdevice takes commands by its kind, and by all of its triggers or none
@@ -274,7 +280,7 @@ pub record IsSoundChan (channels : ℕ) (c : ChanText) : Type 0 where
   pub munge : IsTrue (list_all is_munge (option_to_list c.munge))
   pub units : IsTrue (list_all fits_range c.ranges)
   pub ranges : All IsRange c.ranges
-  pub few_ranges : length c.ranges ≤ 16
+  pub few_ranges : length c.ranges ≤ 32
 
 -- these are about rising channels, none below `least`
 abbrev pub chans_rise : ℕ → List ChanText → Bool
@@ -295,23 +301,23 @@ pub record IsSoundSub (sub : SubText) : Type 0 where
   pub text : IsTrue (has_text sub)
   pub bits : IsTrue (is_bits_ok sub)
   pub largest : IsFrom1To (2 ^ 24 - 1) sub.maxdata
-  pub few_channels : sub.channels ≤ 64
-  pub few_ranges : length sub.ranges ≤ 16
+  pub few_channels : sub.channels ≤ 256
+  pub few_ranges : length sub.ranges ≤ 32
   pub ranges : All IsRange sub.ranges
-  pub tick : IsFrom1To 1000000000 sub.tick
-  pub scan : AreTimes sub.version sub.tick sub.scan_min sub.scan_max
-  pub convert : AreTimes sub.version sub.tick sub.conv_min sub.conv_max
-  pub list : IsFrom1To 256 sub.list_max
+  pub timers : AreTimers sub.timers
+  pub scan : AreTimes sub sub.scan_min sub.scan_max
+  pub convert : AreTimes sub sub.conv_min sub.conv_max
+  pub list : IsFrom1To 1024 sub.list_max
   pub list_fits : HoldsList sub
   pub entries_fit : HoldsEntries sub
-  pub scans : IsFrom1To 4000000000 sub.scans_max
-  pub few_lines : sub.lines ≤ 16
+  pub scans : IsFrom1To (2 ^ 32 - 1) sub.scans_max
+  pub few_lines : sub.lines ≤ 64
   pub start_line : HasLine sub.lines sub.masks.start
   pub scan_begin_line : HasLine sub.lines sub.masks.scan_begin
   pub convert_line : HasLine sub.lines sub.masks.convert
   pub scan_end_line : HasLine sub.lines sub.masks.scan_end
   pub stop_line : HasLine sub.lines sub.masks.stop
-  pub buffer : IsFrom1To 65536 sub.buffer
+  pub buffer : IsFrom1To (2 ^ 20) sub.buffer
   pub few_pairs : length sub.forbidden ≤ 16
   pub chans : All (IsSoundChan sub.channels) sub.chans
   pub rise : IsTrue (chans_rise 0 sub.chans)
@@ -323,7 +329,7 @@ pub record IsChannel (maxdata : ℕ) (munge : Munge) (ranges : List Range) : Typ
   pub munge_fits : IsTrue (is_munge munge)
   pub swapped : IsTrue (not (swaps munge) || nat_le maxdata 65535)
   pub some : 1 ≤ length ranges
-  pub few : length ranges ≤ 16
+  pub few : length ranges ≤ 32
   pub proper : All IsRange ranges
 
 -- version 1 or 2, or 3 for the wider texts, a name of 1 to 32 printable bytes, and 1 to 16 subdevices of this version

@@ -1,6 +1,6 @@
 -- The lines of a block: their rows and their forms.
 use Rattle.std.specs.Prelude.{ℕ, List, [], ◌∷◌, codes, true, false}
-use Rattle.cm_board.specs.Table.{FormText, TableText, WordText, Fixed, Number, Signed, Sources, Source, Name, Channel}
+use Rattle.cm_board.specs.Table.{FormText, TableText, WordText, Fixed, Number, Signed, Sources, Source, Name, Channel, Divisors}
 use Rattle.cm_board.specs.declared.lines.TheConstants as lines
 use Rattle.cm_board.specs.declared.table.Absent.{Absent}
 use Rattle.cm_board.specs.declared.table.Absent.TheVariants as absents
@@ -11,13 +11,17 @@ use Rattle.cm_board.specs.declared.table.Rule.{Rule}
 use Rattle.cm_board.specs.declared.table.Sets.{Sets}
 use Rattle.cm_board.specs.declared.table.Rule.TheVariants as rules_of
 
+-- a number from one to another, or to a third in the wider texts
+abbrev pub widening : ℕ → ℕ → ℕ → WordText
+widening least most wide = Number (record { least = least; most = most; wide = wide })
+
 -- a number between two others
 abbrev pub from_to : ℕ → ℕ → WordText
-from_to least most = Number (record { least = least; most = most })
+from_to least most = widening least most most
 
--- a time between triggers: 1 nanosecond to 4 seconds
+-- a time between triggers, or a count of scans: 1 to 4,000,000,000, and in the wider texts each number of 32 bits but 0
 abbrev pub time : WordText
-time = from_to 1 4000000000
+time = widening 1 4000000000 4294967295
 
 -- how the channels of a list follow each other
 abbrev pub following : WordText
@@ -61,11 +65,15 @@ field = Name (codes "start" ∷ codes "scan_begin" ∷ codes "convert" ∷ codes
 
 -- a line about all channels: how many there may be, since which version, in which blocks, and what holds without one
 abbrev pub of_all : ℕ → ℕ → Place → Absent → Row
-of_all most since place absent = record { most = most; since = since; place = place; absent = absent; of_channel = false }
+of_all most since place absent = record { most = most; wide = most; since = since; place = place; absent = absent; of_channel = false }
 
--- a line about one channel: how many there may be of each
-abbrev pub of_each : ℕ → Row
-of_each most = record { most = most; since = 2; place = places.Any; absent = absents.Nothing; of_channel = true }
+-- a line about one channel: how many there may be of each, before the wider texts and in them
+abbrev pub of_each : ℕ → ℕ → Row
+of_each most wide = record { most = most; wide = wide; since = 2; place = places.Any; absent = absents.Nothing; of_channel = true }
+
+-- the ranges of all channels
+abbrev pub ranges : Row
+ranges = record { most = 16; wide = 32; since = 1; place = places.Any; absent = absents.Missing; of_channel = false }
 
 -- a form of a row: its words after these, and what its values keep together
 abbrev pub form : ℕ → List WordText → Rule → FormText
@@ -84,7 +92,7 @@ abbrev pub board_rows : List Row
 board_rows =
     of_all 1 1 places.Any absents.Missing
     ∷ of_all 1 1 places.Any (absents.Stands lines.MUNGE_NONE)
-    ∷ of_all 16 1 places.Any absents.Missing
+    ∷ ranges
     ∷ needed
     ∷ needed
     ∷ needed
@@ -104,9 +112,10 @@ board_rows =
     ∷ wide
     ∷ wide
     ∷ wide
-    ∷ of_each 1
-    ∷ of_each 1
-    ∷ of_each 16
+    ∷ wide
+    ∷ of_each 1 1
+    ∷ of_each 1 1
+    ∷ of_each 16 32
     ∷ []
 
 -- their forms
@@ -122,14 +131,16 @@ board_forms =
     ∷ form lines.TICK (Fixed (codes "tick") ∷ from_to 1 1000000000 ∷ []) rules_of.Free
     ∷ form lines.SCAN (Fixed (codes "scan") ∷ time ∷ time ∷ []) rules_of.Rising
     ∷ form lines.CONVERT (Fixed (codes "convert") ∷ time ∷ time ∷ []) rules_of.Rising
-    ∷ form lines.LIST (Fixed (codes "list") ∷ from_to 1 256 ∷ []) rules_of.Free
+    ∷ form lines.LIST (Fixed (codes "list") ∷ widening 1 256 1024 ∷ []) rules_of.Free
     ∷ form lines.SCANS (Fixed (codes "scans") ∷ time ∷ []) rules_of.Free
-    ∷ form lines.LINES (Fixed (codes "lines") ∷ from_to 0 16 ∷ []) rules_of.Free
-    ∷ form lines.BUFFER (Fixed (codes "buffer") ∷ from_to 1 65536 ∷ []) rules_of.Free
+    ∷ form lines.LINES (Fixed (codes "lines") ∷ widening 0 16 64 ∷ []) rules_of.Free
+    ∷ form lines.BUFFER (Fixed (codes "buffer") ∷ widening 1 65536 1048576 ∷ []) rules_of.Free
     ∷ form lines.SAME_RANGE (Fixed (codes "samerange") ∷ []) rules_of.Free
     ∷ form lines.FORBID (Fixed (codes "forbid") ∷ field ∷ Source ∷ field ∷ Source ∷ []) rules_of.Apart
     ∷ form lines.INVERT (Fixed (codes "invert") ∷ []) rules_of.Free
     ∷ form lines.FIFO (Fixed (codes "fifo") ∷ from_to 2 4096 ∷ from_to 0 1000000000 ∷ []) rules_of.Even
+    ∷ form lines.CLOCK (Fixed (codes "clock") ∷ Divisors ∷ []) rules_of.Ordered
+    ∷ form lines.CLOCK (Fixed (codes "clock") ∷ Divisors ∷ Divisors ∷ []) rules_of.Ordered
     ∷ form lines.ROUNDS (Fixed (codes "rounds") ∷ Name (codes "nearest" ∷ codes "down" ∷ codes "up" ∷ []) ∷ []) rules_of.Free
     ∷ form lines.HALF_DOWN (Fixed (codes "halfdown") ∷ []) rules_of.Free
     ∷ form lines.PER_ENTRY (Fixed (codes "perchan") ∷ from_to 1 4294967295 ∷ []) rules_of.Free

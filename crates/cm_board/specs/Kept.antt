@@ -6,7 +6,9 @@ use Rattle.cm_base.specs.Words.{is_int}
 use Rattle.cm_board.specs.Items.{ItemText}
 use Rattle.cm_board.specs.Rules.{keeps_rule}
 use Rattle.cm_board.specs.Slots.{Slot, lacks, slots_from, takes, whole}
-use Rattle.cm_board.specs.Table.{FormText, TableText, WordText, Fixed, Number, Signed, Sources, Source, Name, Channel}
+use Rattle.cm_board.specs.Table.{FormText, TableText, WordText, Fixed, Number, Signed, Sources, Source, Name, Channel, Divisors}
+use Rattle.cm_board.specs.Times.{are_divisors}
+use Rattle.cm_board.specs.Versions.{is_wide, most_in}
 use Rattle.cm_board.specs.Table.{form_at, laid, may_stand, place_of, row_at}
 use Rattle.cm_board.specs.declared.table.Head.{Head}
 use Rattle.cm_board.specs.declared.table.Limits.{Limits}
@@ -22,22 +24,23 @@ is_among set mask = not (mask == 0) && bit_and mask set == mask
 abbrev pub is_source : ℕ → Bool
 is_source src = is_among 511 src && bit_and src (src - 1) == 0
 
--- a number within limits
-abbrev pub is_within : Limits → ℕ → Bool
-is_within l n = nat_le l.least n && nat_le n l.most
+-- a number within the limits of a version
+abbrev pub is_within : ℕ → Limits → ℕ → Bool
+is_within version l n = nat_le l.least n && nat_le n (most_in version l.most l.wide)
 
 -- the sources that a word may have on a board of a version
 abbrev pub set_in : ℕ → Sets → ℕ
-set_in version sets = if nat_le 3 version then sets.wide else if nat_le 2 version then sets.second else sets.first
+set_in version sets = if is_wide version then sets.wide else if nat_le 2 version then sets.second else sets.first
 
 -- a value that a word may say
 abbrev pub is_kept : Head → WordText → Value → Bool
-is_kept head (Number l) (values_of.Number n) = is_within l n
+is_kept head (Number l) (values_of.Number n) = is_within head.version l n
 is_kept head Signed (values_of.Signed z) = is_int z
 is_kept head (Sources sets) (values_of.Number n) = is_among (set_in head.version sets) n
 is_kept head Source (values_of.Number n) = is_source n
 is_kept head (Name names) (values_of.Name n) = nat_lt n (length names)
 is_kept head Channel (values_of.Number n) = nat_lt n head.channels
+is_kept head Divisors (values_of.Divisors d) = are_divisors d
 is_kept head kind v = false
 
 -- values that words may say, one for each that is not fixed
@@ -61,9 +64,9 @@ abbrev pub is_good : TableText → Head → ItemText → Bool
 is_good t head item =
     is_known t item && may_stand head (row_at (form_at item.form t.forms).row t.rows) && keeps head (form_at item.form t.forms) item.values
 
--- no more lines of a row than there may be
-abbrev pub is_few : Slot → Bool
-is_few s = nat_le (length s.items) s.row.most
+-- no more lines of a row than there may be in texts of a version
+abbrev pub is_few : ℕ → Slot → Bool
+is_few version s = nat_le (length s.items) (most_in version s.row.most s.row.wide)
 
 -- the slots of a block
 abbrev pub slots : TableText → Head → List ItemText → List Slot
@@ -73,6 +76,6 @@ slots t head items = slots_from 0 (laid head.channels t.rows) items
 -- standing there are among them, in the order in which they are printed
 pub record IsWhole (t : TableText) (head : Head) (items : List ItemText) : Type 0 where
   pub good : IsTrue (list_all (is_good t head) items)
-  pub few : IsTrue (list_all is_few (slots t head items))
+  pub few : IsTrue (list_all (is_few head.version) (slots t head items))
   pub full : IsFalse (lacks head (takes (slots t head items)) (slots t head items))
   pub same : whole head (takes (slots t head items)) (slots t head items) ≡ items

@@ -12,4 +12,6 @@ pub mod Said
 pub mod Slots
 pub mod Table
 pub mod Times
+pub mod TimersView
+pub mod Versions
 pub mod View

@@ -2,6 +2,7 @@
 use Rattle.std.specs.Prelude.{ℕ, Bool, false, None, ◌||◌, nat_le, List, length, Option}
 use Rattle.std.specs.Option.{is_some}
 use Rattle.cm_board.specs.Items.{ItemText}
+use Rattle.cm_board.specs.Times.{TimersText}
 use Rattle.cm_board.specs.declared.board.Fifo.{Fifo}
 use Rattle.cm_board.specs.declared.board.Forbid.{Forbid}
 use Rattle.cm_board.specs.declared.board.Kind.{Kind}
@@ -36,7 +37,7 @@ pub record SubText : Type 0 where
   pub munge : Munge
   pub ranges : List Range
   pub masks : Masks
-  pub tick : ℕ
+  pub timers : TimersText
   pub scan_min : ℕ
   pub scan_max : ℕ
   pub conv_min : ℕ

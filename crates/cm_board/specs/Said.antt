@@ -5,6 +5,8 @@ use Rattle.cm_board.specs.BoardTable.{board_rows}
 use Rattle.cm_board.specs.Items.{ItemText}
 use Rattle.cm_board.specs.Records.{ChanText, Masks, SubText, says_any}
 use Rattle.cm_board.specs.Slots.{is_empty, of_row}
+use Rattle.cm_board.specs.declared.board.Divisors.{Divisors}
+use Rattle.cm_board.specs.Times.{TimersText}
 use Rattle.cm_board.specs.declared.board.Fifo.{Fifo}
 use Rattle.cm_board.specs.declared.board.Forbid.{Forbid}
 use Rattle.cm_board.specs.declared.board.LeastScan.{LeastScan}
@@ -119,6 +121,19 @@ way_named zero = ways.Nearest
 way_named (suc zero) = ways.Down
 way_named n = ways.Up
 
+-- the counters of a line
+abbrev pub counters_in : List Value → List Divisors
+counters_in [] = []
+counters_in (values_of.Divisors d ∷ values) = d ∷ counters_in values
+counters_in (v ∷ values) = counters_in values
+
+-- the timers of the board, with the counters of its clock where it has one
+abbrev pub timers_said : List ItemText → TimersText
+timers_said items = record {
+  tick = number_of lines.TICK 0 1 items;
+  clock = first_or [] (map (λ item. counters_in item.values) (of_row lines.CLOCK items));
+}
+
 -- how times are rounded
 abbrev pub rounding_said : List ItemText → Rounding
 rounding_said items = record {
@@ -171,7 +186,7 @@ sub_of head items = record {
   munge = first_or munges.Plain (map (munge_said lines.MUNGE_NONE 0) (of_row lines.MUNGE items));
   ranges = map (range_said 0) (of_row lines.RANGE items);
   masks = masks_said items;
-  tick = number_of lines.TICK 0 1 items;
+  timers = timers_said items;
   scan_min = number_of lines.SCAN 0 1 items;
   scan_max = number_of lines.SCAN 1 1 items;
   conv_min = number_of lines.CONVERT 0 1 items;

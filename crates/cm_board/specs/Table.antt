@@ -20,7 +20,7 @@ use Rattle.cm_board.specs.declared.table.Word.{Word}
 use Rattle.cm_board.specs.declared.table.Word.TheVariants as words_of
 
 -- what a word has to be: this very word, a number within limits, a signed number, sources of a set by the version, one source,
--- one of some names, or a channel
+-- one of some names, a channel, or divisors
 pub data WordText : Type 0 where
   Fixed : List ℕ → WordText
   Number : Limits → WordText
@@ -29,6 +29,7 @@ pub data WordText : Type 0 where
   Source : WordText
   Name : List (List ℕ) → WordText
   Channel : WordText
+  Divisors : WordText
 
 -- what a word has to be, as contracts see it
 abbrev pub word_text : Word → WordText
@@ -39,6 +40,7 @@ word_text (words_of.Sources sets) = Sources sets
 word_text words_of.Source = Source
 word_text (words_of.Name names) = Name (map (λ name. name.now) names.now)
 word_text words_of.Channel = Channel
+word_text words_of.Divisors = Divisors
 
 -- a way to write a line: the place of its row, its words, and what the values keep together
 pub record FormText : Type 0 where
@@ -61,7 +63,7 @@ table_text t = record { rows = t.rows.now; forms = map form_text t.forms.now }
 
 -- a row that no line has
 abbrev pub no_row : Row
-no_row = record { most = 0; since = 0; place = places.Any; absent = absents.Nothing; of_channel = false }
+no_row = record { most = 0; wide = 0; since = 0; place = places.Any; absent = absents.Nothing; of_channel = false }
 
 -- the row at a place
 abbrev pub row_at : ℕ → List Row → Row

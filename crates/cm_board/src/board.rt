@@ -2,6 +2,7 @@
 
 use crate::channels::{maxdata_by, munge_by, ranges_by};
 use crate::items::Item;
+use cm_base::lists::Nums;
 use std::marker::Model;
 
 /// What a subdevice is (Comedi: `COMEDI_SUBD_*`).
@@ -61,7 +62,7 @@ pub struct ChanSet {
     /// The greatest code, `2^bits - 1` with 1 to 24 bits.
     pub maxdata: Option<u32>,
     pub munge: Option<Munge>,
-    /// At most 16. Where there is one, the channel has these ranges and no others.
+    /// At most 16, or 32 in the wider texts. Where there is one, the channel has these ranges and no others.
     pub ranges: Vec<Range>,
 }
 
@@ -138,6 +139,35 @@ pub struct LeastScan {
     pub holds: bool,
 }
 
+/// What a counter of a board's clock can divide by. Each number is 1 to 16,777,216.
+#[derive(Drop)]
+pub enum Divisors {
+    /// All whole numbers from the first to the second, which isn't below it.
+    Span(u32, u32),
+    /// 1 to 32 numbers, strictly rising.
+    Listed(Nums),
+}
+
+/// The timers of a board: what times they can make.
+#[derive(Drop)]
+pub struct Timers {
+    /// What all times are multiples of, in nanoseconds: 1 to 1,000,000,000.
+    pub tick: u32,
+    /// The one or two counters that make the times: the tick times a divisor of each. Where there is
+    /// none, each multiple of the tick can be made.
+    pub clock: Vec<Divisors>,
+}
+
+impl Model for Timers {
+    ghost use Rattle.cm_board.specs.Times.{TimersText};
+
+    ghost Value = { TimersText };
+
+    ghost use Rattle.cm_board.specs.TimersView.{timers_text};
+
+    ghost view = { timers_text };
+}
+
 /// A FIFO between a board's converter and its buffer.
 #[derive(Clone, Copy, Debug, PartialEq, Eq)]
 pub struct Fifo {
@@ -153,7 +183,7 @@ pub struct Sub {
     /// The version of the board, on which it depends what the lines of a block may say.
     pub version: u32,
     pub kind: Kind,
-    /// 1 to 64, and 0 where the kind is unused.
+    /// 1 to 64, in the wider texts to 256, and 0 where the kind is unused.
     pub channels: u32,
     /// The greatest code, `2^bits - 1` with 1 to 24 bits, of each channel that has none of its own.
     pub maxdata: u32,
@@ -162,8 +192,8 @@ pub struct Sub {
     /// The sources that start, scan_begin, convert, scan_end and stop may have. All are 0 where the
     /// subdevice takes no commands.
     pub sources: [u32; 5],
-    /// What the times of a command are multiples of.
-    pub tick: u32,
+    /// The times between triggers that the board can make.
+    pub timers: Timers,
     pub scan_min: u32,
     pub scan_max: u32,
     pub conv_min: u32,
@@ -242,7 +272,7 @@ impl Sub {
     fn ranges_of(&self, chan: u32) -> &[Range]
         requires { chan < self.now.channels }
         ensures value { result.now ≡ ranges_of self.now chan }
-        ensures few { length result.now ≤ 16 }
+        ensures few { length result.now ≤ 32 }
         ensures proper { All IsRange result.now }
     {
         ranges_by(&self.chans, chan, &self.ranges)

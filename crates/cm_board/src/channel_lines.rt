@@ -6,6 +6,7 @@ use crate::table::{Absent, Form, Limits, Place, Row, Rule, Word};
 /// A line that each channel may have once.
 pub(crate) const ONE: Row = Row {
     most: 1,
+    wide: 1,
     since: 2,
     place: Place::Any,
     absent: Absent::Nothing,
@@ -15,6 +16,7 @@ pub(crate) const ONE: Row = Row {
 /// The ranges of a channel.
 pub(crate) const RANGES: Row = Row {
     most: 16,
+    wide: 32,
     since: 2,
     place: Place::Any,
     absent: Absent::Nothing,
@@ -28,7 +30,11 @@ pub(crate) const BITS: Form = Form {
         Word::Fixed(b"chan"),
         Word::Channel,
         Word::Fixed(b"bits"),
-        Word::Number(Limits { least: 1, most: 24 }),
+        Word::Number(Limits {
+            least: 1,
+            most: 24,
+            wide: 24,
+        }),
     ],
     rule: Rule::Free,
 };
@@ -77,7 +83,11 @@ pub(crate) const LEFT: Form = Form {
         Word::Channel,
         Word::Fixed(b"munge"),
         Word::Fixed(b"left"),
-        Word::Number(Limits { least: 1, most: 8 }),
+        Word::Number(Limits {
+            least: 1,
+            most: 8,
+            wide: 8,
+        }),
     ],
     rule: Rule::Free,
 };
@@ -91,7 +101,11 @@ pub(crate) const RANGE: Form = Form {
         Word::Fixed(b"range"),
         Word::Signed,
         Word::Signed,
-        Word::Number(Limits { least: 0, most: 2 }),
+        Word::Number(Limits {
+            least: 0,
+            most: 2,
+            wide: 2,
+        }),
     ],
     rule: Rule::Below,
 };

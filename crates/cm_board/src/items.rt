@@ -1,4 +1,5 @@
 // What a line of a block says.
+ghost use Rattle.std.specs.Prelude.{◌≡◌, IfOk};
 
 use crate::table::Value;
 use smallvec::SmallVec;
@@ -31,7 +32,19 @@ impl Item {
     pub fn new(alloc: Global, row: usize, form: usize, values: &[Value]) -> Result<Item, AllocError>
         ensures { IfOk result (λ item. item ≡ record { row = row; form = form; values = values.now }) }
     {
-        let values = SmallVec::from_slice(alloc, values)?;
+        let values = copies(alloc, values)?;
         Ok(Item { row, form, values })
     }
+}
+
+// Values, copied.
+fn copies(alloc: Global, values: &[Value]) -> Result<SmallVec<Value, 4>, AllocError>
+    ensures { IfOk result (λ copies. copies.items ≡ values.now) }
+{
+    let mut copies = SmallVec::new(alloc);
+    for value in values {
+        let value = value.copy(alloc)?;
+        copies.push(value)?;
+    }
+    Ok(copies)
 }

@@ -4,9 +4,13 @@
 pub mod board;
 mod channel_lines;
 pub mod channels;
+mod clock;
 pub mod items;
 pub mod kind;
 pub mod lines;
+mod rows;
 pub mod said;
 pub mod table;
+pub mod times;
+pub mod versions;
 mod words;

@@ -4,7 +4,8 @@ ghost use Rattle.cm_board.specs.BoardTable.{board_table};
 ghost use Rattle.cm_board.specs.Table.{table_text};
 
 use crate::channel_lines;
-use crate::table::{Absent, Form, Limits, Place, Row, Rule, Table, Word};
+use crate::rows::ROWS;
+use crate::table::{Form, Limits, Rule, Table, Word};
 use crate::words::{CONVERTS, FIELD, FOLLOWING, SCAN_BEGINS, SCAN_ENDS, STARTS, STOPS, TIME};
 
 /// The bits of a code.
@@ -52,38 +53,41 @@ pub const INVERT: usize = 13;
 /// A FIFO between the converter and the buffer.
 pub const FIFO: usize = 14;
 
+/// The counters that make the times.
+pub const CLOCK: usize = 15;
+
 /// The board rounds times in a way of its own, whatever a command's flags say.
-pub const ROUNDS: usize = 15;
+pub const ROUNDS: usize = 16;
 
 /// Of two times on the tick that are as near, the lower is the nearest.
-pub const HALF_DOWN: usize = 16;
+pub const HALF_DOWN: usize = 17;
 
 /// The least time of a scan for each entry of the list.
-pub const PER_ENTRY: usize = 17;
+pub const PER_ENTRY: usize = 18;
 
 /// A timed scan that is shorter than its conversions is outside its limits.
-pub const HOLDS: usize = 18;
+pub const HOLDS: usize = 19;
 
 /// The order of the channels in a list.
-pub const ORDER: usize = 19;
+pub const ORDER: usize = 20;
 
 /// All entries of a list have one reference.
-pub const SAME_REFERENCE: usize = 20;
+pub const SAME_REFERENCE: usize = 21;
 
 /// The ranges of all entries of a list have one polarity.
-pub const SAME_POLARITY: usize = 21;
+pub const SAME_POLARITY: usize = 22;
 
 /// The bits of one channel.
-pub const CHAN_BITS: usize = 22;
+pub const CHAN_BITS: usize = 23;
 
 /// The munge of one channel.
-pub const CHAN_MUNGE: usize = 23;
+pub const CHAN_MUNGE: usize = 24;
 
 /// A range of one channel.
-pub const CHAN_RANGE: usize = 24;
+pub const CHAN_RANGE: usize = 25;
 
 /// How many rows there are.
-pub const ROW_COUNT: usize = 25;
+pub const ROW_COUNT: usize = 26;
 
 /// The form of `bits`.
 pub const BITS_FORM: usize = 0;
@@ -130,149 +134,43 @@ pub const FORBID_FORM: usize = 15;
 /// The form of `fifo`.
 pub const FIFO_FORM: usize = 17;
 
+/// The form of `clock` with one counter.
+pub const CLOCK_FORM: usize = 18;
+
 /// The form of `rounds`.
-pub const ROUNDS_FORM: usize = 18;
+pub const ROUNDS_FORM: usize = 20;
 
 /// The form of `perchan`.
-pub const PER_ENTRY_FORM: usize = 20;
+pub const PER_ENTRY_FORM: usize = 22;
 
 /// The form of `channels`.
-pub const ORDER_FORM: usize = 22;
+pub const ORDER_FORM: usize = 24;
 
 /// The form of `channels` with `repeat`.
-pub const REPEATED_FORM: usize = 23;
+pub const REPEATED_FORM: usize = 25;
 
 /// The form of `chan C bits`.
-pub const CHAN_BITS_FORM: usize = 26;
+pub const CHAN_BITS_FORM: usize = 28;
 
 /// The form of `chan C munge none`, the first of its row.
-pub const CHAN_MUNGE_NONE: usize = 27;
+pub const CHAN_MUNGE_NONE: usize = 29;
 
 /// The form of `chan C munge left`, the last of its row.
-pub const CHAN_MUNGE_LEFT: usize = 30;
+pub const CHAN_MUNGE_LEFT: usize = 32;
 
 /// The form of `chan C range`.
-pub const CHAN_RANGE_FORM: usize = 31;
+pub const CHAN_RANGE_FORM: usize = 33;
 
-// A line that each block with commands needs, once.
-const NEEDED: Row = Row {
-    most: 1,
-    since: 1,
-    place: Place::Commands,
-    absent: Absent::MissingWithCommands,
-    of_channel: false,
-};
-
-// A line of the wider texts that a block with commands may have, once.
-const WIDE: Row = Row {
-    most: 1,
-    since: 3,
-    place: Place::Commands,
-    absent: Absent::Nothing,
-    of_channel: false,
-};
-
-static ROWS: [Row; ROW_COUNT] = [
-    // bits
-    Row {
-        most: 1,
-        since: 1,
-        place: Place::Any,
-        absent: Absent::Missing,
-        of_channel: false,
-    },
-    // munge
-    Row {
-        most: 1,
-        since: 1,
-        place: Place::Any,
-        absent: Absent::Stands(MUNGE_NONE),
-        of_channel: false,
-    },
-    // range
-    Row {
-        most: 16,
-        since: 1,
-        place: Place::Any,
-        absent: Absent::Missing,
-        of_channel: false,
-    },
-    // sources, tick, scan, convert, list
-    NEEDED,
-    NEEDED,
-    NEEDED,
-    NEEDED,
-    NEEDED,
-    // scans
-    Row {
-        most: 1,
-        since: 1,
-        place: Place::Commands,
-        absent: Absent::Says(SCANS_FORM, 1_000_000),
-        of_channel: false,
-    },
-    // lines
-    Row {
-        most: 1,
-        since: 1,
-        place: Place::Commands,
-        absent: Absent::Says(LINES_FORM, 0),
-        of_channel: false,
-    },
-    // buffer
-    NEEDED,
-    // samerange
-    Row {
-        most: 1,
-        since: 1,
-        place: Place::Commands,
-        absent: Absent::Nothing,
-        of_channel: false,
-    },
-    // forbid
-    Row {
-        most: 16,
-        since: 1,
-        place: Place::Commands,
-        absent: Absent::Nothing,
-        of_channel: false,
-    },
-    // invert
-    Row {
-        most: 1,
-        since: 2,
-        place: Place::Commands,
-        absent: Absent::Nothing,
-        of_channel: false,
-    },
-    // fifo
-    Row {
-        most: 1,
-        since: 2,
-        place: Place::Inputs,
-        absent: Absent::Nothing,
-        of_channel: false,
-    },
-    // rounds, halfdown, perchan, scanfits, channels, samearef, samepolarity
-    WIDE,
-    WIDE,
-    WIDE,
-    WIDE,
-    WIDE,
-    WIDE,
-    WIDE,
-    // chan C bits, chan C munge, chan C range
-    channel_lines::ONE,
-    channel_lines::ONE,
-    channel_lines::RANGES,
-];
-
-static FORMS: [Form; 32] = [
+static FORMS: [Form; 34] = [
     Form {
         row: BITS,
         words: &[
             Word::Fixed(b"bits"),
-            Word::Number(Limits { least: 1, most: 24 }),
+            Word::Number(Limits {
+                least: 1,
+                most: 24,
+                wide: 24,
+            }),
         ],
         rule: Rule::Free,
     },
@@ -296,7 +194,11 @@ static FORMS: [Form; 32] = [
         words: &[
             Word::Fixed(b"munge"),
             Word::Fixed(b"left"),
-            Word::Number(Limits { least: 1, most: 8 }),
+            Word::Number(Limits {
+                least: 1,
+                most: 8,
+                wide: 8,
+            }),
         ],
         rule: Rule::Free,
     },
@@ -306,7 +208,11 @@ static FORMS: [Form; 32] = [
             Word::Fixed(b"range"),
             Word::Signed,
             Word::Signed,
-            Word::Number(Limits { least: 0, most: 2 }),
+            Word::Number(Limits {
+                least: 0,
+                most: 2,
+                wide: 2,
+            }),
         ],
         rule: Rule::Below,
     },
@@ -329,6 +235,7 @@ static FORMS: [Form; 32] = [
             Word::Number(Limits {
                 least: 1,
                 most: 1_000_000_000,
+                wide: 1_000_000_000,
             }),
         ],
         rule: Rule::Free,
@@ -350,6 +257,7 @@ static FORMS: [Form; 32] = [
             Word::Number(Limits {
                 least: 1,
                 most: 256,
+                wide: 1024,
             }),
         ],
         rule: Rule::Free,
@@ -363,7 +271,11 @@ static FORMS: [Form; 32] = [
         row: LINES,
         words: &[
             Word::Fixed(b"lines"),
-            Word::Number(Limits { least: 0, most: 16 }),
+            Word::Number(Limits {
+                least: 0,
+                most: 16,
+                wide: 64,
+            }),
         ],
         rule: Rule::Free,
     },
@@ -374,6 +286,7 @@ static FORMS: [Form; 32] = [
             Word::Number(Limits {
                 least: 1,
                 most: 65_536,
+                wide: 1_048_576,
             }),
         ],
         rule: Rule::Free,
@@ -406,13 +319,25 @@ static FORMS: [Form; 32] = [
             Word::Number(Limits {
                 least: 2,
                 most: 4096,
+                wide: 4096,
             }),
             Word::Number(Limits {
                 least: 0,
                 most: 1_000_000_000,
+                wide: 1_000_000_000,
             }),
         ],
         rule: Rule::Even,
+    },
+    Form {
+        row: CLOCK,
+        words: &[Word::Fixed(b"clock"), Word::Divisors],
+        rule: Rule::Ordered,
+    },
+    Form {
+        row: CLOCK,
+        words: &[Word::Fixed(b"clock"), Word::Divisors, Word::Divisors],
+        rule: Rule::Ordered,
     },
     Form {
         row: ROUNDS,
@@ -434,6 +359,7 @@ static FORMS: [Form; 32] = [
             Word::Number(Limits {
                 least: 1,
                 most: 4_294_967_295,
+                wide: 4_294_967_295,
             }),
         ],
         rule: Rule::Free,

@@ -1,10 +1,15 @@
 // The lines of a block as a table: a row for each line, and a form for each way to write it.
 ghost use Rattle.std.specs.Prelude.{◌≡◌};
+ghost use Rattle.std.specs.List.{list_all};
+ghost use Rattle.cm_board.specs.Rules.{rises};
 
-use crate::board::Kind;
+use crate::board::{Divisors, Kind};
+use crate::versions::most_in;
+use std::alloc::{AllocError, Global};
 
-/// The first line of a block: the subdevice's kind, and its channels, 1 to 64, or 0 where it is
-/// unused. The version is that of the board, on which it depends what the block's lines may say.
+/// The first line of a block: the subdevice's kind, and its channels, 1 to 64 and in the wider texts
+/// to 256, or 0 where it is unused. The version is that of the board, on which it depends what the
+/// block's lines may say.
 #[derive(Clone, Copy, Debug, PartialEq, Eq)]
 pub struct Head {
     pub version: u32,
@@ -12,11 +17,12 @@ pub struct Head {
     pub channels: u32,
 }
 
-/// A number from `least` to `most`.
+/// A number from `least` to `most`, and in the wider texts to `wide`, which isn't below `most`.
 #[derive(Clone, Copy, Debug, PartialEq, Eq)]
 pub struct Limits {
     pub least: u32,
     pub most: u32,
+    pub wide: u32,
 }
 
 /// The sources that a word may have, as bits: on boards of version 1, of version 2, and of wider texts.
@@ -44,15 +50,45 @@ pub enum Word {
     Name(&'static [&'static [u8]]),
     /// A channel of the subdevice, counted from 0.
     Channel,
+    /// What a counter can divide by.
+    Divisors,
 }
 
 /// What a word says.
-#[derive(Clone, Copy, Debug, PartialEq, Eq)]
+#[derive(Drop)]
 pub enum Value {
     Number(u32),
     Signed(i32),
     /// A name, by its place among those of the word.
     Name(usize),
+    Divisors(Divisors),
+}
+
+impl Value {
+    ghost use Rattle.std.specs.Prelude.{IfOk};
+    ghost use Rattle.cm_board.specs.Rules.{rises};
+
+    // Whether it is no divisors, or ones that rise.
+    fn rises(&self) -> bool
+        ensures { result ≡ rises self.now }
+    {
+        match self {
+            Value::Divisors(divisors) => divisors.rise(),
+            _ => true,
+        }
+    }
+
+    /// Another of the same.
+    pub fn copy(&self, alloc: Global) -> Result<Value, AllocError>
+        ensures { IfOk result (λ value. value ≡ self.now) }
+    {
+        Ok(match self {
+            Value::Number(number) => Value::Number(*number),
+            Value::Signed(number) => Value::Signed(*number),
+            Value::Name(place) => Value::Name(*place),
+            Value::Divisors(divisors) => Value::Divisors(divisors.copy(alloc)?),
+        })
+    }
 }
 
 impl Default for Value {
@@ -74,6 +110,8 @@ pub enum Rule {
     Even,
     /// The first name isn't the third value's.
     Apart,
+    /// Divisors rise.
+    Ordered,
 }
 
 /// The blocks in which a line may stand.
@@ -116,6 +154,8 @@ pub struct Form {
 pub struct Row {
     /// How many such lines a block may have, or each channel of it.
     pub most: u32,
+    /// And how many in the wider texts, which aren't fewer.
+    pub wide: u32,
     /// The first version of a board that has it.
     pub since: u32,
     pub place: Place,
@@ -166,13 +206,45 @@ impl Rule {
             ) => { first < second }
             (Rule::Even, [Value::Number(first), ..]) => first % 2 == 0,
             (Rule::Apart, [Value::Name(first), _, Value::Name(third), ..]) => first != third,
+            (Rule::Ordered, _) => all_rise(values),
             _ => true,
         }
     }
 }
 
+// Whether all divisors among these values rise.
+fn all_rise(values: &[Value]) -> bool
+    ensures { result ≡ list_all rises values.now }
+{
+    for value in values {
+        if !value.rises() {
+            return false;
+        }
+    }
+    true
+}
+
+impl Limits {
+    ghost use Rattle.cm_board.specs.Versions.{most_in};
+
+    /// The greatest number in texts of a version.
+    pub fn most_in(&self, version: u32) -> u32
+        ensures { result ≡ most_in version self.now.most self.now.wide }
+    {
+        most_in(version, self.most, self.wide)
+    }
+}
+
 impl Row {
     ghost use Rattle.cm_board.specs.Table.{is_command, may_stand, needs};
+    ghost use Rattle.cm_board.specs.Versions.{most_in};
+
+    /// How many such lines a block may have in texts of a version, or each channel of it.
+    pub fn most_in(&self, version: u32) -> u32
+        ensures { result ≡ most_in version self.now.most self.now.wide }
+    {
+        most_in(version, self.most, self.wide)
+    }
 
     /// Whether such a line may stand in the block.
     pub fn may_stand(&self, head: &Head) -> bool

@@ -2,10 +2,12 @@
 
 use crate::table::{Limits, Sets, Word};
 
-/// A time between triggers: 1 nanosecond to 4 seconds.
+/// A time between triggers in nanoseconds, or a count of scans: 1 to 4,000,000,000, and in the wider
+/// texts each number of 32 bits but 0.
 pub(crate) const TIME: Word = Word::Number(Limits {
     least: 1,
     most: 4_000_000_000,
+    wide: u32::MAX,
 });
 
 /// A trigger of a command.

@@ -17,21 +17,15 @@ use Rattle.cm_board.specs.Rules.{keeps_rule}
 use Rattle.cm_board_text.specs.BoardPart.{ends_block}
 use Rattle.cm_board_text.specs.IsTable.{all_apart, are_apart, are_rows, is_headed, is_listed, is_of_channel, is_proper, is_table}
 use Rattle.cm_board_text.specs.Printed.{item_words, words_text}
-use Rattle.cm_board_text.specs.Reading.{Found, admitted, completed, form_of_words, found_from, is_begun, is_form, item_after, values_after}
-use Rattle.cm_board.specs.Table.{FormText, TableText, WordText, Fixed, Number, Signed, Sources, Source, Name, Channel, form_at, laid, may_stand, place_of, row_at}
+use Rattle.cm_board_text.specs.Reading.{Found, admitted, completed, form_of_words, found_from, is_begun, is_form, item_after, most_of, values_after}
+use Rattle.cm_board.specs.Table.{FormText, TableText, WordText, Fixed, Number, Signed, Sources, Source, Name, Channel, Divisors, form_at, laid, may_stand, place_of, row_at}
 use Rattle.cm_board.specs.Slots.{of_row, takes, whole}
 use Rattle.cm_board.specs.declared.table.Head.{Head}
 use Rattle.cm_board.specs.declared.table.Row.{Row}
 use Rattle.cm_board.specs.declared.table.Value.{Value}
-use Rattle.cm_board_text.proofs.Laid.{IsPlaced, placed}
+use Rattle.cm_board_text.proofs.Laid.{IsPlaced, listed_at, placed}
 use Rattle.cm_board_text.proofs.OfRow.{few_at}
 use Rattle.cm_board_text.proofs.WordsBack.{apart_back, form_kept, kept_back}
-
--- the forms of a table
-listed_at : (t : TableText) (n : ℕ) (forms : List FormText) → list_all (is_listed t) forms ≡ true → n < length forms → is_listed t (form_at n forms) ≡ true
-listed_at t n [] h below = absurd (omega arith)
-listed_at t zero (form ∷ forms) h below = (both (is_listed t form) (list_all (is_listed t) forms) h).0
-listed_at t (suc n) (form ∷ forms) h below = listed_at t n forms (both (is_listed t form) (list_all (is_listed t) forms) h).1 (omega arith)
 
 apart_at : (form : FormText) (n : ℕ) (forms : List FormText) → list_all (λ later. are_apart form.words later.words) forms ≡ true → n < length forms →
     are_apart form.words (form_at n forms).words ≡ true
@@ -122,7 +116,7 @@ form_back t head item tab small g =
 
 -- a printed line after others
 line_back : (t : TableText) (head : Head) (before : List ItemText) (number : ℕ) (item : ItemText) → IsTable t → head.channels < 2 ^ 32 → IsGood t head item →
-    nat_lt (length (of_row item.row before)) (row_at item.row (laid head.channels t.rows)).most ≡ true →
+    nat_lt (length (of_row item.row before)) (most_of head.version (row_at item.row (laid head.channels t.rows))) ≡ true →
     item_after t head before (record { number = number; words = item_words t item; bad = false }) ≡ Ok item
 line_back t head before number item tab small g room =
     let form : FormText = form_at item.form t.forms in
@@ -130,27 +124,28 @@ line_back t head before number item tab small g room =
     let f : Found = record { at = item.form; form = form } in
     let place : ℕ = place_of t.rows form item.values in
     let back = kept_back head form.words item.values small (listed t item.form tab g.below).proper g.kept in
-    let here : nat_lt (length (of_row place before)) (row_at form.row t.rows).most ≡ true =
-    ap (λ (r : Row). nat_lt (length (of_row place before)) r.most) (sym (good_place t head item tab g).row)
-    ∙ ap (λ (n : ℕ). nat_lt (length (of_row n before)) (row_at n (laid head.channels t.rows)).most) g.place ∙ room in
-    ap (λ r. r >>= λ (f : Found). values_after head [] f.form.words ws >>= λ values. admitted t.rows before f values) (form_back t head item tab small g)
-    ∙ ap (λ r. r >>= λ values. admitted t.rows before f values) (back.read [])
-    ∙ ap (λ b. cond b (cond (keeps_rule form.rule item.values) (Ok (record { row = place; form = item.form; values = item.values })) (Err faults.Bad)) (Err (cond ((row_at form.row t.rows).most == 1) faults.Double faults.Limit))) here
+    let here : nat_lt (length (of_row place before)) (most_of head.version (row_at form.row t.rows)) ≡ true =
+    ap (λ (r : Row). nat_lt (length (of_row place before)) (most_of head.version r)) (sym (good_place t head item tab g).row)
+    ∙ ap (λ (n : ℕ). nat_lt (length (of_row n before)) (most_of head.version (row_at n (laid head.channels t.rows)))) g.place ∙ room in
+    ap (λ r. r >>= λ (f : Found). values_after head [] f.form.words ws >>= λ values. admitted head t.rows before f values) (form_back t head item tab small g)
+    ∙ ap (λ r. r >>= λ values. admitted head t.rows before f values) (back.read [])
+    ∙ ap (λ b. cond b (cond (keeps_rule form.rule item.values) (Ok (record { row = place; form = item.form; values = item.values })) (Err faults.Bad)) (Err (cond (most_of head.version (row_at form.row t.rows) == 1) faults.Double faults.Limit))) here
     ∙ ap (λ b. cond b (Ok (record { row = place; form = item.form; values = item.values })) (Err faults.Bad)) g.rule
     ∙ ap (λ (n : ℕ). Ok (record { row = n; form = item.form; values = item.values })) g.place
 
 -- the line itself is one of its row
-room : (rows : List Row) (before after : List ItemText) (item : ItemText) → length (of_row item.row (before ++ item ∷ after)) ≤ (row_at item.row rows).most →
-    nat_lt (length (of_row item.row before)) (row_at item.row rows).most ≡ true
-room rows before after item h =
+room : (version : ℕ) (rows : List Row) (before after : List ItemText) (item : ItemText) →
+    length (of_row item.row (before ++ item ∷ after)) ≤ most_of version (row_at item.row rows) →
+    nat_lt (length (of_row item.row before)) (most_of version (row_at item.row rows)) ≡ true
+room version rows before after item h =
     let n : ℕ = item.row in
     let parts = ap length (filter-append (λ (i : ItemText). i.row == n) before (item ∷ after)) ∙ length-append (of_row n before) (of_row n (item ∷ after)) in
     let here : length (of_row n (item ∷ after)) ≡ suc (length (of_row n after)) = ap (λ b. length (cond b (item ∷ of_row n after) (of_row n after))) (eq-eqb n n refl) in
     lt-ltb _ _ (omega (arith, h, parts, here))
 
 -- no row has too many of these lines
-Few : List Row → List ItemText → Type 0
-Few rows items = (n : ℕ) → n < length rows → length (of_row n items) ≤ (row_at n rows).most
+Few : ℕ → List Row → List ItemText → Type 0
+Few version rows items = (n : ℕ) → n < length rows → length (of_row n items) ≤ most_of version (row_at n rows)
 
 -- a good line is below the end of the rows that are laid out
 row_below : (t : TableText) (head : Head) (item : ItemText) → IsTable t → IsGood t head item → item.row < length (laid head.channels t.rows)
@@ -158,7 +153,7 @@ row_below t head item tab g = subst (λ (n : ℕ). n < length (laid head.channel
 
 -- printed lines after others
 all_back : (t : TableText) (head : Head) (before after : List ItemText) (number : ℕ) → IsTable t → head.channels < 2 ^ 32 →
-    list_all (is_good t head) after ≡ true → Few (laid head.channels t.rows) (before ++ after) →
+    list_all (is_good t head) after ≡ true → Few head.version (laid head.channels t.rows) (before ++ after) →
     read_each (item_after t head) before (numbered number (map (item_words t) after)) ≡ Ok (before ++ after)
 unfolding Few
 all_back t head before [] number tab small h few = ap Ok (sym (append-nil before))
@@ -166,16 +161,16 @@ all_back t head before (item ∷ after) number tab small h few =
     let b = both (is_good t head item) (list_all (is_good t head) after) h in
     let g = good t head item b.0 in
     let same : (before ++ item ∷ []) ++ after ≡ before ++ item ∷ after = append_assoc before (item ∷ []) after in
-    let P : List ItemText → Type 0 = λ items. (n : ℕ) → n < length (laid head.channels t.rows) → length (of_row n items) ≤ (row_at n (laid head.channels t.rows)).most in
+    let P : List ItemText → Type 0 = λ items. (n : ℕ) → n < length (laid head.channels t.rows) → length (of_row n items) ≤ most_of head.version (row_at n (laid head.channels t.rows)) in
     ap (λ x. at_line number x >>= λ y. read_each (item_after t head) (before ++ y ∷ []) (numbered (number + 1) (map (item_words t) after)))
-    (line_back t head before number item tab small g (room (laid head.channels t.rows) before after item (few item.row (row_below t head item tab g))))
+    (line_back t head before number item tab small g (room head.version (laid head.channels t.rows) before after item (few item.row (row_below t head item tab g))))
     ∙ all_back t head (before ++ item ∷ []) after (number + 1) tab small b.1 (subst P (sym same) few)
     ∙ ap Ok same
 
-few_in : (t : TableText) (head : Head) (items : List ItemText) → IsWhole t head items → Few (laid head.channels t.rows) ([] ++ items)
+few_in : (t : TableText) (head : Head) (items : List ItemText) → IsWhole t head items → Few head.version (laid head.channels t.rows) ([] ++ items)
 unfolding Few
 few_in t head items w = λ n below.
-    let here = few_at 0 n (laid head.channels t.rows) items w.few below in
+    let here = few_at head.version 0 n (laid head.channels t.rows) items w.few below in
     let same : length (of_row (0 + n) items) ≡ length (of_row n items) = ap (λ (m : ℕ). length (of_row m items)) (omega arith) in
     omega (arith, here, same)
 
@@ -202,6 +197,7 @@ line_words (Sources sets ∷ kinds) vs h w = cc
 line_words (Source ∷ kinds) vs h w = cc
 line_words (Name names ∷ kinds) vs h w = cc
 line_words (Channel ∷ kinds) vs h w = cc
+line_words (Divisors ∷ kinds) vs h w = cc
 
 all_good : (t : TableText) (head : Head) (items : List ItemText) → IsTable t → head.channels < 2 ^ 32 → list_all (is_good t head) items ≡ true →
     list_all is_line (map (item_words t) items) ≡ true
@@ -236,6 +232,7 @@ line_inside (Sources sets ∷ kinds) vs number h = cc
 line_inside (Source ∷ kinds) vs number h = cc
 line_inside (Name names ∷ kinds) vs number h = cc
 line_inside (Channel ∷ kinds) vs number h = cc
+line_inside (Divisors ∷ kinds) vs number h = cc
 
 all_inside : (t : TableText) (head : Head) (items : List ItemText) (number : ℕ) → IsTable t → list_all (is_good t head) items ≡ true →
     list_all (λ (line : LineText). not (ends_block line)) (numbered number (map (item_words t) items)) ≡ true

@@ -1,9 +1,9 @@
 -- What a block says at its end.
-use Rattle.std.proofs.Common.{◌≤◌, ◌≡◌, ◌<◌, Bool, true, cond, List, Result, Ok, Err, sym, ap, subst, ◌∙◌}
+use Rattle.std.proofs.Common.{◌≤◌, ◌≡◌, Bool, true, cond, List, Result, Ok, Err, sym, ap, subst, ◌∙◌}
 use Rattle.cm_base.specs.Reading.{◌>>=◌}
 use Rattle.cm_base.specs.declared.faults.Fault.{Fault}
 use Rattle.cm_base.specs.declared.faults.Fault.TheVariants as faults
-use Rattle.cm_board.specs.Board.{IsSoundSub, SubText, has_channels}
+use Rattle.cm_board.specs.Board.{AreTimers, IsSoundSub, SubText, has_channels}
 use Rattle.cm_board.specs.BoardTable.{board_table}
 use Rattle.cm_board.specs.Items.{ItemText}
 use Rattle.cm_board.specs.Kept.{IsWhole}
@@ -15,7 +15,7 @@ use Rattle.cm_board_text.specs.Kept.{AreItems}
 use Rattle.cm_board_text.specs.Reading.{completed}
 use Rattle.cm_board_text.proofs.BoardOks.{ok_keeps}
 use Rattle.cm_board_text.proofs.Good.{completed_ok}
-use Rattle.cm_board_text.proofs.Sound.{sound, ticks_some}
+use Rattle.cm_board_text.proofs.Sound.{sound, timers_sound}
 use Rattle.cm_board_text.proofs.TableIs.{board_is_table}
 
 -- a subdevice that whole lines describe
@@ -30,12 +30,14 @@ described t head items all read sub is said e same = record { full = ap (λ (t :
 whole_kept : (head : Head) (items all : List ItemText) → AreItems board_table head items → completed board_table head items ≡ Ok all → IsWhole board_table head all
 whole_kept head items all h e = ok_keeps (IsWhole board_table head) (completed board_table head items) all e (completed_ok board_table head items board_is_table h)
 
--- its tick is not 0
-pub tick_kept : (head : Head) (items all : List ItemText) (sub : SubText) → AreItems board_table head items → Described head items all sub → 0 < sub.tick
-tick_kept head items all sub h d = subst (λ (s : SubText). 0 < s.tick) (sym d.same) (ticks_some head all (whole_kept head items all h d.full))
+-- its timers are sound
+pub timers_kept : (head : Head) (items all : List ItemText) (sub : SubText) → AreItems board_table head items → Described head items all sub →
+    AreTimers sub.timers
+timers_kept head items all sub h d =
+    subst (λ (s : SubText). AreTimers s.timers) (sym d.same) (timers_sound head all (whole_kept head items all h d.full).good)
 
 -- and it is sound, where it keeps the rules over its lines
-pub sub_sound : (head : Head) (items all : List ItemText) (sub : SubText) → AreItems board_table head items → has_channels head.kind head.channels ≡ true →
+pub sub_sound : (head : Head) (items all : List ItemText) (sub : SubText) → AreItems board_table head items → has_channels head.version head.kind head.channels ≡ true →
     1 ≤ head.version → Described head items all sub → is_board_ok sub ≡ true → IsSoundSub sub
 sub_sound head items all sub h channels version d ok =
     subst IsSoundSub (sym d.same) (sound head all (whole_kept head items all h d.full) version channels (ap is_board_ok (sym d.same) ∙ ok))

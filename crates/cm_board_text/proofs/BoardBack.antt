@@ -19,7 +19,7 @@ use Rattle.cm_base.proofs.Bools.{and_true, both, not_true}
 use Rattle.cm_base.proofs.NumbersBack.{number_in-decimal, word-decimal}
 use Rattle.cm_base.proofs.RawLines.{lines_from-cons, raw_lines-cons}
 use Rattle.cm_base.proofs.WrittenLines.{lines_from-written}
-use Rattle.cm_board.specs.Board.{BoardText, IsBlock, IsFrom1To, IsSaid, IsSoundSub, IsSoundBoard, SubText}
+use Rattle.cm_board.specs.Board.{BoardText, IsBlock, IsFrom1To, IsSaid, IsSoundSub, IsSoundBoard, SubText, is_wide}
 use Rattle.cm_board.specs.BoardTable.{board_table}
 use Rattle.cm_board.specs.Said.{head_of, sub_of}
 use Rattle.cm_board.specs.declared.table.Head.{Head}
@@ -181,13 +181,13 @@ name_word name h p = and_true _ _ (some name h) p
     some xs h = grind (arith, nat_tests)
 
 -- the versions of `comedi`
-first_versions : (version : ℕ) → IsFrom1To 3 version → nat_le 3 version ≡ false → IsFrom1To 2 version
+first_versions : (version : ℕ) → IsFrom1To 3 version → is_wide version ≡ false → IsFrom1To 2 version
 first_versions version h e = record { low = h.low; high = grind (arith, nat_tests) }
 
 version_is_line : (version : ℕ) → IsFrom1To 3 version → is_line (version_line version) ≡ true
-version_is_line version h = by (nat_le 3 version) refl
+version_is_line version h = by (is_wide version) refl
   where
-    by : (wide : Bool) → nat_le 3 version ≡ wide → is_line (cond wide (codes "zendrouz" ∷ codes "1" ∷ []) (codes "comedi" ∷ decimal version ∷ [])) ≡ true
+    by : (wide : Bool) → is_wide version ≡ wide → is_line (cond wide (codes "zendrouz" ∷ codes "1" ∷ []) (codes "comedi" ∷ decimal version ∷ [])) ≡ true
     by true e = refl
     by false e = and_true _ true (word-decimal version (omega (arith, h.high))) refl
 
@@ -230,7 +230,7 @@ subs_no_signals number (s ∷ subs) h =
     (subs_no_signals (number + length (sub_lines s)) subs (λ k d below. h (suc k) d (omega arith)))
 
 version_no_signals : (version : ℕ) → is_signals (record { number = 1; words = version_line version; bad = false }) ≡ false
-version_no_signals version = by (nat_le 3 version)
+version_no_signals version = by (is_wide version)
   where
     by : (wide : Bool) → is_signals (record { number = 1; words = cond wide (codes "zendrouz" ∷ codes "1" ∷ []) (codes "comedi" ∷ decimal version ∷ []); bad = false }) ≡ false
     by true = refl
@@ -277,12 +277,12 @@ less_33 : (n : ℕ) → n ≤ 32 → nat_le n 32 ≡ true
 less_33 n h = grind (arith, nat_tests)
 
 version_back : (version end : ℕ) (lines : List LineText) → IsFrom1To 3 version → version_of end (numbered 1 (version_line version ∷ []) ++ lines) ≡ Ok version
-version_back version end lines h = by (nat_le 3 version) refl
+version_back version end lines h = by (is_wide version) refl
   where
-    last : (version : ℕ) → IsFrom1To 3 version → nat_le 3 version ≡ true → 3 ≡ version
+    last : (version : ℕ) → IsFrom1To 3 version → is_wide version ≡ true → 3 ≡ version
     last version h e = let least = leb-true 3 version e in omega (arith, least, h.high)
 
-    by : (wide : Bool) → nat_le 3 version ≡ wide →
+    by : (wide : Bool) → is_wide version ≡ wide →
         version_of end (numbered 1 (cond wide (codes "zendrouz" ∷ codes "1" ∷ []) (codes "comedi" ∷ decimal version ∷ []) ∷ []) ++ lines) ≡ Ok version
     by true e = ap Ok (last version h e)
     by false e =

@@ -46,7 +46,7 @@ head_after_keeps number version count line =
     (λ h is. limited_ok (IsHeadAfter version count) (nat_lt count 16) h (λ few. (is, few))))
 
 -- a head has the channels that its kind may have
-pub head_keeps : (number version count : ℕ) (line : LineText) (head : Head) → at_line number (head_after version count line) ≡ Ok head → IsTrue (has_channels head.kind head.channels)
+pub head_keeps : (number version count : ℕ) (line : LineText) (head : Head) → at_line number (head_after version count line) ≡ Ok head → IsTrue (has_channels head.version head.kind head.channels)
 unfolding IsHeadAfter
 head_keeps number version count line head e = (ok_keeps (IsHeadAfter version count) (at_line number (head_after version count line)) head e (head_after_keeps number version count line)).0.0
 

@@ -7,7 +7,7 @@ use Rattle.cm_base.specs.Reading.{◌>>=◌, at_line}
 use Rattle.cm_base.specs.Words.{limited, number_in, or_fault, two_words}
 use Rattle.cm_base.specs.declared.faults.Fault.{Fault}
 use Rattle.cm_base.specs.declared.faults.Fault.TheVariants.{BadNumber}
-use Rattle.cm_board.specs.Board.{has_channels}
+use Rattle.cm_board.specs.Board.{has_channels, most_in}
 use Rattle.cm_board.specs.declared.board.Kind.{Kind}
 use Rattle.cm_board.specs.declared.board.Kind.TheVariants as kinds
 use Rattle.cm_board.specs.declared.table.Head.{Head}
@@ -42,28 +42,28 @@ ok_keeps {E = E} {X = X} P read x e h = let Q : Result X E → Type 0 = λ r. If
 
 -- the head of a block
 
-number_ok : (least most : ℕ) (w : List ℕ) → IfOk (number_in least most w) (λ n. IsTrue (nat_le least n && nat_le n most))
+pub number_ok : (least most : ℕ) (w : List ℕ) → IfOk (number_in least most w) (λ n. IsTrue (nat_le least n && nat_le n most))
 number_ok least most w =
     then_ok Any (λ n. IsTrue (nat_le least n && nat_le n most)) (or_fault BadNumber (number_of w)) _ (any_ok _)
     (λ n any. limited_ok (λ n. IsTrue (nat_le least n && nat_le n most)) (nat_le least n && nat_le n most) n (λ h. h))
 
-channels_ok : (kind : Kind) (w : List ℕ) → IfOk (channels_word kind w) (λ n. IsTrue (has_channels kind n))
-channels_ok kinds.Unused w = weaker (λ n. IsTrue (nat_le 0 n && nat_le n 0)) (λ n. IsTrue (n == 0)) zero_only (number_in 0 0 w) (number_ok 0 0 w)
+channels_ok : (version : ℕ) (kind : Kind) (w : List ℕ) → IfOk (channels_word version kind w) (λ n. IsTrue (has_channels version kind n))
+channels_ok version kinds.Unused w = weaker (λ n. IsTrue (nat_le 0 n && nat_le n 0)) (λ n. IsTrue (n == 0)) zero_only (number_in 0 0 w) (number_ok 0 0 w)
   where
     zero_only : (n : ℕ) → IsTrue (nat_le 0 n && nat_le n 0) → IsTrue (n == 0)
     zero_only n h = grind (arith, nat_tests)
-channels_ok kinds.Ai w = number_ok 1 64 w
-channels_ok kinds.Ao w = number_ok 1 64 w
-channels_ok kinds.Di w = number_ok 1 64 w
-channels_ok kinds.Do w = number_ok 1 64 w
-channels_ok kinds.Dio w = number_ok 1 64 w
+channels_ok version kinds.Ai w = number_ok 1 (most_in version 64 256) w
+channels_ok version kinds.Ao w = number_ok 1 (most_in version 64 256) w
+channels_ok version kinds.Di w = number_ok 1 (most_in version 64 256) w
+channels_ok version kinds.Do w = number_ok 1 (most_in version 64 256) w
+channels_ok version kinds.Dio w = number_ok 1 (most_in version 64 256) w
 
 -- a head is of its version, and its channels are as many as its kind may have
 abbrev pub IsHead : ℕ → Head → Type 0
-IsHead version head = IsTrue (has_channels head.kind head.channels) × (head.version ≡ version)
+IsHead version head = IsTrue (has_channels head.version head.kind head.channels) × (head.version ≡ version)
 
 pub head_may : (version : ℕ) (words : List (List ℕ)) → IfOk (head_words version words) (IsHead version)
 head_may version words =
     then_ok Any (IsHead version) (two_words words) _ (any_ok _) (λ w any.
     then_ok Any (IsHead version) (kind_word w.0) _ (any_ok _) (λ k any.
-    then_ok (λ n. IsTrue (has_channels k n)) (IsHead version) (channels_word k w.1) _ (channels_ok k w.1) (λ n h. (h, refl))))
+    then_ok (λ n. IsTrue (has_channels version k n)) (IsHead version) (channels_word version k w.1) _ (channels_ok version k w.1) (λ n h. (h, refl))))

@@ -9,6 +9,7 @@ use Rattle.cm_base.proofs.Bools.{and_true, both, neither}
 use Rattle.cm_board.specs.Items.{ItemText}
 use Rattle.cm_board.specs.Kept.{IsWhole, is_few, is_good, slots}
 use Rattle.cm_board_text.specs.IsTable.{is_table}
+use Rattle.cm_board_text.specs.Reading.{most_of}
 use Rattle.cm_board.specs.Table.{TableText, is_command, laid, may_stand, needs, row_at}
 use Rattle.cm_board.specs.declared.table.Row.{Row}
 use Rattle.cm_board.specs.Slots.{Slot, default_of, filled, has_default, is_empty, is_used, lacks, lacks_line, of_row, slots_from, takes, whole}
@@ -160,10 +161,11 @@ whole_again head t (s ∷ ss) = ap₂ (λ (x y : List ItemText). x ++ y) (filled
 
 -- no row has too many lines
 
-few_same : (head : Head) (t : Bool) (s : Slot) → length (default_of s.at s.row.absent) ≤ s.row.most → is_few s ≡ true → is_few (fill head t s) ≡ true
+few_same : (head : Head) (t : Bool) (s : Slot) → length (default_of s.at s.row.absent) ≤ most_of head.version s.row → is_few head.version s ≡ true →
+    is_few head.version (fill head t s) ≡ true
 few_same head t s some h = by (is_empty s.items) (has_default head t s.row)
   where
-    by : (e d : Bool) → nat_le (length (cond e (cond d (default_of s.at s.row.absent) []) s.items)) s.row.most ≡ true
+    by : (e d : Bool) → nat_le (length (cond e (cond d (default_of s.at s.row.absent) []) s.items)) (most_of head.version s.row) ≡ true
     by true true = le-leb _ _ some
     by true false = le-leb _ _ (omega arith)
     by false d = h
@@ -181,13 +183,13 @@ unfolding AllSuit
 later_suit table n row rows s = λ k below. subst (λ (m : ℕ). Suits table m (row_at k rows)) (omega arith) (s (suc k) (omega arith))
 
 few_filled : (head : Head) (t : Bool) (table : TableText) (n : ℕ) (rows : List Row) (items : List ItemText) → AllSuit table n rows →
-    list_all is_few (slots_from n rows items) ≡ true →
-    list_all is_few (map (fill head t) (slots_from n rows items)) ≡ true
+    list_all (is_few head.version) (slots_from n rows items) ≡ true →
+    list_all (is_few head.version) (map (fill head t) (slots_from n rows items)) ≡ true
 few_filled head t table n [] items s h = refl
 few_filled head t table n (row ∷ rows) items s h =
     let slot : Slot = record { at = n; row = row; items = of_row n items } in
-    let b = both (is_few slot) (list_all is_few (slots_from (n + 1) rows items)) h in
-    and_true _ _ (few_same head t slot (first_suits table n row rows s).few b.0) (few_filled head t table (n + 1) rows items (later_suit table n row rows s) b.1)
+    let b = both (is_few head.version slot) (list_all (is_few head.version) (slots_from (n + 1) rows items)) h in
+    and_true _ _ (few_same head t slot ((first_suits table n row rows s).few head.version) b.0) (few_filled head t table (n + 1) rows items (later_suit table n row rows s) b.1)
 
 -- each line may stand in its block
 
@@ -217,7 +219,7 @@ all_suit table channels check =
 
 -- what a block says at its end is whole
 pub is_whole : (table : TableText) (head : Head) (items : List ItemText) → is_table table ≡ true → list_all (is_good table head) items ≡ true →
-    list_all is_few (slots table head items) ≡ true → lacks head (takes (slots table head items)) (slots table head items) ≡ false →
+    list_all (is_few head.version) (slots table head items) ≡ true → lacks head (takes (slots table head items)) (slots table head items) ≡ false →
     IsWhole table head (whole head (takes (slots table head items)) (slots table head items))
 is_whole table head items check good few full =
     let rows : List Row = laid head.channels table.rows in
@@ -228,7 +230,7 @@ is_whole table head items check good few full =
     let suit = all_suit table head.channels check in
     record {
       good = whole_good table head t 0 rows items suit good;
-      few = ap (list_all is_few) back ∙ few_filled head t table 0 rows items suit few;
+      few = ap (list_all (is_few head.version)) back ∙ few_filled head t table 0 rows items suit few;
       full = ap₂ (λ (b : Bool) (xs : List Slot). lacks head b xs) same back ∙ lacks_filled head t ss full;
       same = ap₂ (λ (b : Bool) (xs : List Slot). whole head b xs) same back ∙ whole_again head t ss;
     }

@@ -1,5 +1,5 @@
 -- What is read of a block is whole.
-use Rattle.std.proofs.Common.{◌≡◌, ℕ, zero, suc, ◌+◌, ◌<◌, ◌≤◌, Bool, true, false, cond, ◌&&◌, List, [], ◌∷◌, ◌++◌, length, Option, Some, None, option_to_list, Result, Ok, Err, refl, sym, ap, ◌∙◌, subst, nat_lt, ◌==◌, arith, append_assoc, append-nil, length-append, bit_and, ◌-◌}
+use Rattle.std.proofs.Common.{◌≡◌, ℕ, suc, ◌+◌, ◌<◌, ◌≤◌, Bool, true, false, cond, ◌&&◌, List, [], ◌∷◌, ◌++◌, length, Option, Some, None, option_to_list, Result, Ok, Err, refl, sym, ap, ◌∙◌, subst, nat_lt, ◌==◌, arith, append_assoc, append-nil, length-append, bit_and, ◌-◌}
 use Rattle.std.specs.Result.{IfOk}
 use Rattle.std.specs.List.{list_all, list_any}
 use Rattle.std.specs.Str.{bytes_eq}
@@ -19,11 +19,14 @@ use Rattle.cm_base.proofs.Bools.{and_true, both}
 use Rattle.cm_board.specs.Items.{ItemText}
 use Rattle.cm_board.specs.Kept.{IsWhole, are_kept, is_among, is_good, is_kept, is_source, is_within, keeps, set_in, slots}
 use Rattle.cm_board.specs.Rules.{keeps_rule}
+use Rattle.cm_board.specs.Times.{are_divisors}
+use Rattle.cm_board.specs.Versions.{most_in}
+use Rattle.cm_board_text.specs.DivisorsText.{divisors_word}
 use Rattle.cm_board_text.specs.FoundView.{found_text}
-use Rattle.cm_board_text.specs.Reading.{Found, admitted, begins_form, completed, form_of, form_of_words, found_from, is_begun, is_form, item_after, items_said, place_from, read_word, values_after}
+use Rattle.cm_board_text.specs.Reading.{Found, admitted, begins_form, completed, form_of, form_of_words, found_from, is_begun, is_form, item_after, items_said, most_of, place_from, read_word, values_after}
 use Rattle.cm_board_text.specs.IsTable.{all_apart, are_rows, is_listed, is_table}
 use Rattle.cm_board_text.specs.Kept.{AreItems}
-use Rattle.cm_board.specs.Table.{FormText, TableText, WordText, Fixed, Number, Signed, Sources, Source, Name, Channel, form_at, laid, may_stand, place_of, row_at, table_text, word_text}
+use Rattle.cm_board.specs.Table.{FormText, TableText, WordText, Fixed, Number, Signed, Sources, Source, Name, Channel, Divisors, form_at, laid, may_stand, place_of, row_at, table_text, word_text}
 use Rattle.cm_board.specs.Slots.{lacks, of_row, takes, whole}
 use Rattle.cm_board.specs.declared.table.Form.{Form}
 use Rattle.cm_board.specs.declared.table.Head.{Head}
@@ -31,8 +34,9 @@ use Rattle.cm_board.specs.declared.table.Limits.{Limits}
 use Rattle.cm_board.specs.declared.table.Row.{Row}
 use Rattle.cm_board.specs.declared.table.Table.{Table}
 use Rattle.cm_board.specs.declared.table.Value.{Value}
+use Rattle.cm_board_text.proofs.DivisorsSaid.{divisors_ok}
 use Rattle.cm_board_text.proofs.Filled.{is_whole}
-use Rattle.cm_board_text.proofs.Laid.{IsPlaced, placed}
+use Rattle.cm_board_text.proofs.Laid.{IsPlaced, listed_at, placed}
 use Rattle.cm_board_text.proofs.OfRow.{few_all, own}
 use Rattle.cm_board_text.proofs.WordsBack.{is_fixed}
 
@@ -140,8 +144,9 @@ tested test x = by (test x) refl
     by true e = e
     by false e = tt
 
-number_ok : (l : Limits) (w : List ℕ) → IfOk (number_in l.least l.most w) (λ n. is_within l n ≡ true)
-number_ok l w = then_ok (λ n. Unit {0}) (λ n. is_within l n ≡ true) (or_fault faults.BadNumber (number_of w)) _ (any _) (λ n u. tested (is_within l) n)
+number_ok : (version : ℕ) (l : Limits) (w : List ℕ) → IfOk (number_in l.least (most_in version l.most l.wide) w) (λ n. is_within version l n ≡ true)
+number_ok version l w =
+    then_ok (λ n. Unit {0}) (λ n. is_within version l n ≡ true) (or_fault faults.BadNumber (number_of w)) _ (any _) (λ n u. tested (is_within version l) n)
 
 signed_ok : (w : List ℕ) → IfOk (signed_number w) (λ z. is_int z ≡ true)
 signed_ok w = then_ok (λ z. Unit {0}) (λ z. is_int z ≡ true) (or_fault faults.BadNumber (signed_of w)) _ (any _) (λ z u. tested is_int z)
@@ -178,7 +183,8 @@ place_ok n w (name ∷ names) = by (bytes_eq w name) (place_from (n + 1) w names
 word_ok : (head : Head) (kind : WordText) (w : List ℕ) → IfOk (read_word head kind w) (SaidBy head kind)
 unfolding SaidBy
 word_ok head (Fixed key) w = refl
-word_ok head (Number l) w = then_ok (λ n. is_within l n ≡ true) (SaidBy head (Number l)) (number_in l.least l.most w) _ (number_ok l w) (λ n h. h)
+word_ok head (Number l) w =
+    then_ok (λ n. is_within head.version l n ≡ true) (SaidBy head (Number l)) (number_in l.least (most_in head.version l.most l.wide) w) _ (number_ok head.version l w) (λ n h. h)
 word_ok head Signed w = then_ok (λ z. is_int z ≡ true) (SaidBy head Signed) (signed_number w) _ (signed_ok w) (λ z h. h)
 word_ok head (Sources sets) w =
     then_ok (λ n. is_among (set_in head.version sets) n ≡ true) (SaidBy head (Sources sets)) (sources_in (set_in head.version sets) w) _ (sources_ok (set_in head.version sets) w) (λ n h. h)
@@ -187,6 +193,7 @@ word_ok head (Name names) w =
     then_ok (λ m. m < 0 + length names) (SaidBy head (Name names)) (or_fault faults.Unknown (place_from 0 w names)) _ (place_ok 0 w names) (λ m h. lt-ltb m (length names) (omega (arith, h)))
 word_ok head Channel w =
     then_ok (λ n. nat_lt n head.channels ≡ true) (SaidBy head Channel) (number_below head.channels w) _ (channel_ok head.channels w) (λ n h. h)
+word_ok head Divisors w = then_ok (λ d. are_divisors d ≡ true) (SaidBy head Divisors) (divisors_word w) _ (divisors_ok w) (λ d h. h)
 
 -- values that are read are ones that their words may say
 record AreRead (head : Head) (before : List Value) (kinds : List WordText) (values : List Value) : Type 0 where
@@ -208,6 +215,7 @@ fixed_kept head (Sources sets) kinds more h k = cc
 fixed_kept head Source kinds more h k = cc
 fixed_kept head (Name names) kinds more h k = cc
 fixed_kept head Channel kinds more h k = cc
+fixed_kept head Divisors kinds more h k = cc
 
 read_more : (head : Head) (kind : WordText) (kinds : List WordText) (before : List Value) (o : Option Value) (read : Result (List Value) Fault) →
     SaidBy head kind o → IfOk read (AreRead head (before ++ option_to_list o) kinds) → IfOk read (AreRead head before (kind ∷ kinds))
@@ -231,19 +239,13 @@ values_ok head before (kind ∷ kinds) (w ∷ ws) e =
 record IsItem (t : TableText) (head : Head) (before : List ItemText) (item : ItemText) : Type 0 where
   pub good : is_good t head item ≡ true
   pub below : item.row < length (laid head.channels t.rows)
-  pub room : length (of_row item.row before) < (row_at item.row (laid head.channels t.rows)).most
-
--- the forms of a table
-listed_at : (t : TableText) (n : ℕ) (forms : List FormText) → list_all (is_listed t) forms ≡ true → n < length forms → is_listed t (form_at n forms) ≡ true
-listed_at t n [] h below = absurd (omega arith)
-listed_at t zero (form ∷ forms) h below = (both (is_listed t form) (list_all (is_listed t) forms) h).0
-listed_at t (suc n) (form ∷ forms) h below = listed_at t n forms (both (is_listed t form) (list_all (is_listed t) forms) h).1 (omega arith)
+  pub room : length (of_row item.row before) < most_of head.version (row_at item.row (laid head.channels t.rows))
 
 admit_ok : (t : TableText) (head : Head) (before : List ItemText) (ws : List (List ℕ)) (f : Found) (values : List Value) → is_table t ≡ true →
     IsLine t head ws f → are_kept head f.form.words values ≡ true →
-    IfOk (admitted t.rows before f values) (IsItem t head before)
+    IfOk (admitted head t.rows before f values) (IsItem t head before)
 admit_ok t head before ws f values check i w =
-    by (nat_lt (length (of_row (place_of t.rows f.form values) before)) (row_at f.form.row t.rows).most) (keeps_rule f.form.rule values) refl refl
+    by (nat_lt (length (of_row (place_of t.rows f.form values) before)) (most_of head.version (row_at f.form.row t.rows))) (keeps_rule f.form.rule values) refl refl
   where
     forms : list_all (is_listed t) t.forms ≡ true
     forms =
@@ -255,18 +257,18 @@ admit_ok t head before ws f values check i w =
     known : place_of t.rows (form_at f.at t.forms) values ≡ place_of t.rows f.form values
     known = ap (λ (g : FormText). place_of t.rows g values) i.form
 
-    by : (a b : Bool) → nat_lt (length (of_row (place_of t.rows f.form values) before)) (row_at f.form.row t.rows).most ≡ a →
+    by : (a b : Bool) → nat_lt (length (of_row (place_of t.rows f.form values) before)) (most_of head.version (row_at f.form.row t.rows)) ≡ a →
         keeps_rule f.form.rule values ≡ b →
-        IfOk (cond a (cond b (Ok (record { row = place_of t.rows f.form values; form = f.at; values = values })) (Err faults.Bad)) (Err (cond ((row_at f.form.row t.rows).most == 1) faults.Double faults.Limit))) (IsItem t head before)
+        IfOk (cond a (cond b (Ok (record { row = place_of t.rows f.form values; form = f.at; values = values })) (Err faults.Bad)) (Err (cond (most_of head.version (row_at f.form.row t.rows) == 1) faults.Double faults.Limit))) (IsItem t head before)
     by true true r k =
-        let room : length (of_row (place_of t.rows f.form values) before) < (row_at f.form.row t.rows).most = ltb-true _ _ r in
+        let room : length (of_row (place_of t.rows f.form values) before) < most_of head.version (row_at f.form.row t.rows) = ltb-true _ _ r in
         record {
           good = and_true _ _
               (and_true _ _ (and_true _ _ (lt-ltb f.at (length t.forms) i.below) (eq-eqb (place_of t.rows (form_at f.at t.forms) values) (place_of t.rows f.form values) known))
               (ap (λ (g : FormText). may_stand head (row_at g.row t.rows)) i.form ∙ i.stands))
               (ap (λ (g : FormText). keeps head g values) i.form ∙ and_true _ _ w k);
           below = at.below;
-          room = subst (λ (r : Row). length (of_row (place_of t.rows f.form values) before) < r.most) (sym at.row) room;
+          room = subst (λ (r : Row). length (of_row (place_of t.rows f.form values) before) < most_of head.version r) (sym at.row) room;
         }
     by true false r k = tt
     by false b r k = tt
@@ -281,7 +283,7 @@ item_ok t head before line check =
 -- lines that are read may stand in their block, and none is one too many
 record AreRight (t : TableText) (head : Head) (items : List ItemText) : Type 0 where
   pub good : list_all (is_good t head) items ≡ true
-  pub few : (k : ℕ) → k < length (laid head.channels t.rows) → length (of_row k items) ≤ (row_at k (laid head.channels t.rows)).most
+  pub few : (k : ℕ) → k < length (laid head.channels t.rows) → length (of_row k items) ≤ most_of head.version (row_at k (laid head.channels t.rows))
 
 item_more : (t : TableText) (head : Head) (before : List ItemText) (item : ItemText) → AreRight t head before → IsItem t head before item →
     AreRight t head (before ++ item ∷ [])
@@ -293,11 +295,11 @@ item_more t head before item a i = record {
     parts : (k : ℕ) → length (of_row k (before ++ item ∷ [])) ≡ length (of_row k before) + length (of_row k (item ∷ []))
     parts k = ap length (filter-append (own k) before (item ∷ [])) ∙ length-append (of_row k before) (of_row k (item ∷ []))
 
-    by : (k : ℕ) (b : Bool) → (item.row == k) ≡ b → length (of_row k before) ≤ (row_at k (laid head.channels t.rows)).most →
-        length (of_row k (before ++ item ∷ [])) ≤ (row_at k (laid head.channels t.rows)).most
+    by : (k : ℕ) (b : Bool) → (item.row == k) ≡ b → length (of_row k before) ≤ most_of head.version (row_at k (laid head.channels t.rows)) →
+        length (of_row k (before ++ item ∷ [])) ≤ most_of head.version (row_at k (laid head.channels t.rows))
     by k true e h =
         let same : item.row ≡ k = eqb-true item.row k e in
-        let room : length (of_row k before) < (row_at k (laid head.channels t.rows)).most = subst (λ (m : ℕ). length (of_row m before) < (row_at m (laid head.channels t.rows)).most) same i.room in
+        let room : length (of_row k before) < most_of head.version (row_at k (laid head.channels t.rows)) = subst (λ (m : ℕ). length (of_row m before) < most_of head.version (row_at m (laid head.channels t.rows))) same i.room in
         let one : length (of_row k (item ∷ [])) ≡ 1 = ap (λ b. length (cond b (item ∷ []) [])) e in
         omega (arith, parts k, one, room)
     by k false e h =
@@ -320,9 +322,9 @@ none_yet : (t : TableText) (head : Head) → AreRight t head []
 none_yet t head = record { good = refl; few = λ k below. omega arith }
 
 right_items : (t : TableText) (head : Head) (items : List ItemText) → AreRight t head items → AreItems t head items
-right_items t head items a = record { good = a.good; few = few_all 0 (laid head.channels t.rows) items few }
+right_items t head items a = record { good = a.good; few = few_all head.version 0 (laid head.channels t.rows) items few }
   where
-    few : (k : ℕ) → k < length (laid head.channels t.rows) → length (of_row (0 + k) items) ≤ (row_at k (laid head.channels t.rows)).most
+    few : (k : ℕ) → k < length (laid head.channels t.rows) → length (of_row (0 + k) items) ≤ most_of head.version (row_at k (laid head.channels t.rows))
     few k below =
         let h = a.few k below in
         let same : length (of_row (0 + k) items) ≡ length (of_row k items) = ap (λ (m : ℕ). length (of_row m items)) (omega arith) in

@@ -9,13 +9,15 @@ use Rattle.cm_base.proofs.Bools.{and_true, both}
 use Rattle.cm_board.specs.Kept.{are_kept, is_good, is_kept, keeps}
 use Rattle.cm_board.specs.Rules.{keeps_rule}
 use Rattle.cm_board.specs.Slots.{default_of}
-use Rattle.cm_board.specs.Table.{FormText, TableText, WordText, Fixed, Number, Signed, Sources, Source, Name, Channel, channel_of, channel_row, form_at, laid, may_stand, no_row, own_row, place_of, row_at}
+use Rattle.cm_board.specs.Table.{FormText, TableText, WordText, Fixed, Number, Signed, Sources, Source, Name, Channel, Divisors, channel_of, channel_row, form_at, laid, may_stand, no_row, own_row, place_of, row_at}
 use Rattle.cm_board.specs.declared.table.Absent.{Absent}
 use Rattle.cm_board.specs.declared.table.Absent.TheVariants as absents
 use Rattle.cm_board.specs.declared.table.Head.{Head}
 use Rattle.cm_board.specs.declared.table.Row.{Row}
 use Rattle.cm_board.specs.declared.table.Value.{Value}
 use Rattle.cm_board.specs.declared.table.Value.TheVariants as values_of
+use Rattle.cm_board_text.proofs.MostIn.{least_most, within}
+use Rattle.cm_board_text.specs.Reading.{most_of}
 use Rattle.cm_board_text.specs.IsTable.{all_apart, are_rows, has_form, is_constant, is_headed, is_listed, is_nothing, is_of_channel, is_proper, is_table, keeps_default, some_head}
 
 -- rows by their places in lists that are put together
@@ -113,6 +115,7 @@ channel_below head (Fixed key ∷ kinds) vs c h = channel_below head kinds vs c 
 channel_below head (Channel ∷ kinds) (values_of.Number n ∷ vs) c h = ltb-true n head.channels (both (nat_lt n head.channels) (are_kept head kinds vs) h).0
 channel_below head (Channel ∷ kinds) (values_of.Signed z ∷ vs) c h = cc
 channel_below head (Channel ∷ kinds) (values_of.Name n ∷ vs) c h = cc
+channel_below head (Channel ∷ kinds) (values_of.Divisors d ∷ vs) c h = cc
 channel_below head (Channel ∷ kinds) [] c h = cc
 channel_below head (kind ∷ kinds) vs c h = cc
 
@@ -159,41 +162,64 @@ placed t head form vs l h = by (row_at form.row t.rows).of_channel refl (both _ 
         }
 
 -- what words that are the same in each block say
-constant : (head : Head) (kind : WordText) (v : Value) → is_constant kind ≡ true → is_kept some_head kind v ≡ true → is_kept head kind v ≡ true
-constant head (Fixed key) v c h = cc
-constant head (Number l) (values_of.Number n) c h = h
-constant head (Number l) (values_of.Signed z) c h = cc
-constant head (Number l) (values_of.Name n) c h = cc
-constant head Signed (values_of.Signed z) c h = h
-constant head Signed (values_of.Number n) c h = cc
-constant head Signed (values_of.Name n) c h = cc
-constant head (Sources sets) v c h = cc
-constant head Source (values_of.Number n) c h = h
-constant head Source (values_of.Signed z) c h = cc
-constant head Source (values_of.Name n) c h = cc
-constant head (Name names) (values_of.Name n) c h = h
-constant head (Name names) (values_of.Number n) c h = cc
-constant head (Name names) (values_of.Signed z) c h = cc
-constant head Channel v c h = cc
+constant : (head : Head) (kind : WordText) (v : Value) → is_proper kind ≡ true → is_constant kind ≡ true → is_kept some_head kind v ≡ true →
+    is_kept head kind v ≡ true
+constant head (Fixed key) v p c h = cc
+constant head (Number l) (values_of.Number n) p c h = within head.version l n (both (nat_le l.most l.wide) (nat_lt l.wide 4294967296) p).0 h
+constant head (Number l) (values_of.Signed z) p c h = cc
+constant head (Number l) (values_of.Name n) p c h = cc
+constant head (Number l) (values_of.Divisors d) p c h = cc
+constant head Signed (values_of.Signed z) p c h = h
+constant head Signed (values_of.Number n) p c h = cc
+constant head Signed (values_of.Name n) p c h = cc
+constant head Signed (values_of.Divisors d) p c h = cc
+constant head (Sources sets) v p c h = cc
+constant head Source (values_of.Number n) p c h = h
+constant head Source (values_of.Signed z) p c h = cc
+constant head Source (values_of.Name n) p c h = cc
+constant head Source (values_of.Divisors d) p c h = cc
+constant head (Name names) (values_of.Name n) p c h = h
+constant head (Name names) (values_of.Number n) p c h = cc
+constant head (Name names) (values_of.Signed z) p c h = cc
+constant head (Name names) (values_of.Divisors d) p c h = cc
+constant head Channel v p c h = cc
+constant head Divisors (values_of.Divisors d) p c h = h
+constant head Divisors (values_of.Number n) p c h = cc
+constant head Divisors (values_of.Signed z) p c h = cc
+constant head Divisors (values_of.Name n) p c h = cc
 
-constants : (head : Head) (kinds : List WordText) (vs : List Value) → list_all is_constant kinds ≡ true → are_kept some_head kinds vs ≡ true →
-    are_kept head kinds vs ≡ true
-constants head [] [] c h = refl
-constants head [] (v ∷ vs) c h = cc
-constants head (Fixed key ∷ kinds) vs c h = constants head kinds vs c h
-constants head (kind ∷ kinds) [] c h = cc
-constants head (kind ∷ kinds) (v ∷ vs) c h =
+constants : (head : Head) (kinds : List WordText) (vs : List Value) → list_all is_proper kinds ≡ true → list_all is_constant kinds ≡ true →
+    are_kept some_head kinds vs ≡ true → are_kept head kinds vs ≡ true
+constants head [] [] p c h = refl
+constants head [] (v ∷ vs) p c h = cc
+constants head (Fixed key ∷ kinds) vs p c h =
+    constants head kinds vs (both (is_proper (Fixed key)) (list_all is_proper kinds) p).1 c h
+constants head (kind ∷ kinds) [] p c h = cc
+constants head (kind ∷ kinds) (v ∷ vs) p c h =
+    let q = both (is_proper kind) (list_all is_proper kinds) p in
     let a = both (is_constant kind) (list_all is_constant kinds) c in
     let b = both (is_kept some_head kind v) (are_kept some_head kinds vs) h in
-    and_true _ _ (constant head kind v a.0 b.0) (constants head kinds vs a.1 b.1)
+    and_true _ _ (constant head kind v q.0 a.0 b.0) (constants head kinds vs q.1 a.1 b.1)
+
+-- the forms of a table
+pub listed_at : (t : TableText) (n : ℕ) (forms : List FormText) → list_all (is_listed t) forms ≡ true → n < length forms → is_listed t (form_at n forms) ≡ true
+listed_at t n [] h below = absurd (omega arith)
+listed_at t zero (form ∷ forms) h below = (both (is_listed t form) (list_all (is_listed t) forms) h).0
+listed_at t (suc n) (form ∷ forms) h below = listed_at t n forms (both (is_listed t form) (list_all (is_listed t) forms) h).1 (omega arith)
+
+-- the words of a form that is one of the table
+listed_words : (t : TableText) (form : FormText) → is_listed t form ≡ true → list_all is_proper form.words ≡ true
+listed_words t form h =
+    let a = both (nat_lt form.row (length t.rows) && is_headed form.words && list_all is_proper form.words) (not (row_at form.row t.rows).of_channel || is_of_channel form.words) h in
+    (both (nat_lt form.row (length t.rows) && is_headed form.words) (list_all is_proper form.words) a.0).1
 
 -- what holds without a line of a row may stand in each block, and is one line only where there may be one
 pub record Suits (t : TableText) (n : ℕ) (row : Row) : Type 0 where
-  pub few : length (default_of n row.absent) ≤ row.most
+  pub few : (version : ℕ) → length (default_of n row.absent) ≤ most_of version row
   pub good : (head : Head) → may_stand head row ≡ true → list_all (is_good t head) (default_of n row.absent) ≡ true
 
 none_suits : (t : TableText) (n : ℕ) → Suits t n no_row
-none_suits t n = record { few = omega arith; good = λ head h. refl }
+none_suits t n = record { few = λ version. omega arith; good = λ head h. refl }
 
 nothing_suits : (t : TableText) (n : ℕ) (row : Row) (a : Absent) → is_nothing a ≡ true → default_of n a ≡ []
 nothing_suits t n row absents.Nothing h = refl
@@ -206,11 +232,11 @@ quiet_suits : (t : TableText) (n : ℕ) (row : Row) → is_nothing row.absent �
 quiet_suits t n row h =
     let none = nothing_suits t n row row.absent h in
     let few : length (default_of n row.absent) ≡ 0 = ap length none in
-    record { few = omega (arith, few); good = λ head m. ap (list_all (is_good t head)) none }
+    record { few = λ version. omega (arith, few); good = λ head m. ap (list_all (is_good t head)) none }
 
 good_form : (t : TableText) (head : Head) (n : ℕ) (row : Row) (form : ℕ) (vs : List Value) → row_at n t.rows ≡ row → row.of_channel ≡ false →
-    may_stand head row ≡ true → has_form t n form vs ≡ true → is_good t head (record { row = n; form = form; values = vs }) ≡ true
-good_form t head n row form vs at own m h =
+    may_stand head row ≡ true → list_all (is_listed t) t.forms ≡ true → has_form t n form vs ≡ true → is_good t head (record { row = n; form = form; values = vs }) ≡ true
+good_form t head n row form vs at own m listed h =
     let f : FormText = form_at form t.forms in
     let h1 = both (nat_lt form (length t.forms) && f.row == n && list_all is_constant f.words) (keeps some_head f vs) h in
     let h2 = both (nat_lt form (length t.forms) && f.row == n) (list_all is_constant f.words) h1.0 in
@@ -219,13 +245,13 @@ good_form t head n row form vs at own m h =
     let e : f.row ≡ n = eqb-true f.row n h3.1 in
     let here : row_at f.row t.rows ≡ row = ap (λ (m : ℕ). row_at m t.rows) e ∙ at in
     let place : place_of t.rows f vs ≡ n = ap (λ x. cond x ((channel_of vs + 1) * length t.rows + f.row) f.row) (ap (λ (r : Row). r.of_channel) here ∙ own) ∙ e in
-    and_true _ _ (and_true _ _ (and_true _ _ h3.0 (eq-eqb (place_of t.rows f vs) n place)) (ap (may_stand head) here ∙ m)) (and_true _ _ (constants head f.words vs h2.1 k.0) k.1)
+    and_true _ _ (and_true _ _ (and_true _ _ h3.0 (eq-eqb (place_of t.rows f vs) n place)) (ap (may_stand head) here ∙ m)) (and_true _ _ (constants head f.words vs (listed_words t f (listed_at t form t.forms listed (ltb-true form (length t.forms) h3.0))) h2.1 k.0) k.1)
 
 good_default : (t : TableText) (head : Head) (n : ℕ) (row : Row) (a : Absent) → row_at n t.rows ≡ row → row.of_channel ≡ false → may_stand head row ≡ true →
-    keeps_default t n a ≡ true → list_all (is_good t head) (default_of n a) ≡ true
-good_default t head n row (absents.Stands form) at own m h = and_true _ true (good_form t head n row form [] at own m h) refl
-good_default t head n row (absents.Says form k) at own m h = and_true _ true (good_form t head n row form (values_of.Number k ∷ []) at own m h) refl
-good_default t head n row other at own m h = refl
+    list_all (is_listed t) t.forms ≡ true → keeps_default t n a ≡ true → list_all (is_good t head) (default_of n a) ≡ true
+good_default t head n row (absents.Stands form) at own m listed h = and_true _ true (good_form t head n row form [] at own m listed h) refl
+good_default t head n row (absents.Says form k) at own m listed h = and_true _ true (good_form t head n row form (values_of.Number k ∷ []) at own m listed h) refl
+good_default t head n row other at own m listed h = refl
 
 default_few : (n : ℕ) (a : Absent) → length (default_of n a) ≤ 1
 default_few n (absents.Stands form) = omega arith
@@ -233,32 +259,35 @@ default_few n (absents.Says form k) = omega arith
 default_few n other = omega arith
 
 own_suits : (t : TableText) (n : ℕ) (row : Row) → row_at n t.rows ≡ row → cond row.of_channel (is_nothing row.absent) (keeps_default t n row.absent) ≡ true →
-    nat_le 1 row.most ≡ true → Suits t n (own_row row)
-own_suits t n row at h some = by row.of_channel refl h
+    nat_le 1 row.most ≡ true → nat_le row.most row.wide ≡ true → list_all (is_listed t) t.forms ≡ true → Suits t n (own_row row)
+own_suits t n row at h some more listed = by row.of_channel refl h
   where
     by : (b : Bool) → row.of_channel ≡ b → cond b (is_nothing row.absent) (keeps_default t n row.absent) ≡ true → Suits t n (cond b no_row row)
     by true e k = none_suits t n
     by false e k = record {
-      few = omega (arith, default_few n row.absent, leb-true 1 row.most some);
-      good = λ head m. good_default t head n row row.absent at e m k;
+      few = λ version. least_most version (length (default_of n row.absent)) row.most row.wide
+          (omega (arith, default_few n row.absent, leb-true 1 row.most some)) (leb-true row.most row.wide more);
+      good = λ head m. good_default t head n row row.absent at e m listed k;
     }
 
 -- the rows of a table
 record IsRow (t : TableText) (n : ℕ) (row : Row) : Type 0 where
   pub absent : cond row.of_channel (is_nothing row.absent) (keeps_default t n row.absent) ≡ true
   pub some : nat_le 1 row.most ≡ true
+  pub more : nat_le row.most row.wide ≡ true
 
 is_row : (t : TableText) (n k : ℕ) (rows : List Row) → are_rows t n rows ≡ true → k < length rows → IsRow t (n + k) (row_at k rows)
 is_row t n k [] h below = absurd (omega arith)
 is_row t n zero (row ∷ rows) h below =
-    let a = both (cond row.of_channel (is_nothing row.absent) (keeps_default t n row.absent) && nat_le 1 row.most) (are_rows t (n + 1) rows) h in
-    let b = both (cond row.of_channel (is_nothing row.absent) (keeps_default t n row.absent)) (nat_le 1 row.most) a.0 in
-    record { absent = ap (λ (m : ℕ). cond row.of_channel (is_nothing row.absent) (keeps_default t m row.absent)) (omega arith) ∙ b.0; some = b.1 }
+    let a = both (cond row.of_channel (is_nothing row.absent) (keeps_default t n row.absent) && nat_le 1 row.most && nat_le row.most row.wide) (are_rows t (n + 1) rows) h in
+    let m = both (cond row.of_channel (is_nothing row.absent) (keeps_default t n row.absent) && nat_le 1 row.most) (nat_le row.most row.wide) a.0 in
+    let b = both (cond row.of_channel (is_nothing row.absent) (keeps_default t n row.absent)) (nat_le 1 row.most) m.0 in
+    record { absent = ap (λ (m : ℕ). cond row.of_channel (is_nothing row.absent) (keeps_default t m row.absent)) (omega arith) ∙ b.0; some = b.1; more = m.1 }
 is_row t n (suc k) (row ∷ rows) h below =
-    let a = both (cond row.of_channel (is_nothing row.absent) (keeps_default t n row.absent) && nat_le 1 row.most) (are_rows t (n + 1) rows) h in
+    let a = both (cond row.of_channel (is_nothing row.absent) (keeps_default t n row.absent) && nat_le 1 row.most && nat_le row.most row.wide) (are_rows t (n + 1) rows) h in
     let later = is_row t (n + 1) k rows a.1 (omega arith) in
     let r : Row = row_at k rows in
-    record { absent = ap (λ (m : ℕ). cond r.of_channel (is_nothing r.absent) (keeps_default t m r.absent)) (omega arith) ∙ later.absent; some = later.some }
+    record { absent = ap (λ (m : ℕ). cond r.of_channel (is_nothing r.absent) (keeps_default t m r.absent)) (omega arith) ∙ later.absent; some = later.some; more = later.more }
 
 -- nothing holds without a line of a channel
 quiet : Row → Bool
@@ -282,8 +311,9 @@ quiet_row t n row h = by row.of_channel h
 quiet_rows : (t : TableText) (n : ℕ) (rows : List Row) → are_rows t n rows ≡ true → list_all quiet (map channel_row rows) ≡ true
 quiet_rows t n [] h = refl
 quiet_rows t n (row ∷ rows) h =
-    let a = both (cond row.of_channel (is_nothing row.absent) (keeps_default t n row.absent) && nat_le 1 row.most) (are_rows t (n + 1) rows) h in
-    let b = both (cond row.of_channel (is_nothing row.absent) (keeps_default t n row.absent)) (nat_le 1 row.most) a.0 in
+    let a = both (cond row.of_channel (is_nothing row.absent) (keeps_default t n row.absent) && nat_le 1 row.most && nat_le row.most row.wide) (are_rows t (n + 1) rows) h in
+    let m = both (cond row.of_channel (is_nothing row.absent) (keeps_default t n row.absent) && nat_le 1 row.most) (nat_le row.most row.wide) a.0 in
+    let b = both (cond row.of_channel (is_nothing row.absent) (keeps_default t n row.absent)) (nat_le 1 row.most) m.0 in
     and_true _ _ (quiet_row t n row b.0) (quiet_rows t (n + 1) rows a.1)
 
 quiet_each : (first channels : ℕ) (rows : List Row) → list_all quiet (map channel_row rows) ≡ true → list_all quiet (each first channels rows) ≡ true
@@ -304,11 +334,14 @@ laid_suits t channels n check = by (nat_lt n (length t.rows)) refl
     rows : are_rows t 0 t.rows ≡ true
     rows = (both (list_all (is_listed t) t.forms && all_apart t.forms) (are_rows t 0 t.rows) check).1
 
+    forms : list_all (is_listed t) t.forms ≡ true
+    forms = (both (list_all (is_listed t) t.forms) (all_apart t.forms) (both (list_all (is_listed t) t.forms && all_apart t.forms) (are_rows t 0 t.rows) check).0).0
+
     by : (b : Bool) → nat_lt n (length t.rows) ≡ b → Suits t n (row_at n (laid channels t.rows))
     by true e =
         let below : n < length t.rows = ltb-true n (length t.rows) e in
         let row : IsRow t n (row_at n t.rows) = subst (λ (m : ℕ). IsRow t m (row_at n t.rows)) (omega arith) (is_row t 0 n t.rows rows below) in
-        subst (Suits t n) (sym (at_own channels n t.rows below)) (own_suits t n (row_at n t.rows) refl row.absent row.some)
+        subst (Suits t n) (sym (at_own channels n t.rows below)) (own_suits t n (row_at n t.rows) refl row.absent row.some row.more forms)
     by false e =
         let over : length t.rows ≤ n = ltb-false n (length t.rows) e in
         let place : n ≡ length t.rows + (n - length t.rows) = omega arith in

@@ -5,11 +5,17 @@ pub mod BoardBack
 pub mod BoardKept
 pub mod BoardOks
 pub mod BoardPieces
+pub mod Counting
+pub mod DivisorsBack
+pub mod DivisorsSaid
 pub mod Filled
 pub mod Good
 pub mod HeadsBack
+pub mod ItemRead
 pub mod Laid
+pub mod MostIn
 pub mod OfRow
+pub mod Points
 pub mod Prefix
 pub mod Refusal
 pub mod Shapes

@@ -9,32 +9,34 @@ use Rattle.cm_board.specs.Kept.{is_few}
 use Rattle.cm_board.specs.Table.{row_at}
 use Rattle.cm_board.specs.declared.table.Row.{Row}
 use Rattle.cm_board.specs.Slots.{of_row, slots_from}
+use Rattle.cm_board_text.specs.Reading.{most_of}
 
 -- no row has too many lines
-pub few_at : (n k : ℕ) (rows : List Row) (items : List ItemText) → list_all is_few (slots_from n rows items) ≡ true → k < length rows →
-    length (of_row (n + k) items) ≤ (row_at k rows).most
-few_at n k [] items h below = absurd (omega arith)
-few_at n zero (row ∷ rows) items h below =
-    let here = leb-true (length (of_row n items)) row.most (both (nat_le (length (of_row n items)) row.most) (list_all is_few (slots_from (n + 1) rows items)) h).0 in
+pub few_at : (version n k : ℕ) (rows : List Row) (items : List ItemText) → list_all (is_few version) (slots_from n rows items) ≡ true → k < length rows →
+    length (of_row (n + k) items) ≤ most_of version (row_at k rows)
+few_at version n k [] items h below = absurd (omega arith)
+few_at version n zero (row ∷ rows) items h below =
+    let here = leb-true (length (of_row n items)) (most_of version row) (both (nat_le (length (of_row n items)) (most_of version row)) (list_all (is_few version) (slots_from (n + 1) rows items)) h).0 in
     let same : length (of_row (n + 0) items) ≡ length (of_row n items) = ap (λ (m : ℕ). length (of_row m items)) (omega arith) in
     omega (arith, here, same)
-few_at n (suc k) (row ∷ rows) items h below =
-    let later = few_at (n + 1) k rows items (both (nat_le (length (of_row n items)) row.most) (list_all is_few (slots_from (n + 1) rows items)) h).1 (omega arith) in
+few_at version n (suc k) (row ∷ rows) items h below =
+    let later = few_at version (n + 1) k rows items (both (nat_le (length (of_row n items)) (most_of version row)) (list_all (is_few version) (slots_from (n + 1) rows items)) h).1 (omega arith) in
     let same : length (of_row (n + suc k) items) ≡ length (of_row (n + 1 + k) items) = ap (λ (m : ℕ). length (of_row m items)) (omega arith) in
     omega (arith, later, same)
 
-pub few_all : (n : ℕ) (rows : List Row) (items : List ItemText) → ((k : ℕ) → k < length rows → length (of_row (n + k) items) ≤ (row_at k rows).most) →
-    list_all is_few (slots_from n rows items) ≡ true
-few_all n [] items h = refl
-few_all n (row ∷ rows) items h =
-    and_true _ _ (le-leb (length (of_row n items)) row.most (first (h 0 (omega arith))))
-    (few_all (n + 1) rows items (λ k below. next k (h (suc k) (omega arith))))
+pub few_all : (version n : ℕ) (rows : List Row) (items : List ItemText) →
+    ((k : ℕ) → k < length rows → length (of_row (n + k) items) ≤ most_of version (row_at k rows)) →
+    list_all (is_few version) (slots_from n rows items) ≡ true
+few_all version n [] items h = refl
+few_all version n (row ∷ rows) items h =
+    and_true _ _ (le-leb (length (of_row n items)) (most_of version row) (first (h 0 (omega arith))))
+    (few_all version (n + 1) rows items (λ k below. next k (h (suc k) (omega arith))))
   where
-    first : length (of_row (n + 0) items) ≤ row.most → length (of_row n items) ≤ row.most
+    first : length (of_row (n + 0) items) ≤ most_of version row → length (of_row n items) ≤ most_of version row
     first h =
         let same : length (of_row (n + 0) items) ≡ length (of_row n items) = ap (λ (m : ℕ). length (of_row m items)) (omega arith) in omega (arith, h, same)
 
-    next : (k : ℕ) → length (of_row (n + suc k) items) ≤ (row_at k rows).most → length (of_row (n + 1 + k) items) ≤ (row_at k rows).most
+    next : (k : ℕ) → length (of_row (n + suc k) items) ≤ most_of version (row_at k rows) → length (of_row (n + 1 + k) items) ≤ most_of version (row_at k rows)
     next k h =
         let same : length (of_row (n + suc k) items) ≡ length (of_row (n + 1 + k) items) = ap (λ (m : ℕ). length (of_row m items)) (omega arith) in omega (arith, h, same)
 

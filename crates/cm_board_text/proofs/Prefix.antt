@@ -12,7 +12,7 @@ use Rattle.cm_base.specs.declared.faults.Refused.{Refused}
 use Rattle.cm_base.proofs.Bools.{both, neither, not_true}
 use Rattle.cm_base.proofs.Refusal.{keyed}
 use Rattle.cm_board.specs.Board.{BoardText, SubText}
-use Rattle.cm_board_text.specs.BoardPart.{any_words, block_at, block_lines, blocks_from, board_of, ends_block, is_signals, is_subdevice, is_wide, lines_after, name_words, next_block, version_of, version_words, wide_words}
+use Rattle.cm_board_text.specs.BoardPart.{any_words, begins_wide, block_at, block_lines, blocks_from, board_of, ends_block, is_signals, is_subdevice, lines_after, name_words, next_block, version_of, version_words, wide_words}
 use Rattle.cm_board_text.proofs.BoardKept.{one_key}
 
 -- the lines up to the first `signals` line, and that line
@@ -153,7 +153,7 @@ from_name_kept version end place lines = after_first end (codes "board") name_wo
     apart e = cc
 
 -- the first line is among them
-wide_kept : (lines : List LineText) → is_wide (part_lines lines) ≡ is_wide lines
+wide_kept : (lines : List LineText) → begins_wide (part_lines lines) ≡ begins_wide lines
 unfolding part_lines
 wide_kept [] = refl
 wide_kept (line ∷ rest) = refl
@@ -162,7 +162,7 @@ wide_kept (line ∷ rest) = refl
 after_version : {Y : Type 0} (end : ℕ) (f : List LineText → ℕ → Result Y Refused) → ((lines : List LineText) (version : ℕ) → f (part_lines lines) version ≡ f lines version) →
     (lines : List LineText) → (version_of end (part_lines lines) >>= f (drop 1 (part_lines lines))) ≡ (version_of end lines >>= f (drop 1 lines))
 after_version {Y = Y} end f kept lines =
-    ap (λ wide. version_by wide (part_lines lines) >>= f (drop 1 (part_lines lines))) (wide_kept lines) ∙ by (is_wide lines)
+    ap (λ wide. version_by wide (part_lines lines) >>= f (drop 1 (part_lines lines))) (wide_kept lines) ∙ by (begins_wide lines)
   where
     version_by : Bool → List LineText → Result ℕ Refused
     version_by wide lines = cond wide (fixed end (codes "zendrouz") wide_words lines) (fixed end (codes "comedi") version_words lines)

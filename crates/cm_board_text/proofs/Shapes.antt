@@ -10,7 +10,7 @@ use Rattle.cm_board.specs.Kept.{are_kept, is_among, is_good, is_kept, is_source,
 use Rattle.cm_board.specs.Rules.{keeps_rule}
 use Rattle.cm_board.specs.Said.{channel_place, name_at, number_at, signed_at}
 use Rattle.cm_board.specs.Slots.{of_row}
-use Rattle.cm_board.specs.Table.{FormText, WordText, Fixed, Number, Signed, Sources, Source, Name, Channel, channel_of, form_at, may_stand, place_of, row_at}
+use Rattle.cm_board.specs.Table.{FormText, WordText, Fixed, Number, Signed, Sources, Source, Name, Channel, Divisors, channel_of, form_at, may_stand, place_of, row_at}
 use Rattle.cm_board.specs.declared.lines.TheConstants as lines
 use Rattle.cm_board.specs.declared.table.Head.{Head}
 use Rattle.cm_board.specs.declared.table.Value.{Value}
@@ -26,33 +26,41 @@ word_at (suc k) (kind ∷ kinds) = word_at k kinds
 -- what a line says at a place, where this word stands there
 abbrev pub keeps_at : Head → WordText → ℕ → List Value → Bool
 keeps_at head (Fixed key) k vs = true
-keeps_at head (Number l) k vs = is_within l (number_at k vs)
+keeps_at head (Number l) k vs = is_within head.version l (number_at k vs)
 keeps_at head Signed k vs = is_int (signed_at k vs)
 keeps_at head (Sources sets) k vs = is_among (set_in head.version sets) (number_at k vs)
 keeps_at head Source k vs = is_source (number_at k vs)
 keeps_at head (Name names) k vs = nat_lt (name_at k vs) (length names)
 keeps_at head Channel k vs = nat_lt (number_at k vs) head.channels
+keeps_at head Divisors k vs = true
 
 first_kept : (head : Head) (kind : WordText) (v : Value) (vs : List Value) → is_kept head kind v ≡ true → keeps_at head kind 0 (v ∷ vs) ≡ true
 first_kept head (Fixed key) v vs h = refl
 first_kept head (Number l) (values_of.Number n) vs h = h
 first_kept head (Number l) (values_of.Signed z) vs h = cc
 first_kept head (Number l) (values_of.Name n) vs h = cc
+first_kept head (Number l) (values_of.Divisors d) vs h = cc
 first_kept head Signed (values_of.Signed z) vs h = h
 first_kept head Signed (values_of.Number n) vs h = cc
 first_kept head Signed (values_of.Name n) vs h = cc
+first_kept head Signed (values_of.Divisors d) vs h = cc
 first_kept head (Sources sets) (values_of.Number n) vs h = h
 first_kept head (Sources sets) (values_of.Signed z) vs h = cc
 first_kept head (Sources sets) (values_of.Name n) vs h = cc
+first_kept head (Sources sets) (values_of.Divisors d) vs h = cc
 first_kept head Source (values_of.Number n) vs h = h
 first_kept head Source (values_of.Signed z) vs h = cc
 first_kept head Source (values_of.Name n) vs h = cc
+first_kept head Source (values_of.Divisors d) vs h = cc
 first_kept head (Name names) (values_of.Name n) vs h = h
 first_kept head (Name names) (values_of.Number n) vs h = cc
 first_kept head (Name names) (values_of.Signed z) vs h = cc
+first_kept head (Name names) (values_of.Divisors d) vs h = cc
 first_kept head Channel (values_of.Number n) vs h = h
 first_kept head Channel (values_of.Signed z) vs h = cc
 first_kept head Channel (values_of.Name n) vs h = cc
+first_kept head Channel (values_of.Divisors d) vs h = cc
+first_kept head Divisors v vs h = refl
 
 next_kept : (head : Head) (kind : WordText) (k : ℕ) (v : Value) (vs : List Value) → keeps_at head kind k vs ≡ true → keeps_at head kind (suc k) (v ∷ vs) ≡ true
 next_kept head (Fixed key) k v vs h = refl
@@ -62,6 +70,7 @@ next_kept head (Sources sets) k v vs h = h
 next_kept head Source k v vs h = h
 next_kept head (Name names) k v vs h = h
 next_kept head Channel k v vs h = h
+next_kept head Divisors k v vs h = refl
 
 pub kept_at : (head : Head) (k : ℕ) (kinds : List WordText) (vs : List Value) → are_kept head kinds vs ≡ true → keeps_at head (word_at k kinds) k vs ≡ true
 kept_at head k [] vs h = refl

@@ -170,6 +170,7 @@ idle head items w v none =
     let forbid : of_row lines.FORBID items ≡ [] = none_of head items lines.FORBID (omega arith) refl (at_commands 1) w v none in
     let invert : of_row lines.INVERT items ≡ [] = none_of head items lines.INVERT (omega arith) refl (at_commands 2) w v none in
     let fifo : of_row lines.FIFO items ≡ [] = none_of head items lines.FIFO (omega arith) refl at_inputs w v none in
+    let clock : of_row lines.CLOCK items ≡ [] = at_wide lines.CLOCK (omega arith) refl refl in
     let rounds : of_row lines.ROUNDS items ≡ [] = at_wide lines.ROUNDS (omega arith) refl refl in
     let half_down : of_row lines.HALF_DOWN items ≡ [] = at_wide lines.HALF_DOWN (omega arith) refl refl in
     let per_entry : of_row lines.PER_ENTRY items ≡ [] = at_wide lines.PER_ENTRY (omega arith) refl refl in
@@ -177,7 +178,7 @@ idle head items w v none =
     let order : of_row lines.ORDER items ≡ [] = at_wide lines.ORDER (omega arith) refl refl in
     let same_reference : of_row lines.SAME_REFERENCE items ≡ [] = at_wide lines.SAME_REFERENCE (omega arith) refl refl in
     let same_polarity : of_row lines.SAME_POLARITY items ≡ [] = at_wide lines.SAME_POLARITY (omega arith) refl refl in
-    rw (none, tick, scan, convert, list, scans, external, buffer, same_range, forbid, invert, fifo, rounds, half_down, per_entry, holds, order, same_reference, same_polarity) refl
+    rw (none, tick, scan, convert, list, scans, external, buffer, same_range, forbid, invert, fifo, clock, rounds, half_down, per_entry, holds, order, same_reference, same_polarity) refl
 
 -- the sources that lines name
 abbrev masks_of_lines : List ItemText → Masks

@@ -12,7 +12,7 @@ use Rattle.cm_base.proofs.Bools.{and_true, both}
 use Rattle.cm_board.specs.Board.{ChanText, IsRange, IsSoundChan, chans_rise, fits_range, is_maxdata, is_munge, says_any}
 use Rattle.cm_board.specs.BoardTable.{board_rows, board_table}
 use Rattle.cm_board.specs.Items.{ItemText}
-use Rattle.cm_board.specs.Kept.{is_few, is_within, slots}
+use Rattle.cm_board.specs.Kept.{is_few, slots}
 use Rattle.cm_board.specs.Said.{channel_place, first_of, greatest, munge_by_form, number_at, range_said, set_said, sets_said}
 use Rattle.cm_board.specs.Slots.{Slot, of_row, slots_from}
 use Rattle.cm_board.specs.Table.{channel_row, own_row}
@@ -20,8 +20,9 @@ use Rattle.cm_board.specs.declared.board.Range.{Range}
 use Rattle.cm_board.specs.declared.lines.TheConstants as lines
 use Rattle.cm_board.specs.declared.table.Head.{Head}
 use Rattle.cm_board.specs.declared.table.Row.{Row}
+use Rattle.cm_board_text.proofs.MostIn.{is_between, most_wide}
 use Rattle.cm_board_text.proofs.OfRow.{few_at}
-use Rattle.cm_board_text.proofs.SoundRows.{AreGood, chan_bits_kept, chan_munge_kept, chan_range_kept, is_range, limits}
+use Rattle.cm_board_text.proofs.SoundRows.{AreGood, chan_bits_kept, chan_munge_kept, chan_range_kept, is_range}
 
 pub second_true : (a b : Bool) → a ≡ false → (a || b) ≡ true → b ≡ true
 second_true true b e h = cc
@@ -47,7 +48,7 @@ code_at (suc count) k h j e = at (cases_lt k count) (both (count == 0 || is_maxd
     at (inr more) e later = let same : count ≡ k = omega arith in
         subst (λ (n : ℕ). is_maxdata (2 ^ n - 1) ≡ true) same (second_true (count == 0) (is_maxdata (2 ^ count - 1)) (grind (arith, nat_tests)) e.0)
 
-pub code_of_bits : (bits : ℕ) → is_within (limits 1 24) bits ≡ true → is_maxdata (greatest bits) ≡ true
+pub code_of_bits : (bits : ℕ) → is_between 1 24 bits ≡ true → is_maxdata (greatest bits) ≡ true
 code_of_bits bits h =
     let b = both (nat_le 1 bits) (nat_le bits 24) h in
     let low = leb-true 1 bits b.0 in
@@ -84,42 +85,45 @@ slots_append n (x ∷ xs) ys items =
     ap (λ (ss : List Slot). record { at = n; row = x; items = of_row n items } ∷ ss)
     (slots_append (n + 1) xs ys items ∙ ap (λ (m : ℕ). slots_from (n + 1) xs items ++ slots_from m ys items) (omega arith))
 
-split_few : (n : ℕ) (xs ys : List Row) (items : List ItemText) → list_all is_few (slots_from n (xs ++ ys) items) ≡ true →
-    (list_all is_few (slots_from n xs items) ≡ true) × (list_all is_few (slots_from (n + length xs) ys items) ≡ true)
-split_few n xs ys items h =
-    both _ _ (sym (list_all-append is_few (slots_from n xs items) (slots_from (n + length xs) ys items)) ∙ ap (list_all is_few) (sym (slots_append n xs ys items)) ∙ h)
+split_few : (version n : ℕ) (xs ys : List Row) (items : List ItemText) → list_all (is_few version) (slots_from n (xs ++ ys) items) ≡ true →
+    (list_all (is_few version) (slots_from n xs items) ≡ true) × (list_all (is_few version) (slots_from (n + length xs) ys items) ≡ true)
+split_few version n xs ys items h =
+    both _ _
+    (sym (list_all-append (is_few version) (slots_from n xs items) (slots_from (n + length xs) ys items))
+    ∙ ap (list_all (is_few version)) (sym (slots_append n xs ys items)) ∙ h)
 
 -- the rows of a channel
 abbrev of_channel : List Row
 of_channel = map channel_row board_rows
 
 -- each channel has few ranges
-few_from : (m n a : ℕ) (items : List ItemText) →
-    list_all is_few (slots_from n (flat_map (λ (chan : ℕ). of_channel) (range_with_len a m)) items) ≡ true → (d : ℕ) → d < m →
-    length (of_row (n + d * lines.ROW_COUNT + lines.CHAN_RANGE) items) ≤ 16
-few_from zero n a items h d below = absurd (omega arith)
-few_from (suc m) n a items h zero below =
-    let b = split_few n of_channel (flat_map (λ (chan : ℕ). of_channel) (range_with_len (a + 1) m)) items h in
-    let few : length (of_row (n + lines.CHAN_RANGE) items) ≤ 16 = few_at n lines.CHAN_RANGE of_channel items b.0 (omega arith) in
+few_from : (version m n a : ℕ) (items : List ItemText) →
+    list_all (is_few version) (slots_from n (flat_map (λ (chan : ℕ). of_channel) (range_with_len a m)) items) ≡ true → (d : ℕ) → d < m →
+    length (of_row (n + d * lines.ROW_COUNT + lines.CHAN_RANGE) items) ≤ 32
+few_from version zero n a items h d below = absurd (omega arith)
+few_from version (suc m) n a items h zero below =
+    let b = split_few version n of_channel (flat_map (λ (chan : ℕ). of_channel) (range_with_len (a + 1) m)) items h in
+    let few : length (of_row (n + lines.CHAN_RANGE) items) ≤ 32 =
+    most_wide version (length (of_row (n + lines.CHAN_RANGE) items)) 16 32 (omega arith) (few_at version n lines.CHAN_RANGE of_channel items b.0 (omega arith)) in
     let same : length (of_row (n + 0 * lines.ROW_COUNT + lines.CHAN_RANGE) items) ≡ length (of_row (n + lines.CHAN_RANGE) items) = ap (λ (k : ℕ). length (of_row k items)) (omega arith) in
     omega (arith, few, same)
-few_from (suc m) n a items h (suc d) below =
-    let b = split_few n of_channel (flat_map (λ (chan : ℕ). of_channel) (range_with_len (a + 1) m)) items h in
-    let few : length (of_row (n + lines.ROW_COUNT + d * lines.ROW_COUNT + lines.CHAN_RANGE) items) ≤ 16 = few_from m (n + lines.ROW_COUNT) (a + 1) items b.1 d (omega arith) in
+few_from version (suc m) n a items h (suc d) below =
+    let b = split_few version n of_channel (flat_map (λ (chan : ℕ). of_channel) (range_with_len (a + 1) m)) items h in
+    let few : length (of_row (n + lines.ROW_COUNT + d * lines.ROW_COUNT + lines.CHAN_RANGE) items) ≤ 32 = few_from version m (n + lines.ROW_COUNT) (a + 1) items b.1 d (omega arith) in
     let same : length (of_row (n + suc d * lines.ROW_COUNT + lines.CHAN_RANGE) items) ≡ length (of_row (n + lines.ROW_COUNT + d * lines.ROW_COUNT + lines.CHAN_RANGE) items) = ap (λ (k : ℕ). length (of_row k items)) (omega arith) in
     omega (arith, few, same)
 
-few_chan : (head : Head) (items : List ItemText) → list_all is_few (slots board_table head items) ≡ true → (chan : ℕ) → chan < head.channels →
-    length (of_row (channel_place chan lines.CHAN_RANGE) items) ≤ 16
+few_chan : (head : Head) (items : List ItemText) → list_all (is_few head.version) (slots board_table head items) ≡ true → (chan : ℕ) → chan < head.channels →
+    length (of_row (channel_place chan lines.CHAN_RANGE) items) ≤ 32
 few_chan head items h chan below =
-    let b = split_few 0 (map own_row board_rows) (flat_map (λ (chan : ℕ). of_channel) (range_with_len 0 head.channels)) items h in
-    let few : length (of_row (lines.ROW_COUNT + chan * lines.ROW_COUNT + lines.CHAN_RANGE) items) ≤ 16 = few_from head.channels lines.ROW_COUNT 0 items b.1 chan below in
+    let b = split_few head.version 0 (map own_row board_rows) (flat_map (λ (chan : ℕ). of_channel) (range_with_len 0 head.channels)) items h in
+    let few : length (of_row (lines.ROW_COUNT + chan * lines.ROW_COUNT + lines.CHAN_RANGE) items) ≤ 32 = few_from head.version head.channels lines.ROW_COUNT 0 items b.1 chan below in
     let same : length (of_row (channel_place chan lines.CHAN_RANGE) items) ≡ length (of_row (lines.ROW_COUNT + chan * lines.ROW_COUNT + lines.CHAN_RANGE) items) =
     ap (λ (k : ℕ). length (of_row k items)) (omega arith) in
     omega (arith, few, same)
 
 -- what is kept of a channel of which lines say something
-set_sound : (head : Head) (items : List ItemText) (chan : ℕ) → AreGood head items → list_all is_few (slots board_table head items) ≡ true →
+set_sound : (head : Head) (items : List ItemText) (chan : ℕ) → AreGood head items → list_all (is_few head.version) (slots board_table head items) ≡ true →
     chan < head.channels → says_any (set_said items chan) ≡ true → IsSoundChan head.channels (set_said items chan)
 set_sound head items chan h few below some =
     let bits : List ItemText = of_row (channel_place chan lines.CHAN_BITS) items in
@@ -130,7 +134,7 @@ set_sound head items chan h few below some =
       within = below;
       some = some;
       maxdata = first_passes is_maxdata (λ (item : ItemText). greatest (number_at 1 item.values)) bits
-          (all_so (λ (item : ItemText). is_within (limits 1 24) (number_at 1 item.values)) (λ item. is_maxdata (greatest (number_at 1 item.values)))
+          (all_so (λ (item : ItemText). is_between 1 24 (number_at 1 item.values)) (λ item. is_maxdata (greatest (number_at 1 item.values)))
           (λ item k. code_of_bits (number_at 1 item.values) k) bits (chan_bits_kept head chan items h));
       munge = first_passes is_munge (λ (item : ItemText). munge_by_form (item.form - lines.CHAN_MUNGE_NONE) (number_at 1 item.values)) munge
           (chan_munge_kept head chan items h);
@@ -160,7 +164,7 @@ sets_from channels items (suc n) a each within = by (says_any (set_said items a)
     by false e later = later
 
 -- what is said of each of the channels
-pub sets_sound : (head : Head) (items : List ItemText) → AreGood head items → list_all is_few (slots board_table head items) ≡ true →
+pub sets_sound : (head : Head) (items : List ItemText) → AreGood head items → list_all (is_few head.version) (slots board_table head items) ≡ true →
     All (IsSoundChan head.channels) (sets_said head.channels items)
 sets_sound head items h few = sets_from head.channels items head.channels 0 (λ chan below some. set_sound head items chan h few below some) (omega arith)
 

@@ -2,7 +2,7 @@
 use Rattle.std.proofs.Common.{◌≡◌, ℕ, zero, suc, ◌+◌, ◌-◌, ◌^◌, ◌<◌, ◌≤◌, Bool, true, false, cond, not, ◌&&◌, ◌||◌, List, [], ◌∷◌, ◌++◌, length, Option, Some, None, option_to_list, Ok, refl, sym, ap, ◌∙◌, nat_le, nat_lt, ◌==◌, arith, append_assoc, append-nil, bit_and, decimal}
 use Rattle.std.specs.List.{list_all}
 use Rattle.std.specs.Str.{bytes_eq}
-use Rattle.std.proofs.lemmas.Bool.{eq-eqb, eqb-true, ltb-true}
+use Rattle.std.proofs.lemmas.Bool.{eq-eqb, eqb-true, leb-true, ltb-true}
 use Rattle.std.proofs.lemmas.Bool.Decides.{nat_tests}
 use Rattle.std.proofs.lemmas.Nat.{and_le_r}
 use Rattle.cm_base.specs.Lines.{is_word}
@@ -17,12 +17,15 @@ use Rattle.cm_board.specs.Kept.{are_kept, is_among, is_kept, is_source, is_withi
 use Rattle.cm_board_text.specs.IsTable.{are_apart, are_names, differ, differ_somewhere, is_place, is_proper}
 use Rattle.cm_board_text.specs.Printed.{name_at, value_text, words_text}
 use Rattle.cm_board_text.specs.Reading.{begins_form, fixed_is, is_form, place_from, read_word, values_after}
-use Rattle.cm_board.specs.Table.{WordText, Fixed, Number, Signed, Sources, Source, Name, Channel}
+use Rattle.cm_board.specs.Table.{WordText, Fixed, Number, Signed, Sources, Source, Name, Channel, Divisors}
+use Rattle.cm_board.specs.Versions.{is_wide, most_in}
 use Rattle.cm_board.specs.declared.table.Head.{Head}
 use Rattle.cm_board.specs.declared.table.Limits.{Limits}
 use Rattle.cm_board.specs.declared.table.Sets.{Sets}
 use Rattle.cm_board.specs.declared.table.Value.{Value}
 use Rattle.cm_board.specs.declared.table.Value.TheVariants as values_of
+use Rattle.cm_board_text.proofs.DivisorsBack.{divisors_back, word-divisors}
+use Rattle.cm_board_text.proofs.MostIn.{between}
 
 -- a word that says nothing
 abbrev pub is_fixed : WordText → Bool
@@ -70,11 +73,15 @@ name_back : (names : List (List ℕ)) (n : ℕ) → are_names names 0 names ≡ 
 name_back names n h below =
     let f = name_from names 0 n names h (ltb-true n (length names) below) in record { found = f.0 ∙ ap (λ (m : ℕ). Some m) (omega arith); word = f.1 }
 
-small_number : (l : Limits) (n : ℕ) → nat_lt l.most 4294967296 ≡ true → is_within l n ≡ true → n < 2 ^ 32
-small_number l n k h = let e = (both (nat_le l.least n) (nat_le n l.most) h).1 in grind (arith, nat_tests, e, k)
+small_number : (version : ℕ) (l : Limits) (n : ℕ) → (nat_le l.most l.wide && nat_lt l.wide 4294967296) ≡ true → is_within version l n ≡ true → n < 2 ^ 32
+small_number version l n k h =
+    let a = both (nat_le l.most l.wide) (nat_lt l.wide 4294967296) k in
+    let high = leb-true n l.wide (both (nat_le l.least n) (nat_le n l.wide) (between version l n a.0 h)).1 in
+    let top = ltb-true l.wide 4294967296 a.1 in
+    omega (arith, high, top)
 
 small_set : (version : ℕ) (sets : Sets) → (nat_lt sets.first 512 && nat_lt sets.second 512 && nat_lt sets.wide 512) ≡ true → set_in version sets < 512
-small_set version sets h = by (nat_le 3 version) (nat_le 2 version)
+small_set version sets h = by (is_wide version) (nat_le 2 version)
   where
     by : (wide second : Bool) → cond wide sets.wide (cond second sets.second sets.first) < 512
     by true second = ltb-true sets.wide 512 (both (nat_lt sets.first 512 && nat_lt sets.second 512) (nat_lt sets.wide 512) h).1
@@ -95,35 +102,46 @@ record IsBack (head : Head) (kind : WordText) (v : Value) : Type 0 where
 word_back : (head : Head) (kind : WordText) (v : Value) → head.channels < 2 ^ 32 → is_proper kind ≡ true → is_kept head kind v ≡ true → IsBack head kind v
 word_back head (Fixed key) v s p h = cc
 word_back head (Number l) (values_of.Number n) s p h =
-    let small = small_number l n p h in
-    record { read = ap (λ r. r >>= λ m. Ok (Some (values_of.Number m))) (number_in-decimal l.least l.most n small h); word = word-decimal n small }
+    let small = small_number head.version l n p h in
+    record { read = ap (λ r. r >>= λ m. Ok (Some (values_of.Number m))) (number_in-decimal l.least (most_in head.version l.most l.wide) n small h); word = word-decimal n small }
 word_back head (Number l) (values_of.Signed z) s p h = cc
 word_back head (Number l) (values_of.Name n) s p h = cc
+word_back head (Number l) (values_of.Divisors d) s p h = cc
 word_back head Signed (values_of.Signed z) s p h =
     record { read = ap (λ r. r >>= λ m. Ok (Some (values_of.Signed m))) (signed_number-decimal z h); word = word-signed_decimal z h }
 word_back head Signed (values_of.Number n) s p h = cc
 word_back head Signed (values_of.Name n) s p h = cc
+word_back head Signed (values_of.Divisors d) s p h = cc
 word_back head (Sources sets) (values_of.Number n) s p h =
     let small = small_set head.version sets p in
     record { read = ap (λ r. r >>= λ m. Ok (Some (values_of.Number m))) (sources_back (set_in head.version sets) n small h); word = word-source n (few_bits (set_in head.version sets) n small h) }
 word_back head (Sources sets) (values_of.Signed z) s p h = cc
 word_back head (Sources sets) (values_of.Name n) s p h = cc
+word_back head (Sources sets) (values_of.Divisors d) s p h = cc
 word_back head Source (values_of.Number n) s p h = record {
   read = ap (λ r. r >>= λ m. Ok (Some (values_of.Number m))) (source_in_back n h);
   word = word-source n (few_bits 511 n (omega arith) (both (is_among 511 n) (bit_and n (n - 1) == 0) h).0);
 }
 word_back head Source (values_of.Signed z) s p h = cc
 word_back head Source (values_of.Name n) s p h = cc
+word_back head Source (values_of.Divisors d) s p h = cc
 word_back head (Name names) (values_of.Name n) s p h =
     let i = name_back names n p h in
     record { read = ap (λ o. or_fault faults.Unknown o >>= λ m. Ok (Some (values_of.Name m))) i.found; word = i.word }
 word_back head (Name names) (values_of.Number n) s p h = cc
 word_back head (Name names) (values_of.Signed z) s p h = cc
+word_back head (Name names) (values_of.Divisors d) s p h = cc
 word_back head Channel (values_of.Number n) s p h =
     let below : n < head.channels = ltb-true n head.channels h in
     record { read = ap (λ r. r >>= λ m. Ok (Some (values_of.Number m))) (channel_back head.channels n s h); word = word-decimal n (omega arith) }
 word_back head Channel (values_of.Signed z) s p h = cc
 word_back head Channel (values_of.Name n) s p h = cc
+word_back head Channel (values_of.Divisors d) s p h = cc
+word_back head Divisors (values_of.Divisors d) s p h =
+    record { read = ap (λ r. r >>= λ e. Ok (Some (values_of.Divisors e))) (divisors_back d h); word = word-divisors d h }
+word_back head Divisors (values_of.Number n) s p h = cc
+word_back head Divisors (values_of.Signed z) s p h = cc
+word_back head Divisors (values_of.Name n) s p h = cc
 
 -- what the words of a line are
 pub record AreBack (head : Head) (kinds : List WordText) (vs : List Value) : Type 0 where
@@ -195,6 +213,7 @@ fixed_apart (Sources sets) key h = cc
 fixed_apart Source key h = cc
 fixed_apart (Name names) key h = cc
 fixed_apart Channel key h = cc
+fixed_apart Divisors key h = cc
 
 never_differ : (g kind : WordText) → is_fixed kind ≡ false → differ g kind ≡ false
 never_differ g (Fixed key) h = cc
@@ -204,6 +223,7 @@ never_differ (Fixed a) (Sources sets) h = refl
 never_differ (Fixed a) Source h = refl
 never_differ (Fixed a) (Name names) h = refl
 never_differ (Fixed a) Channel h = refl
+never_differ (Fixed a) Divisors h = refl
 never_differ g other h = refl
 
 -- the first word of two that differ, or the words after them

@@ -4,7 +4,7 @@ use Rattle.cm_base.specs.Reading.{◌>>=◌}
 use Rattle.cm_base.specs.Source.{allows, ext, timer}
 use Rattle.cm_base.specs.declared.faults.Fault.{Fault}
 use Rattle.cm_base.specs.declared.faults.Fault.TheVariants.{Bad}
-use Rattle.cm_board.specs.Board.{SubText, down, is_bits_ok, up}
+use Rattle.cm_board.specs.Board.{SubText, down, is_bits_ok, is_wide, up}
 use Rattle.cm_board.specs.BoardTable.{board_table}
 use Rattle.cm_board.specs.Items.{ItemText}
 use Rattle.cm_board.specs.Said.{sub_of}
@@ -13,22 +13,23 @@ use Rattle.cm_board_text.specs.Reading.{completed}
 
 -- the limits of times are multiples of the tick
 abbrev pub are_on_tick : SubText → Bool
-are_on_tick s = s.scan_min % s.tick == 0 && s.scan_max % s.tick == 0 && s.conv_min % s.tick == 0 && s.conv_max % s.tick == 0
+are_on_tick s =
+    s.scan_min % s.timers.tick == 0 && s.scan_max % s.timers.tick == 0 && s.conv_min % s.timers.tick == 0 && s.conv_max % s.timers.tick == 0
 
--- but in the wider texts; there a multiple is between those of a scan, and one between those of a conversion
-abbrev pub is_ticks_ok : SubText → Bool
-is_ticks_ok s =
-    (nat_le 3 s.version || are_on_tick s) && nat_le (up s.tick s.scan_min) s.scan_max && nat_le (up s.tick s.conv_min) s.conv_max
+-- but in the wider texts; and the board can make a time between those of a scan, and one between those of a conversion
+abbrev pub are_times_ok : SubText → Bool
+are_times_ok s =
+    (is_wide s.version || are_on_tick s) && nat_le (up s.timers s.scan_min) s.scan_max && nat_le (up s.timers s.conv_min) s.conv_max
 
--- where scans may be timed, the longest of a time that is on the tick holds so much
+-- where scans may be timed, the longest that the board can make holds so much
 abbrev pub fits_timed : SubText → ℕ → Bool
-fits_timed s time = not (allows s.masks.scan_begin timer) || nat_le time (down s.tick s.scan_max)
+fits_timed s time = not (allows s.masks.scan_begin timer) || nat_le time (down s.timers s.scan_max)
 
--- all conversions of the longest list fit into the longest scan, and where both are timed those on the tick
+-- all conversions of the longest list fit into the longest scan, and where both are timed those that the board can make
 abbrev pub is_list_ok : SubText → Bool
 is_list_ok s =
     nat_le (s.conv_min * s.list_max) s.scan_max
-    && (not (allows s.masks.convert timer) || fits_timed s (up s.tick s.conv_min * s.list_max))
+    && (not (allows s.masks.convert timer) || fits_timed s (up s.timers s.conv_min * s.list_max))
 
 -- the longest scan has the time that the board needs for the entries of the longest list
 abbrev pub is_entries_ok : SubText → Bool
@@ -46,7 +47,7 @@ is_lines_ok s =
 
 -- the rules over the lines of a block
 abbrev pub is_board_ok : SubText → Bool
-is_board_ok s = is_bits_ok s && is_ticks_ok s && is_list_ok s && is_lines_ok s && is_entries_ok s
+is_board_ok s = is_bits_ok s && are_times_ok s && is_list_ok s && is_lines_ok s && is_entries_ok s
 
 -- a subdevice, where it keeps the rules over its lines
 abbrev pub checked : SubText → Result SubText Fault

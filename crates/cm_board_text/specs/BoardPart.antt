@@ -82,13 +82,13 @@ abbrev pub wide_words : Form ℕ
 wide_words = one (λ version. version + 2) (number_in 1 1)
 
 -- whether the first of these lines is that of a wider text
-abbrev pub is_wide : List LineText → Bool
-is_wide [] = false
-is_wide (line ∷ lines) = begins (codes "zendrouz") line
+abbrev pub begins_wide : List LineText → Bool
+begins_wide [] = false
+begins_wide (line ∷ lines) = begins (codes "zendrouz") line
 
 -- the version that the first line says
 abbrev pub version_of : ℕ → List LineText → Result ℕ Refused
-version_of end lines = if is_wide lines then fixed end (codes "zendrouz") wide_words lines else fixed end (codes "comedi") version_words lines
+version_of end lines = if begins_wide lines then fixed end (codes "zendrouz") wide_words lines else fixed end (codes "comedi") version_words lines
 
 -- the board's name, of at most 32 bytes
 abbrev pub name_words : Form (List ℕ)

@@ -25,10 +25,10 @@ abbrev pub are_names : List (List ℕ) → ℕ → List (List ℕ) → Bool
 are_names all n [] = true
 are_names all n (name ∷ names) = is_place n (place_from 0 name all) && is_word name && are_names all (n + 1) names
 
--- a word of a form: a fixed one may stand in a line, and limits have 32 bits
+-- a word of a form: a fixed one may stand in a line, and limits have 32 bits and aren't less in the wider texts
 abbrev pub is_proper : WordText → Bool
 is_proper (Fixed key) = is_word key && bytes_eq key key
-is_proper (Number l) = nat_lt l.most 4294967296
+is_proper (Number l) = nat_le l.most l.wide && nat_lt l.wide 4294967296
 is_proper (Sources sets) = nat_lt sets.first 512 && nat_lt sets.second 512 && nat_lt sets.wide 512
 is_proper (Name names) = are_names names 0 names
 is_proper other = true
@@ -99,11 +99,13 @@ abbrev pub is_nothing : Absent → Bool
 is_nothing absents.Nothing = true
 is_nothing other = false
 
--- rows of a table, counted from `n`: there may be a line of each, what holds without one is a line, and about channels nothing does
+-- rows of a table, counted from `n`: there may be a line of each, and as many in the wider texts; what holds without one is a line, and about
+-- channels nothing does
 abbrev pub are_rows : TableText → ℕ → List Row → Bool
 are_rows t n [] = true
 are_rows t n (row ∷ rows) =
-    (if row.of_channel then is_nothing row.absent else keeps_default t n row.absent) && nat_le 1 row.most && are_rows t (n + 1) rows
+    (if row.of_channel then is_nothing row.absent else keeps_default t n row.absent) && nat_le 1 row.most && nat_le row.most row.wide
+    && are_rows t (n + 1) rows
 
 -- a table
 abbrev pub is_table : TableText → Bool

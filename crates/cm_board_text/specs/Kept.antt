@@ -9,4 +9,4 @@ use Rattle.cm_board.specs.declared.table.Head.{Head}
 -- each may stand in the block, and none too often
 pub record AreItems (t : TableText) (head : Head) (items : List ItemText) : Type 0 where
   pub good : IsTrue (list_all (is_good t head) items)
-  pub few : IsTrue (list_all is_few (slots t head items))
+  pub few : IsTrue (list_all (is_few head.version) (slots t head items))

@@ -1,5 +1,7 @@
 pub mod Block
 pub mod BoardPart
+pub mod Counts
+pub mod DivisorsText
 pub mod FoundView
 pub mod Heads
 pub mod IsTable

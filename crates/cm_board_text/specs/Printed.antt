@@ -1,9 +1,9 @@
 -- A board as text.
-use Rattle.std.specs.Prelude.{ℕ, zero, suc, nat_le, if◌then◌else◌, List, [], ◌∷◌, ◌++◌, map, flat_map, codes, decimal}
+use Rattle.std.specs.Prelude.{ℕ, zero, suc, if◌then◌else◌, List, [], ◌∷◌, ◌++◌, map, flat_map, codes, decimal}
 use Rattle.std.specs.Fmt.{signed_decimal}
 use Rattle.cm_base.specs.SourceText.{source_text}
 use Rattle.cm_base.specs.WrittenLines.{line_of}
-use Rattle.cm_board.specs.Board.{BoardText, SubText}
+use Rattle.cm_board.specs.Board.{BoardText, SubText, is_wide}
 use Rattle.cm_board.specs.BoardTable.{board_table}
 use Rattle.cm_board.specs.Items.{ItemText}
 use Rattle.cm_board.specs.Table.{TableText, WordText, Fixed, Sources, Source, Name, form_at}
@@ -11,6 +11,7 @@ use Rattle.cm_board.specs.declared.board.Kind.{Kind}
 use Rattle.cm_board.specs.declared.board.Kind.TheVariants as kinds
 use Rattle.cm_board.specs.declared.table.Value.{Value}
 use Rattle.cm_board.specs.declared.table.Value.TheVariants as values_of
+use Rattle.cm_board_text.specs.DivisorsText.{divisors_text}
 
 -- a name by its place
 abbrev pub name_at : ℕ → List (List ℕ) → List ℕ
@@ -34,6 +35,7 @@ abbrev pub value_text : WordText → Value → List ℕ
 value_text kind (values_of.Number n) = number_text kind n
 value_text kind (values_of.Signed z) = signed_decimal z
 value_text kind (values_of.Name n) = name_text kind n
+value_text kind (values_of.Divisors d) = divisors_text d
 
 -- the words of a form with these values
 abbrev pub words_text : List WordText → List Value → List (List ℕ)
@@ -70,7 +72,7 @@ block_text s = line_of (head_line s) ++ items_text board_table s.block
 -- the line of the version; the third is the first of the wider texts
 abbrev pub version_line : ℕ → List (List ℕ)
 version_line version =
-    if nat_le 3 version then codes "zendrouz" ∷ codes "1" ∷ [] else codes "comedi" ∷ decimal version ∷ []
+    if is_wide version then codes "zendrouz" ∷ codes "1" ∷ [] else codes "comedi" ∷ decimal version ∷ []
 
 -- the line of the board's name
 abbrev pub name_line : List ℕ → List (List ℕ)

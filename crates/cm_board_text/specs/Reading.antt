@@ -13,11 +13,14 @@ use Rattle.cm_board.specs.Items.{ItemText}
 use Rattle.cm_board.specs.Kept.{set_in, slots}
 use Rattle.cm_board.specs.Rules.{keeps_rule}
 use Rattle.cm_board.specs.Slots.{Slot, lacks, of_row, takes, whole}
-use Rattle.cm_board.specs.Table.{FormText, TableText, WordText, Fixed, Number, Signed, Sources, Source, Name, Channel, may_stand, place_of, row_at}
+use Rattle.cm_board.specs.Table.{FormText, TableText, WordText, Fixed, Number, Signed, Sources, Source, Name, Channel, Divisors}
+use Rattle.cm_board.specs.Table.{may_stand, place_of, row_at}
+use Rattle.cm_board.specs.Versions.{most_in}
 use Rattle.cm_board.specs.declared.table.Head.{Head}
 use Rattle.cm_board.specs.declared.table.Row.{Row}
 use Rattle.cm_board.specs.declared.table.Value.{Value}
 use Rattle.cm_board.specs.declared.table.Value.TheVariants as values_of
+use Rattle.cm_board_text.specs.DivisorsText.{divisors_word}
 
 -- a word that stands where a form fixes it
 abbrev pub fixed_is : WordText → List ℕ → Bool
@@ -67,12 +70,13 @@ place_from n word (name ∷ names) = if bytes_eq word name then Some n else plac
 -- what a word says
 abbrev pub read_word : Head → WordText → List ℕ → Result (Option Value) Fault
 read_word head (Fixed key) w = Ok None
-read_word head (Number l) w = number_in l.least l.most w >>= λ n. Ok (Some (values_of.Number n))
+read_word head (Number l) w = number_in l.least (most_in head.version l.most l.wide) w >>= λ n. Ok (Some (values_of.Number n))
 read_word head Signed w = signed_number w >>= λ z. Ok (Some (values_of.Signed z))
 read_word head (Sources sets) w = sources_in (set_in head.version sets) w >>= λ n. Ok (Some (values_of.Number n))
 read_word head Source w = source_in 511 w >>= λ n. Ok (Some (values_of.Number n))
 read_word head (Name names) w = or_fault Unknown (place_from 0 w names) >>= λ n. Ok (Some (values_of.Name n))
 read_word head Channel w = number_below head.channels w >>= λ n. Ok (Some (values_of.Number n))
+read_word head Divisors w = divisors_word w >>= λ d. Ok (Some (values_of.Divisors d))
 
 -- what words say after others
 abbrev pub values_after : Head → List Value → List WordText → List (List ℕ) → Result (List Value) Fault
@@ -80,17 +84,21 @@ values_after head before [] ws = Ok before
 values_after head before (kind ∷ kinds) [] = Ok before
 values_after head before (kind ∷ kinds) (w ∷ ws) = read_word head kind w >>= λ v. values_after head (before ++ option_to_list v) kinds ws
 
+-- how many lines of a row there may be in texts of a version
+abbrev pub most_of : ℕ → Row → ℕ
+most_of version row = most_in version row.most row.wide
+
 -- a line more in a block: not too many of its row, and its values keep the form's rule
-abbrev pub admitted : List Row → List ItemText → Found → List Value → Result ItemText Fault
-admitted rows before f values =
-    if nat_lt (length (of_row (place_of rows f.form values) before)) (row_at f.form.row rows).most
+abbrev pub admitted : Head → List Row → List ItemText → Found → List Value → Result ItemText Fault
+admitted head rows before f values =
+    if nat_lt (length (of_row (place_of rows f.form values) before)) (most_of head.version (row_at f.form.row rows))
     then (if keeps_rule f.form.rule values then Ok (record { row = place_of rows f.form values; form = f.at; values = values }) else Err Bad)
-    else Err (if (row_at f.form.row rows).most == 1 then Double else Limit)
+    else Err (if most_of head.version (row_at f.form.row rows) == 1 then Double else Limit)
 
 -- what a line says after the lines before it
 abbrev pub item_after : TableText → Head → List ItemText → LineText → Result ItemText Fault
 item_after t head before line =
-    form_of t head line >>= λ f. values_after head [] f.form.words line.words >>= λ values. admitted t.rows before f values
+    form_of t head line >>= λ f. values_after head [] f.form.words line.words >>= λ values. admitted head t.rows before f values
 
 -- what the lines of a block say
 abbrev pub items_said : TableText → Head → List LineText → Result (List ItemText) Refused

@@ -6,6 +6,7 @@ use cm_base::faults::Fault;
 use cm_base::words::{number_in, two};
 use cm_board::board::Kind;
 use cm_board::table::Head;
+use cm_board::versions::is_wide;
 
 /// What the words after `subdevice` say on a board of a version.
 pub fn read_head(version: u32, words: &[&[u8]]) -> Result<Head, Fault>
@@ -13,7 +14,7 @@ pub fn read_head(version: u32, words: &[&[u8]]) -> Result<Head, Fault>
 {
     let (kind, channels) = two(words)?;
     let kind = read_kind(kind)?;
-    let channels = read_channels(kind, channels)?;
+    let channels = read_channels(version, kind, channels)?;
     Ok(Head {
         version,
         kind,
@@ -42,12 +43,12 @@ fn read_kind(word: &[u8]) -> Result<Kind, Fault>
     }
 }
 
-// The channels of a subdevice, none where it is unused.
-fn read_channels(kind: Kind, word: &[u8]) -> Result<u32, Fault>
-    ensures { result ≡ channels_word kind word.now }
+// The channels of a subdevice on a board of a version, none where it is unused.
+fn read_channels(version: u32, kind: Kind, word: &[u8]) -> Result<u32, Fault>
+    ensures { result ≡ channels_word version kind word.now }
 {
     match kind {
         Kind::Unused => number_in(word, 0, 0),
-        _ => number_in(word, 1, 64),
+        _ => number_in(word, 1, if is_wide(version) { 256 } else { 64 }),
     }
 }

@@ -1,6 +1,7 @@
 // A board as a text: read, refused at its first failing line, and printed.
 #![tactic(auto)]
 
+pub mod divisors;
 pub mod heads;
 pub mod law;
 pub mod line_text;
@@ -8,5 +9,6 @@ pub mod lines;
 pub mod printing;
 pub mod reading;
 pub mod said;
+mod tally;
 pub mod unchecked;
 pub mod whole;

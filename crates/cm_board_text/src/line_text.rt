@@ -4,6 +4,7 @@ ghost use Rattle.cm_base.specs.WrittenLines.{line_of};
 ghost use Rattle.cm_board_text.specs.Printed.{item_words, items_text, name_at, name_text, number_text, value_text, words_text};
 ghost use Rattle.cm_board.specs.Table.{form_at, form_text, table_text, word_text};
 
+use crate::divisors::put_divisors;
 use cm_base::numbers::{put_i64, put_u64};
 use cm_base::source_text::put_sources;
 use cm_base::transfer::NoMemory;
@@ -47,6 +48,7 @@ fn put_value(out: &mut Vec<u8>, kind: &Word, value: &Value) -> Result<(), NoMemo
         Value::Number(number) => put_number(out, kind, *number),
         Value::Signed(number) => put_i64(out, *number as i64),
         Value::Name(place) => put_name(out, kind, *place),
+        Value::Divisors(divisors) => put_divisors(out, divisors),
     }
 }
 

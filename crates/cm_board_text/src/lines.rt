@@ -1,25 +1,30 @@
 // The lines of a block, read by a table: the form of each, and what its words say.
-ghost use Rattle.std.specs.Prelude.{◌≡◌, ◌≤◌, ◌++◌, [], OnOk, length, map, option_to_list};
+ghost use Rattle.std.specs.Prelude.{◌≡◌, ◌≤◌, ◌+◌, ◌*◌, ◌++◌, [], OnOk, length, map, option_to_list};
 ghost use Rattle.std.specs.List.{list_any};
 ghost use Rattle.std.specs.Option.{option_map};
 ghost use Rattle.cm_base.specs.LineView.{line_view};
 ghost use Rattle.cm_base.specs.ReadStop.{Gives};
 ghost use Rattle.cm_base.specs.Reading.{at_line, seen};
-ghost use Rattle.cm_base.specs.Words.{or_fault};
+ghost use Rattle.cm_base.specs.Words.{number_in, or_fault, sources_in};
 ghost use Rattle.cm_base.specs.declared.faults.Fault.TheVariants as faults;
 ghost use Rattle.cm_board.specs.Kept.{set_in};
 ghost use Rattle.cm_board.specs.Slots.{of_row};
 ghost use Rattle.cm_board.specs.Table as table;
 ghost use Rattle.cm_board.specs.Table.{form_text, may_stand, row_at, table_text, word_text};
+ghost use Rattle.cm_board.specs.Versions.{most_in};
+ghost use Rattle.cm_board_text.specs.Counts.{AreCounts};
 ghost use Rattle.cm_board_text.specs.FoundView.{found_text};
 ghost use Rattle.cm_board_text.specs.Reading as spec;
 ghost use Rattle.cm_board_text.specs.Reading.{admitted, begins_form, fixed_is, form_of, form_of_words, found_from, is_begun, is_form, item_after, items_said, place_from, values_after};
 
+use crate::divisors::read_divisors;
+use crate::tally::Tally;
 use cm_base::faults::{Fault, ReadStop};
 use cm_base::lines::Line;
 use cm_base::words::{at_line, number_below, number_in, signed_number, source_in, sources_in};
 use cm_board::items::Item;
-use cm_board::table::{Absent, Form, Head, Place, Row, Sets, Table, Value, Word};
+use cm_board::table::{Absent, Form, Head, Limits, Place, Row, Sets, Table, Value, Word};
+use cm_board::versions::is_wide;
 use smallvec::SmallVec;
 use std::alloc::{AllocError, Global};
 
@@ -33,6 +38,7 @@ pub(crate) fn row_at(rows: &[Row], at: usize) -> Row
     } else {
         Row {
             most: 0,
+            wide: 0,
             since: 0,
             place: Place::Any,
             absent: Absent::Nothing,
@@ -159,7 +165,7 @@ fn read_name(names: &[&[u8]], word: &[u8]) -> Result<usize, Fault>
 fn set_in(version: u32, sets: &Sets) -> u32
     ensures { result ≡ set_in version sets.now }
 {
-    if 3 <= version {
+    if is_wide(version) {
         sets.wide
     } else if 2 <= version {
         sets.second
@@ -168,26 +174,40 @@ fn set_in(version: u32, sets: &Sets) -> u32
     }
 }
 
-// What a word says.
-fn read_word(head: &Head, kind: &Word, word: &[u8]) -> Result<Option<Value>, Fault>
-    ensures { result ≡ spec.read_word head.now (word_text kind.now) word.now }
+// The number that a word says.
+fn read_number(head: &Head, limits: &Limits, word: &[u8]) -> Result<u32, Fault>
+    ensures { result ≡ number_in limits.now.least (most_in head.now.version limits.now.most limits.now.wide) word.now }
 {
-    match kind {
-        Word::Fixed(_) => Ok(None),
-        Word::Number(limits) => Ok(Some(Value::Number(number_in(
-            word,
-            limits.least,
-            limits.most,
-        )?))),
-        Word::Signed => Ok(Some(Value::Signed(signed_number(word)?))),
-        Word::Sources(sets) => {
-            let set = set_in(head.version, sets);
-            Ok(Some(Value::Number(sources_in(word, set)?)))
-        }
-        Word::Source => Ok(Some(Value::Number(source_in(word, 511)?))),
-        Word::Name(names) => Ok(Some(Value::Name(read_name(names, word)?))),
-        Word::Channel => Ok(Some(Value::Number(number_below(word, head.channels)?))),
-    }
+    number_in(word, limits.least, limits.most_in(head.version))
+}
+
+// The sources that a word says.
+fn read_sources(head: &Head, sets: &Sets, word: &[u8]) -> Result<u32, Fault>
+    ensures { result ≡ sources_in (set_in head.now.version sets.now) word.now }
+{
+    sources_in(word, set_in(head.version, sets))
+}
+
+// What a word of the line with this number says.
+fn read_word(
+    alloc: Global,
+    line: u32,
+    head: &Head,
+    kind: &Word,
+    word: &[u8],
+) -> Result<Option<Value>, ReadStop>
+    ensures { Gives (λ value. value) result (at_line line (spec.read_word head.now (word_text kind.now) word.now)) }
+{
+    Ok(Some(match kind {
+        Word::Fixed(_) => return Ok(None),
+        Word::Number(limits) => Value::Number(at_line(line, read_number(head, limits, word))?),
+        Word::Signed => Value::Signed(at_line(line, signed_number(word))?),
+        Word::Sources(sets) => Value::Number(at_line(line, read_sources(head, sets, word))?),
+        Word::Source => Value::Number(at_line(line, source_in(word, 511))?),
+        Word::Name(names) => Value::Name(at_line(line, read_name(names, word))?),
+        Word::Channel => Value::Number(at_line(line, number_below(word, head.channels))?),
+        Word::Divisors => Value::Divisors(read_divisors(alloc, line, word)?),
+    }))
 }
 
 // A value, where there is one, after others.
@@ -214,25 +234,11 @@ fn read_values(
     let mut values = SmallVec::new(alloc);
     let mut at = 0;
     for word in words {
-        let value = at_line(line, read_word(head, &kinds[at], word))?;
+        let value = read_word(alloc, line, head, &kinds[at], word)?;
         push(&mut values, value)?;
         at += 1;
     }
     Ok(values)
-}
-
-// How many of these lines are of the row at this place.
-pub(crate) fn count(items: &[Item], at: usize) -> usize
-    ensures value { result ≡ length (of_row at items.now) }
-    ensures within { result ≤ length items.now }
-{
-    let mut count = 0;
-    for item in items {
-        if item.row == at {
-            count += 1;
-        }
-    }
-    count
 }
 
 // The channel of a line about one.
@@ -259,18 +265,21 @@ fn place_of(rows: &[Row], form: &Form, values: &[Value]) -> usize
 
 // The place of a line more in the block, where it may stand there with these values.
 fn admit(
+    head: &Head,
     rows: &[Row],
     before: &[Item],
+    tally: &Tally,
     at: usize,
     form: &Form,
     values: &[Value],
 ) -> Result<usize, Fault>
-    requires { length rows.now ≤ 1000 }
-    ensures { seen (λ row. record { row = row; form = at; values = values.now }) result ≡ admitted rows.now before.now (found_text (at, form.now)) values.now }
+    requires rows { length rows.now ≤ 1000 }
+    requires counts { AreCounts tally.now before.now }
+    ensures { seen (λ row. record { row = row; form = at; values = values.now }) result ≡ admitted head.now rows.now before.now (found_text (at, form.now)) values.now }
 {
-    let most = row_at(rows, form.row).most;
+    let most = row_at(rows, form.row).most_in(head.version);
     let place = place_of(rows, form, values);
-    if count(before, place) < most as usize {
+    if tally.count(before, place) < most as usize {
         if form.rule.is_kept(values) {
             Ok(place)
         } else {
@@ -289,9 +298,11 @@ fn read_item(
     table: &Table,
     head: &Head,
     before: &[Item],
+    tally: &Tally,
     line: &Line<'_>,
 ) -> Result<Item, ReadStop>
-    requires { length table.now.rows.now ≤ 1000 }
+    requires rows { length table.now.rows.now ≤ 1000 }
+    requires counts { AreCounts tally.now before.now }
     ensures { Gives (λ item. item) result (at_line line.now.number (item_after (table_text table.now) head.now before.now (line_view line.now))) }
 {
     let number = line.number;
@@ -299,13 +310,29 @@ fn read_item(
     let values = read_values(alloc, number, head, form.words, &line.words)?;
     let row = at_line(
         number,
-        admit(table.rows, before, at, &form, values.as_slice()),
+        admit(
+            head,
+            table.rows,
+            before,
+            tally,
+            at,
+            &form,
+            values.as_slice(),
+        ),
     )?;
     Ok(Item {
         row,
         form: at,
         values,
     })
+}
+
+// How many rows are laid out for a block.
+fn laid_len(channels: u32, rows: &[Row]) -> usize
+    requires { length rows.now ≤ 1000 }
+    ensures { result ≡ (channels + 1) * length rows.now }
+{
+    (channels as usize + 1) * rows.len()
 }
 
 /// What the lines of a block say, or the first line that fails.
@@ -319,8 +346,10 @@ pub(crate) fn read_items(
     ensures { Gives (λ items. items.items) result (items_said (table_text table.now) head.now (map line_view lines.now)) }
 {
     let mut items = Vec::new(alloc);
+    let mut tally = Tally::new(alloc, laid_len(head.channels, table.rows))?;
     for line in lines {
-        let item = read_item(alloc, table, head, &items, line)?;
+        let item = read_item(alloc, table, head, &items, &tally, line)?;
+        tally.add(&items, &item);
         items.push(item)?;
     }
     Ok(items)

@@ -11,6 +11,7 @@ use cm_base::numbers::put_u64;
 use cm_base::transfer::NoMemory;
 use cm_board::board::{BoardDesc, Kind, Sub};
 use cm_board::lines::board_table;
+use cm_board::versions::is_wide;
 use std::alloc::Global;
 
 /// The board part of a text in its one form: the lines of each block in a fixed order, those with
@@ -30,7 +31,7 @@ pub fn print_board(alloc: Global, board: &BoardDesc) -> Result<Vec<u8>, NoMemory
 fn put_version(out: &mut Vec<u8>, version: u32) -> Result<(), NoMemory>
     ensures { OnOk result (out.new.items ≡ out.old.items ++ line_of (version_line version)) }
 {
-    if 3 <= version {
+    if is_wide(version) {
         put_one(out, b"zendrouz", 1)
     } else {
         put_one(out, b"comedi", version)

@@ -7,7 +7,7 @@ ghost use Rattle.cm_base.specs.ReadStop.{Gives};
 ghost use Rattle.cm_base.specs.Reading.{at_line, read_each, seen};
 ghost use Rattle.cm_board_text.specs.Block.{finished};
 ghost use Rattle.cm_base.specs.Parts as parts;
-ghost use Rattle.cm_board_text.specs.BoardPart.{block_at, block_lines, blocks_from, is_between, is_part_end, lines_after, next_block, board_of, any_words, ends_block, head_after, is_name, is_signals, is_wide, name_words, version_of, version_words, wide_words};
+ghost use Rattle.cm_board_text.specs.BoardPart.{block_at, block_lines, blocks_from, is_between, is_part_end, lines_after, next_block, board_of, any_words, ends_block, head_after, begins_wide, is_name, is_signals, name_words, version_of, version_words, wide_words};
 ghost use Rattle.cm_board.specs.Board.{IsSoundBoard, has_channels};
 ghost use Rattle.cm_board.specs.BoardTable.{board_table};
 ghost use Rattle.cm_board_text.specs.Kept.{AreItems};
@@ -103,7 +103,7 @@ fn read_block(
 // What a block says at its end.
 fn finish(alloc: Global, head: &Head, items: &[Item]) -> Result<Result<Sub, Fault>, AllocError>
     requires items { AreItems board_table head.now items.now }
-    requires channels { IsTrue (has_channels head.now.kind head.now.channels) }
+    requires channels { IsTrue (has_channels head.now.version head.now.kind head.now.channels) }
     requires version { 1 ≤ head.now.version }
     ensures { IfOk result (λ sub. sub ≡ finished head.now items.now) }
 {
@@ -256,8 +256,8 @@ fn lines_from<'a, 'b>(lines: &'a [Line<'b>], at: usize) -> &'a [Line<'b>]
 }
 
 // Whether the first of these lines is that of a wider text.
-fn is_wide(lines: &[Line<'_>]) -> bool
-    ensures { result ≡ is_wide (map line_view lines.now) }
+fn begins_wide(lines: &[Line<'_>]) -> bool
+    ensures { result ≡ begins_wide (map line_view lines.now) }
 {
     match lines {
         [] => false,
@@ -270,7 +270,7 @@ fn read_version(lines: &[Line<'_>], end: u32) -> Result<u32, ReadStop>
     ensures value { Gives (λ version. version) result (version_of end (map line_view lines.now)) }
     ensures limit { IfOk result (λ version. (1 ≤ version) × (version ≤ 3)) }
 {
-    if is_wide(lines) {
+    if begins_wide(lines) {
         let (number, words) = first(lines, b"zendrouz", end)?;
         at_line(number, wide_version(words))
     } else {

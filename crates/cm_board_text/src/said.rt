@@ -1,5 +1,6 @@
 // What the lines of a block say of its subdevice.
 ghost use Rattle.std.specs.Prelude.{◌≡◌, ◌<◌, ◌-◌, ◌^◌, ◌+◌, ◌*◌, ◌++◌, ◌∷◌, [], filter, map, IfOk, OnOk};
+ghost use Rattle.std.specs.Option.{option_map};
 ghost use Rattle.cm_board.specs.Board as board;
 ghost use Rattle.cm_board.specs.Said as spec;
 ghost use Rattle.cm_board.specs.Said.{first_of, first_or, sub_of};
@@ -11,17 +12,18 @@ ghost use Rattle.cm_board_text.specs.UncheckedView.{unchecked_text};
 
 use crate::unchecked::Unchecked;
 use cm_board::board::{
-    ChanSet, Fifo, Forbid, LeastScan, ListOrder, ListRules, Munge, Order, Range, Rounding, Way,
+    ChanSet, Divisors, Fifo, Forbid, LeastScan, ListOrder, ListRules, Munge, Order, Range,
+    Rounding, Timers, Way,
 };
 use cm_board::items::Item;
 use cm_board::lines::{
-    BITS, BUFFER, CHAN_BITS, CHAN_MUNGE, CHAN_MUNGE_NONE, CHAN_RANGE, CONVERT, FIFO, FORBID,
+    BITS, BUFFER, CHAN_BITS, CHAN_MUNGE, CHAN_MUNGE_NONE, CHAN_RANGE, CLOCK, CONVERT, FIFO, FORBID,
     HALF_DOWN, HOLDS, INVERT, LINES, LIST, MUNGE, MUNGE_NONE, ORDER, PER_ENTRY, RANGE,
     REPEATED_FORM, ROUNDS, ROW_COUNT, SAME_POLARITY, SAME_RANGE, SAME_REFERENCE, SCAN, SCANS,
     SOURCES, TICK,
 };
 use cm_board::said::{has_line, name_at, number_at, number_of, signed_at};
-use cm_board::table::Head;
+use cm_board::table::{Head, Value};
 use std::alloc::{AllocError, Global};
 
 // The greatest code of so many bits, 24 at most.
@@ -53,28 +55,37 @@ fn munge_said(item: &Item, none: usize, at: usize) -> Munge
     )
 }
 
+// The first line of a row.
+fn first_line(items: &[Item], row: usize) -> Option<&Item>
+    ensures { option_map (λ item. item.now) result ≡ first_of (of_row row items.now) }
+{
+    for item in items {
+        if item.row == row {
+            return Some(item);
+        }
+    }
+    None
+}
+
 // The munge that the line of a row says, where it stands.
 fn munge_of(items: &[Item], row: usize, none: usize, at: usize) -> Option<Munge>
     ensures { result ≡ first_of (map (spec.munge_said none at) (of_row row items.now)) }
 {
-    for item in items {
-        if item.row == row {
-            return Some(munge_said(item, none, at));
-        }
-    }
-    None
+    first_line(items, row).map(|item| munge_said(item, none, at))
+}
+
+// The greatest code that a line says after its channel.
+fn maxdata_said(item: &Item) -> u32
+    ensures { result ≡ spec.greatest (spec.number_at 1 item.now.values) }
+{
+    greatest(number_at(item.values.as_slice(), 1))
 }
 
 // The greatest code that the line of a row says, where it stands.
 fn maxdata_of(items: &[Item], row: usize) -> Option<u32>
     ensures { result ≡ first_of (map (λ item. spec.greatest (spec.number_at 1 item.values)) (of_row row items.now)) }
 {
-    for item in items {
-        if item.row == row {
-            return Some(greatest(number_at(item.values.as_slice(), 1)));
-        }
-    }
-    None
+    first_line(items, row).map(|item| maxdata_said(item))
 }
 
 // The range that a line says from a place on.
@@ -160,12 +171,7 @@ fn fifo_said(item: &Item) -> Fifo
 fn fifo_of(items: &[Item]) -> Option<Fifo>
     ensures { result ≡ first_of (map spec.fifo_said (of_row lines.FIFO items.now)) }
 {
-    for item in items {
-        if item.row == FIFO {
-            return Some(fifo_said(item));
-        }
-    }
-    None
+    first_line(items, FIFO).map(|item| fifo_said(item))
 }
 
 // An order by its number among their names.
@@ -195,12 +201,7 @@ fn order_said(item: &Item) -> ListOrder
 fn order_of(items: &[Item]) -> Option<ListOrder>
     ensures { result ≡ first_of (map spec.order_said (of_row lines.ORDER items.now)) }
 {
-    for item in items {
-        if item.row == ORDER {
-            return Some(order_said(item));
-        }
-    }
-    None
+    first_line(items, ORDER).map(|item| order_said(item))
 }
 
 // What a list keeps.
@@ -226,16 +227,51 @@ fn way_named(name: usize) -> Way
     }
 }
 
+// The way of rounding that a line says.
+fn way_said(item: &Item) -> Way
+    ensures { result ≡ spec.way_named (spec.name_at 0 item.now.values) }
+{
+    way_named(name_at(item.values.as_slice(), 0))
+}
+
 // The way of rounding, where a line says it.
 fn way_of(items: &[Item]) -> Option<Way>
     ensures { result ≡ first_of (map (λ item. spec.way_named (spec.name_at 0 item.values)) (of_row lines.ROUNDS items.now)) }
 {
-    for item in items {
-        if item.row == ROUNDS {
-            return Some(way_named(name_at(item.values.as_slice(), 0)));
+    first_line(items, ROUNDS).map(|item| way_said(item))
+}
+
+// The counters of a line.
+fn counters_in(alloc: Global, item: &Item) -> Result<Vec<Divisors>, AllocError>
+    ensures { IfOk result (λ counters. counters.items ≡ spec.counters_in item.now.values) }
+{
+    let mut counters = Vec::new(alloc);
+    for value in item.values.as_slice() {
+        if let Value::Divisors(divisors) = value {
+            counters.push(divisors.copy(alloc)?)?;
         }
     }
-    None
+    Ok(counters)
+}
+
+// The counters of the board's clock, where it has one.
+fn clock_said(alloc: Global, items: &[Item]) -> Result<Vec<Divisors>, AllocError>
+    ensures { IfOk result (λ clock. clock.items ≡ first_or [] (map (λ item. spec.counters_in item.values) (of_row lines.CLOCK items.now))) }
+{
+    match first_line(items, CLOCK) {
+        Some(item) => counters_in(alloc, item),
+        None => Ok(Vec::new(alloc)),
+    }
+}
+
+// The timers of the board.
+fn timers_said(alloc: Global, items: &[Item]) -> Result<Timers, AllocError>
+    ensures { IfOk result (λ timers. timers ≡ spec.timers_said items.now) }
+{
+    Ok(Timers {
+        tick: number_of(items, TICK, 0, 1),
+        clock: clock_said(alloc, items)?,
+    })
 }
 
 // How times are rounded.
@@ -343,6 +379,7 @@ pub(crate) fn describe_sub(
     let ranges = ranges_of(alloc, &block, RANGE, 0)?;
     let forbidden = forbidden_of(alloc, &block)?;
     let chans = sets_said(alloc, head.channels, &block)?;
+    let timers = timers_said(alloc, &block)?;
     Ok(Unchecked {
         version: head.version,
         kind: head.kind,
@@ -351,7 +388,7 @@ pub(crate) fn describe_sub(
         munge: munge_of_all(&block),
         ranges,
         sources: masks_said(&block),
-        tick: number_of(&block, TICK, 0, 1),
+        timers,
         scan_min: number_of(&block, SCAN, 0, 1),
         scan_max: number_of(&block, SCAN, 1, 1),
         conv_min: number_of(&block, CONVERT, 0, 1),

@@ -1,16 +1,16 @@
 // A subdevice before the rules over its lines are asked.
 ghost use Rattle.std.specs.Prelude.{◌≡◌};
-ghost use Rattle.std.specs.Prelude.{◌<◌};
 ghost use Rattle.cm_base.specs.Source.{allows};
 ghost use Rattle.cm_board_text.specs.Block.{has_line};
-ghost use Rattle.cm_board.specs.Board.{down, swaps, up};
+ghost use Rattle.cm_board.specs.Board.{swaps};
 
 use cm_base::source::{EXT, TIMER};
 use cm_board::board::{
-    ChanSet, Fifo, Forbid, Kind, LeastScan, ListRules, Munge, Range, Rounding, Sub,
+    ChanSet, Fifo, Forbid, Kind, LeastScan, ListRules, Munge, Range, Rounding, Sub, Timers,
 };
 use cm_board::channels::{maxdata_by, munge_by};
 use cm_board::items::Item;
+use cm_board::versions::is_wide;
 
 /// A subdevice whose numbers keep their limits one by one, and maybe not the rules over them.
 #[derive(Drop)]
@@ -22,7 +22,7 @@ pub struct Unchecked {
     pub munge: Munge,
     pub ranges: Vec<Range>,
     pub sources: [u32; 5],
-    pub tick: u32,
+    pub timers: Timers,
     pub scan_min: u32,
     pub scan_max: u32,
     pub conv_min: u32,
@@ -42,17 +42,17 @@ pub struct Unchecked {
 }
 
 impl Unchecked {
-    ghost use Rattle.cm_board_text.specs.Block.{are_on_tick, fits_timed, is_board_ok, is_entries_ok, is_lines_ok, is_list_ok, is_ticks_ok};
-    ghost use Rattle.cm_board.specs.Board.{IsSoundSub, is_bits_ok, is_channel_ok};
+    ghost use Rattle.cm_board_text.specs.Block.{are_on_tick, are_times_ok, fits_timed, is_board_ok, is_entries_ok, is_lines_ok, is_list_ok};
+    ghost use Rattle.cm_board.specs.Board.{AreTimers, IsSoundSub, is_bits_ok, is_channel_ok};
     ghost use Rattle.cm_board_text.specs.UncheckedView.{unchecked_text};
 
     /// The rules over the lines of a block.
     pub(crate) fn is_board_ok(&self) -> bool
-        requires { 0 < self.now.tick }
+        requires { AreTimers self.now.timers }
         ensures { result ≡ is_board_ok (unchecked_text self.now) }
     {
         self.is_bits_ok()
-            && self.is_ticks_ok()
+            && self.are_times_ok()
             && self.is_list_ok()
             && self.is_lines_ok()
             && self.is_entries_ok()
@@ -72,7 +72,7 @@ impl Unchecked {
             munge: self.munge,
             ranges: self.ranges,
             sources,
-            tick: self.tick,
+            timers: self.timers,
             scan_min: self.scan_min,
             scan_max: self.scan_max,
             conv_min: self.conv_min,
@@ -111,50 +111,51 @@ impl Unchecked {
 
     // The limits of times are multiples of the tick.
     fn are_on_tick(&self) -> bool
-        requires { 0 < self.now.tick }
+        requires { AreTimers self.now.timers }
         ensures { result ≡ are_on_tick (unchecked_text self.now) }
     {
-        self.scan_min % self.tick == 0
-            && self.scan_max % self.tick == 0
-            && self.conv_min % self.tick == 0
-            && self.conv_max % self.tick == 0
+        let tick = self.timers.tick;
+        self.scan_min % tick == 0
+            && self.scan_max % tick == 0
+            && self.conv_min % tick == 0
+            && self.conv_max % tick == 0
     }
 
-    // They are that but in the wider texts; there a multiple is between those of a scan, and one
-    // between those of a conversion.
-    fn is_ticks_ok(&self) -> bool
-        requires { 0 < self.now.tick }
-        ensures { result ≡ is_ticks_ok (unchecked_text self.now) }
+    // They are that but in the wider texts; and the board can make a time between those of a scan,
+    // and one between those of a conversion.
+    fn are_times_ok(&self) -> bool
+        requires { AreTimers self.now.timers }
+        ensures { result ≡ are_times_ok (unchecked_text self.now) }
     {
-        (3 <= self.version || self.are_on_tick())
-            && up(self.tick, self.scan_min) <= u64::from(self.scan_max)
-            && up(self.tick, self.conv_min) <= u64::from(self.conv_max)
+        (is_wide(self.version) || self.are_on_tick())
+            && self.timers.up(self.scan_min) <= u64::from(self.scan_max)
+            && self.timers.up(self.conv_min) <= u64::from(self.conv_max)
     }
 
-    // Where scans may be timed, the longest of a time that is on the tick holds so much.
+    // Where scans may be timed, the longest that the board can make holds so much.
     fn fits_timed(&self, time: u128) -> bool
-        requires { 0 < self.now.tick }
+        requires { AreTimers self.now.timers }
         ensures { result ≡ fits_timed (unchecked_text self.now) time }
     {
         let [_, scan_begin, _, _, _] = self.sources;
-        !allows(scan_begin, TIMER) || time <= u128::from(down(self.tick, self.scan_max))
+        !allows(scan_begin, TIMER) || time <= u128::from(self.timers.down(self.scan_max))
     }
 
     // All conversions of the longest list fit into the longest scan, and where both are timed
-    // those on the tick.
+    // those that the board can make.
     fn is_list_ok(&self) -> bool
-        requires { 0 < self.now.tick }
+        requires { AreTimers self.now.timers }
         ensures { result ≡ is_list_ok (unchecked_text self.now) }
     {
         let [_, _, convert, _, _] = self.sources;
-        let on_tick = u128::from(up(self.tick, self.conv_min)) * u128::from(self.list_max);
+        let timed = u128::from(self.timers.up(self.conv_min)) * u128::from(self.list_max);
         u64::from(self.conv_min) * u64::from(self.list_max) <= u64::from(self.scan_max)
-            && (!allows(convert, TIMER) || self.fits_timed(on_tick))
+            && (!allows(convert, TIMER) || self.fits_timed(timed))
     }
 
     // The longest scan has the time that the board needs for the entries of the longest list.
     fn is_entries_ok(&self) -> bool
-        requires { 0 < self.now.tick }
+        requires { AreTimers self.now.timers }
         ensures { result ≡ is_entries_ok (unchecked_text self.now) }
     {
         let time = u128::from(self.least_scan.per_entry) * u128::from(self.list_max);
@@ -186,23 +187,6 @@ fn allows(mask: u32, source: u32) -> bool
     ensures { result ≡ allows mask source }
 {
     source & mask == source
-}
-
-// The least multiple of the tick not below a time.
-fn up(tick: u32, time: u32) -> u64
-    requires { 0 < tick }
-    ensures { result ≡ up tick time }
-{
-    let tick = u64::from(tick);
-    (u64::from(time) + (tick - 1)) / tick * tick
-}
-
-// The greatest multiple of the tick not above it.
-fn down(tick: u32, time: u32) -> u32
-    requires { 0 < tick }
-    ensures { result ≡ down tick time }
-{
-    time / tick * tick
 }
 
 fn swaps(munge: Munge) -> bool

@@ -4,13 +4,13 @@ ghost use Rattle.cm_base.specs.Reading.{seen};
 ghost use Rattle.cm_board.specs.Slots.{default_of, filled, lacks, of_row, slots_from, takes, whole};
 ghost use Rattle.cm_board.specs.Table as table;
 ghost use Rattle.cm_board.specs.Table.{table_text};
+ghost use Rattle.cm_board_text.specs.Counts.{AreCounts};
 ghost use Rattle.cm_board_text.specs.Reading.{completed};
 
-use crate::lines::count;
+use crate::tally::{Tally, tally_of};
 use cm_base::faults::Fault;
 use cm_board::items::Item;
 use cm_board::table::{Absent, Head, Place, Row, Table, Value};
-use smallvec::SmallVec;
 use std::alloc::{AllocError, Global};
 
 // A row that no line has.
@@ -19,6 +19,7 @@ fn no_row() -> Row
 {
     Row {
         most: 0,
+        wide: 0,
         since: 0,
         place: Place::Any,
         absent: Absent::Nothing,
@@ -74,12 +75,13 @@ fn lay_out(alloc: Global, channels: u32, rows: &[Row]) -> Result<Vec<Row>, Alloc
 }
 
 // Whether a block has a line of commands.
-fn takes(rows: &[Row], items: &[Item]) -> bool
+fn takes(rows: &[Row], items: &[Item], tally: &Tally) -> bool
+    requires { AreCounts tally.now items.now }
     ensures { result ≡ takes (slots_from 0 rows.now items.now) }
 {
     let mut at = 0;
     for row in rows {
-        if row.is_command() && count(items, at) != 0 {
+        if row.is_command() && tally.count(items, at) != 0 {
             return true;
         }
         at += 1;
@@ -88,12 +90,13 @@ fn takes(rows: &[Row], items: &[Item]) -> bool
 }
 
 // Whether a needed line is missing.
-fn lacks(rows: &[Row], head: &Head, takes: bool, items: &[Item]) -> bool
+fn lacks(rows: &[Row], head: &Head, takes: bool, items: &[Item], tally: &Tally) -> bool
+    requires { AreCounts tally.now items.now }
     ensures { result ≡ lacks head.now takes (slots_from 0 rows.now items.now) }
 {
     let mut at = 0;
     for row in rows {
-        if row.is_needed(head, takes) && count(items, at) == 0 {
+        if row.is_needed(head, takes) && tally.count(items, at) == 0 {
             return true;
         }
         at += 1;
@@ -107,12 +110,8 @@ fn copy(out: &mut Vec<Item>, alloc: Global, items: &[Item], at: usize) -> Result
 {
     for item in items {
         if item.row == at {
-            let values = SmallVec::from_slice(alloc, item.values.as_slice())?;
-            out.push(Item {
-                row: at,
-                form: item.form,
-                values,
-            })?;
+            let copy = Item::new(alloc, at, item.form, item.values.as_slice())?;
+            out.push(copy)?;
         }
     }
     Ok(())
@@ -127,10 +126,12 @@ fn fill(
     at: usize,
     row: &Row,
     items: &[Item],
+    tally: &Tally,
 ) -> Result<(), AllocError>
+    requires { AreCounts tally.now items.now }
     ensures { OnOk result (out.new.items ≡ out.old.items ++ filled head.now takes (record { at = at; row = row.now; items = of_row at items.now })) }
 {
-    if count(items, at) != 0 {
+    if tally.count(items, at) != 0 {
         copy(out, alloc, items, at)
     } else if row.may_stand(head) && (takes || !row.is_command()) {
         put_default(out, alloc, at, row.absent)
@@ -150,21 +151,12 @@ fn put_default(
 {
     match absent {
         Absent::Stands(form) => {
-            out.push(Item {
-                row: at,
-                form,
-                values: SmallVec::new(alloc),
-            })?;
-            Ok(())
+            let item = Item::new(alloc, at, form, &[])?;
+            Ok(out.push(item)?)
         }
         Absent::Says(form, number) => {
-            let values = SmallVec::from_slice(alloc, &[Value::Number(number)])?;
-            out.push(Item {
-                row: at,
-                form,
-                values,
-            })?;
-            Ok(())
+            let item = Item::new(alloc, at, form, &[Value::Number(number)])?;
+            Ok(out.push(item)?)
         }
         _ => Ok(()),
     }
@@ -177,13 +169,15 @@ fn whole(
     head: &Head,
     takes: bool,
     items: &[Item],
+    tally: &Tally,
 ) -> Result<Vec<Item>, AllocError>
+    requires { AreCounts tally.now items.now }
     ensures { IfOk result (λ all. all.items ≡ whole head.now takes (slots_from 0 rows.now items.now)) }
 {
     let mut all = Vec::new(alloc);
     let mut at = 0;
     for row in rows {
-        fill(&mut all, alloc, head, takes, at, row, items)?;
+        fill(&mut all, alloc, head, takes, at, row, items, tally)?;
         at += 1;
     }
     Ok(all)
@@ -199,10 +193,11 @@ pub(crate) fn complete(
     ensures { IfOk result (λ r. seen (λ all. all.items) r ≡ completed (table_text table.now) head.now items.now) }
 {
     let rows = lay_out(alloc, head.channels, table.rows)?;
-    let takes = takes(&rows, items);
-    if lacks(&rows, head, takes, items) {
+    let tally = tally_of(alloc, rows.len(), items)?;
+    let takes = takes(&rows, items, &tally);
+    if lacks(&rows, head, takes, items, &tally) {
         Ok(Err(Fault::Missing))
     } else {
-        Ok(Ok(whole(alloc, &rows, head, takes, items)?))
+        Ok(Ok(whole(alloc, &rows, head, takes, items, &tally)?))
     }
 }

@@ -2,12 +2,12 @@ use Rattle.std.proofs.Common.{true, false, Ok, ap, sym, ◌∙◌}
 use Rattle.cm_base.specs.Reading.{seen}
 use Rattle.cm_board.specs.Board.{SubText}
 use Rattle.cm_board_text.specs.UncheckedView.{unchecked_text}
-use Rattle.cm_board_text.proofs.BlockEnd.{described, finished_is, sub_sound, tick_kept}
+use Rattle.cm_board_text.proofs.BlockEnd.{described, finished_is, sub_sound, timers_kept}
 use Rattle.cm_board_text.proofs.reading.finish.Goals as goal
 
 pub is_board_ok-requires : goal.is_board_ok-requires
 is_board_ok-requires c =
-    tick_kept c.args.head.now c.args.items.now c.in-Ok.all.items (unchecked_text c.in_ok-sub.sub) c.requires.items
+    timers_kept c.args.head.now c.args.items.now c.in-Ok.all.items (unchecked_text c.in_ok-sub.sub) c.requires.items
     (described _ _ _ _ _ _ c.board_table.ensures c.in_ok-all.ensures (ap (seen (λ all. all.items)) c.in-Ok.is) c.in_ok-sub.ensures)
 
 pub into_sub-requires : goal.into_sub-requires

@@ -11,7 +11,7 @@ returns-clause-few c =
     let s : SubText = c.args.self.now in
     let same : c.ranges_by.result.now ≡ ranges_of s c.args.chan = search rules in
     let sound : IsSoundSub s = search rules in
-    subst (λ (rs : List Range). length rs ≤ 16) (sym same) (channel s c.args.chan sound c.requires).few
+    subst (λ (rs : List Range). length rs ≤ 32) (sym same) (channel s c.args.chan sound c.requires).few
 
 pub returns-clause-proper : goal.returns-clause-proper
 unfolding ranges_of

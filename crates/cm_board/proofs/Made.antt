@@ -1,0 +1,33 @@
+-- The times that timers can make.
+use Rattle.std.proofs.Common.{◌≡◌, ℕ, ◌*◌, ◌/◌, ◌^◌, ◌≤◌, [], sym, ap, ◌∙◌, min, arith}
+use Rattle.std.specs.Int.{div_ceil}
+use Rattle.cm_board.specs.Times.{IsGreatest, IsLeast, TimersText, can_make, down, greatest_to, is_product, least_to, up}
+use Rattle.cm_board.proofs.Searches.{ceil_below, greatest, greatest_always, greatest_multiple, least_always, least_is, least_multiple}
+
+-- down gives the greatest time that can be made not above another, and up the least not below it
+pub down_is : (timers : TimersText) (time : ℕ) → IsGreatest (can_make timers) time (down timers time)
+unfolding down
+down_is timers time = greatest (can_make timers) time
+
+pub up_is : (timers : TimersText) (time : ℕ) → time ≤ 2 ^ 32 → IsLeast (can_make timers) (2 ^ 32) time (up timers time)
+unfolding up
+up_is timers time h = least_is (can_make timers) (2 ^ 32) time h
+
+-- they are the tick times the product that is nearest
+pub down_product : (timers : TimersText) (time : ℕ) → 1 ≤ timers.tick → greatest_to (is_product timers.clock) (time / timers.tick) * timers.tick ≡ down timers time
+unfolding down
+down_product timers time some = greatest_multiple (is_product timers.clock) timers.tick time some
+
+pub up_product : (timers : TimersText) (time : ℕ) → 1 ≤ timers.tick → time ≤ 2 ^ 32 →
+    min (least_to (is_product timers.clock) (div_ceil time timers.tick) * timers.tick) (2 ^ 32) ≡ up timers time
+unfolding up
+up_product timers time some h = least_multiple (is_product timers.clock) timers.tick (2 ^ 32) time some h
+
+-- with no counter the nearest multiples of the tick
+pub down_plain : (tick time : ℕ) → 1 ≤ tick → down (record { tick = tick; clock = [] }) time ≡ time / tick * tick
+down_plain tick time some = sym (down_product (record { tick = tick; clock = [] }) time some) ∙ ap (λ n. n * tick) (sym (greatest_always (time / tick)))
+
+pub up_plain : (tick time : ℕ) → 1 ≤ tick → time ≤ 2 ^ 32 → up (record { tick = tick; clock = [] }) time ≡ min (div_ceil time tick * tick) (2 ^ 32)
+up_plain tick time some h =
+    sym (up_product (record { tick = tick; clock = [] }) time some h)
+    ∙ ap (λ n. min (n * tick) (2 ^ 32)) (sym (least_always (2 ^ 32) (div_ceil time tick) (let le = ceil_below time tick some in omega arith)))

@@ -1,0 +1,60 @@
+-- What a line of a block says, read step by step.
+use Rattle.std.proofs.Common.{◌≡◌, ℕ, ◌+◌, ◌<◌, Bor, List, [], ◌++◌, length, map, drop, get_or, option_to_list, Result, Ok, Err, sym, ap, ap₂, ◌∙◌, subst}
+use Rattle.std.proofs.lemmas.List.{drop_more}
+use Rattle.cm_base.specs.Lines.{LineText}
+use Rattle.cm_base.specs.ReadStop.{Stops}
+use Rattle.cm_base.specs.Reading.{◌>>=◌, at_line, seen}
+use Rattle.cm_base.specs.declared.faults.Fault.{Fault}
+use Rattle.cm_base.specs.declared.faults.ReadStop.{ReadStop}
+use Rattle.cm_base.specs.declared.faults.Refused.{Refused}
+use Rattle.cm_base.specs.declared.faults.ReadStop.TheVariants as stops
+use Rattle.cm_base.proofs.Values.{at_line_ok}
+use Rattle.cm_board.specs.Items.{ItemText}
+use Rattle.cm_board.specs.Table.{TableText, word_text}
+use Rattle.cm_board.specs.declared.table.Form.{Form}
+use Rattle.cm_board.specs.declared.table.Head.{Head}
+use Rattle.cm_board.specs.declared.table.Value.{Value}
+use Rattle.cm_board.specs.declared.table.Word.{Word}
+use Rattle.cm_board_text.specs.FoundView.{found_text}
+use Rattle.cm_board_text.specs.Reading.{Found, admitted, form_of, item_after, read_word, values_after}
+
+refused_is : {X : Type 0} (a b : Refused) → ◌≡◌ {A = Result X Refused} (Err a) (Err b) → a ≡ b
+refused_is a b e = cc
+
+-- what stops a reading stops what goes on after it
+stops_first : {X Y : Type 0} (line : ℕ) (stop : ReadStop) (read : Result X Fault) (next : X → Result Y Fault) → Stops stop (at_line line read) →
+    Stops stop (at_line line (read >>= next))
+stops_first line stops.NoMemory read next h = tt
+stops_first line (stops.Refused r) (Ok x) next h = cc
+stops_first line (stops.Refused r) (Err fault) next h = ap Err (refused_is (record { line = line; cause = fault }) r h)
+
+-- a word isn't read, nor then the words from it on
+pub values_stop : (line : ℕ) (stop : ReadStop) (head : Head) (before : List Value) (kinds : List Word) (words : List (Bor (List ℕ))) (i n : ℕ) (k : Word)
+    (w : Bor (List ℕ)) (all : Result (List Value) Fault) → n ≡ i → n < length kinds → i < length words →
+    all ≡ values_after head before (map word_text (drop n kinds)) (map (λ word. word.now) (drop i words)) →
+    Stops stop (at_line line (read_word head (word_text (get_or kinds n k)) (get_or words i w).now)) → Stops stop (at_line line all)
+values_stop line stop head before kinds words i n k w all same below within e h =
+    let here = ap₂ (λ (ks : List Word) (ws : List (Bor (List ℕ))). values_after head before (map word_text ks) (map (λ word. word.now) ws)) (drop_more kinds n k below) (drop_more words i w within) in
+    subst (λ r. Stops stop (at_line line r)) (sym (e ∙ here))
+    (stops_first line stop (read_word head (word_text (get_or kinds n k)) (get_or words i w).now)
+    (λ v. values_after head (before ++ option_to_list v) (map word_text (drop (n + 1) kinds)) (map (λ word. word.now) (drop (i + 1) words))) h)
+
+-- a line of which the form and the values are read is what is admitted of it
+pub item_read : (t : TableText) (head : Head) (before : List ItemText) (line : LineText) (number : ℕ) (found : Result (ℕ × Form) Fault) (at : ℕ) (form : Form)
+    (words : List (List ℕ)) (values said : List Value) (read : Result ℕ Fault) → seen found_text found ≡ form_of t head line →
+    at_line number found ≡ Ok (at, form) → words ≡ line.words → at_line number (values_after head [] (map word_text form.words.now) words) ≡ Ok values →
+    said ≡ values → seen (λ row. record { row = row; form = at; values = said }) read ≡ admitted head t.rows before (found_text (at, form)) said →
+    item_after t head before line ≡ seen (λ row. record { row = row; form = at; values = values }) read
+item_read t head before line number found at form words values said read e f w v s r =
+    let known : form_of t head line ≡ Ok (found_text (at, form)) = sym e ∙ ap (seen found_text) (at_line_ok number found (at, form) f) in
+    let there = ap (values_after head [] (map word_text form.words.now)) (sym w) ∙ at_line_ok number (values_after head [] (map word_text form.words.now) words) values v in
+    ap (λ r. r >>= λ (f : Found). values_after head [] f.form.words line.words >>= λ values. admitted head t.rows before f values) known
+    ∙ ap (λ r. r >>= λ values. admitted head t.rows before (found_text (at, form)) values) there
+    ∙ sym (subst (λ (vs : List Value). seen (λ row. record { row = row; form = at; values = vs }) read ≡ admitted head t.rows before (found_text (at, form)) vs) s r)
+
+-- and it stops where that does
+pub seen_stops : {X Y : Type 0} (view : X → Y) (line : ℕ) (stop : ReadStop) (read : Result X Fault) → Stops stop (at_line line read) →
+    Stops stop (at_line line (seen view read))
+seen_stops view line stops.NoMemory read h = tt
+seen_stops view line (stops.Refused r) (Ok x) h = cc
+seen_stops view line (stops.Refused r) (Err fault) h = ap Err (refused_is (record { line = line; cause = fault }) r h)

@@ -1,0 +1,13 @@
+use Rattle.std.proofs.Common.{◌≡◌, ◌+◌, length, drop, map, sym, ap, ◌∙◌, arith}
+use Rattle.cm_base.specs.Words.{values}
+use Rattle.cm_base.proofs.Values.{at_line_ok, values_next}
+use Rattle.cm_board_text.specs.DivisorsText.{divisor_of}
+use Rattle.cm_board_text.proofs.divisors.read_numbers.Goals as goal
+
+pub loop-word-preserved : goal.loop-word-preserved
+loop-word-preserved c =
+    let long : c.len.result ≡ length c.loop-word.numbers.items = omega (arith, c.len.ensures) in
+    let said = sym c.divisor_after.ensures ∙ at_line_ok c.args.line c.divisor_after.result c.in_ok-number.number c.in_ok-number.ensures in
+    let next = values_next (λ word. word.now) 32 divisor_of c.loop-word.numbers.items c.args.words.now c.loop-word.word-index c.len.result _ c.in_ok-number.number c.loop-word-test.true long said in
+    c.loop-word.invariant ∙ next
+    ∙ ap (λ ns. values 32 divisor_of ns (map (λ word. word.now) (drop (c.loop-word.word-index + 1) c.args.words.now))) (sym c.in_ok-push.ensures.items)
