@@ -51,33 +51,33 @@ pub three_by_two : (p : ℕ → Bool) (text : List ℕ) (at : ℕ) (rest : List 
 three_by_two p text at rest read e f g =
     sym (three_are_one_and_two p text at (sym e) ∙ ap (λ r. r >>= λ w. Ok (take at text, w.0, w.1)) (sym (g ∙ ap (λ (t : List ℕ). two_words (slice_split p t)) f)))
 
--- the entries of a text after others, and their faults in a line
-abbrev pub entries_after : List ℕ → List ℕ → Result (List ℕ) Fault
-entries_after before text = values 256 entry_of before (slice_split (is_byte 44) text)
+-- the entries of a text after others, of which there may be so many, and their faults in a line
+abbrev pub entries_after : ℕ → List ℕ → List ℕ → Result (List ℕ) Fault
+entries_after most before text = values most entry_of before (slice_split (is_byte 44) text)
 
-pub last_entry : (before text : List ℕ) → position (is_byte 44) text ≡ None → entries_after before text ≡ with_entry before text
-last_entry before text e = ap (values 256 entry_of before) (one_part (is_byte 44) text e)
+pub last_entry : (most : ℕ) (before text : List ℕ) → position (is_byte 44) text ≡ None → entries_after most before text ≡ with_entry most before text
+last_entry most before text e = ap (values most entry_of before) (one_part (is_byte 44) text e)
 
 regroup : (read : Result ℕ Fault) (before : List ℕ) (next : List ℕ → Result (List ℕ) Fault) → (read >>= λ x. next (before ++ x ∷ [])) ≡ ((read >>= λ x. Ok (before ++ x ∷ [])) >>= next)
 regroup (Ok x) before next = refl
 regroup (Err fault) before next = refl
 
-first_entry : (before text : List ℕ) (at : ℕ) → position (is_byte 44) text ≡ Some at → entries_after before text ≡ (with_entry before (take at text) >>= λ list. entries_after list (drop (at + 1) text))
-first_entry before text at e =
-    ap (values 256 entry_of before) (first_part (is_byte 44) text at e)
-    ∙ regroup (up_to 256 entry_of (length before) (take at text)) before (λ list. entries_after list (drop (at + 1) text))
+first_entry : (most : ℕ) (before text : List ℕ) (at : ℕ) → position (is_byte 44) text ≡ Some at → entries_after most before text ≡ (with_entry most before (take at text) >>= λ list. entries_after most list (drop (at + 1) text))
+first_entry most before text at e =
+    ap (values most entry_of before) (first_part (is_byte 44) text at e)
+    ∙ regroup (up_to most entry_of (length before) (take at text)) before (λ list. entries_after most list (drop (at + 1) text))
 
 pub line_ok : {X : Type 0} (line : ℕ) (read : Result X Fault) (x : X) → at_line line read ≡ Ok x → read ≡ Ok x
 line_ok line (Ok y) x h = ap Ok (let e : y ≡ x = cc in e)
 line_ok line (Err fault) x h = cc
 
 -- an entry was read, and the others follow it
-pub entry_more : (line : ℕ) (before text : List ℕ) (at : ℕ) (prefix rest after : List ℕ) → Some at ≡ position (is_byte 44) text → prefix ≡ take at text → rest ≡ drop (at + 1) text → at_line line (with_entry before prefix) ≡ Ok after → entries_after before text ≡ entries_after after rest
-entry_more line before text at prefix rest after e f g h =
-    first_entry before text at (sym e)
-    ∙ ap (λ (t : List ℕ). with_entry before t >>= λ list. entries_after list (drop (at + 1) text)) (sym f)
-    ∙ ap (λ r. r >>= λ list. entries_after list (drop (at + 1) text)) (line_ok line (with_entry before prefix) after h)
-    ∙ ap (entries_after after) (sym g)
+pub entry_more : (most line : ℕ) (before text : List ℕ) (at : ℕ) (prefix rest after : List ℕ) → Some at ≡ position (is_byte 44) text → prefix ≡ take at text → rest ≡ drop (at + 1) text → at_line line (with_entry most before prefix) ≡ Ok after → entries_after most before text ≡ entries_after most after rest
+entry_more most line before text at prefix rest after e f g h =
+    first_entry most before text at (sym e)
+    ∙ ap (λ (t : List ℕ). with_entry most before t >>= λ list. entries_after most list (drop (at + 1) text)) (sym f)
+    ∙ ap (λ r. r >>= λ list. entries_after most list (drop (at + 1) text)) (line_ok line (with_entry most before prefix) after h)
+    ∙ ap (entries_after most after) (sym g)
 
 stops_first : (line : ℕ) (stop : ReadStop) (read : Result (List ℕ) Fault) (next : List ℕ → Result (List ℕ) Fault) → Stops stop (at_line line read) → Stops stop (at_line line (read >>= next))
 stops_first line stops.NoMemory read next h = tt
@@ -85,11 +85,11 @@ stops_first line (stops.Refused r) (Ok x) next h = cc
 stops_first line (stops.Refused r) (Err fault) next h = h
 
 -- an entry was not read, nor then the whole
-pub entry_stops : (line : ℕ) (stop : ReadStop) (all : Result (List ℕ) Fault) (before text : List ℕ) (at : ℕ) (prefix : List ℕ) → all ≡ entries_after before text → Some at ≡ position (is_byte 44) text → prefix ≡ take at text → Stops stop (at_line line (with_entry before prefix)) → Stops stop (at_line line all)
-entry_stops line stop all before text at prefix whole e f h =
-    let same : (with_entry before prefix >>= λ list. entries_after list (drop (at + 1) text)) ≡ all =
-    ap (λ (t : List ℕ). with_entry before t >>= λ list. entries_after list (drop (at + 1) text)) f ∙ sym (first_entry before text at (sym e)) ∙ sym whole in
-    subst (λ r. Stops stop (at_line line r)) same (stops_first line stop (with_entry before prefix) (λ list. entries_after list (drop (at + 1) text)) h)
+pub entry_stops : (most line : ℕ) (stop : ReadStop) (all : Result (List ℕ) Fault) (before text : List ℕ) (at : ℕ) (prefix : List ℕ) → all ≡ entries_after most before text → Some at ≡ position (is_byte 44) text → prefix ≡ take at text → Stops stop (at_line line (with_entry most before prefix)) → Stops stop (at_line line all)
+entry_stops most line stop all before text at prefix whole e f h =
+    let same : (with_entry most before prefix >>= λ list. entries_after most list (drop (at + 1) text)) ≡ all =
+    ap (λ (t : List ℕ). with_entry most before t >>= λ list. entries_after most list (drop (at + 1) text)) f ∙ sym (first_entry most before text at (sym e)) ∙ sym whole in
+    subst (λ r. Stops stop (at_line line r)) same (stops_first line stop (with_entry most before prefix) (λ list. entries_after most list (drop (at + 1) text)) h)
 
-pub last_stops : (line : ℕ) (stop : ReadStop) (all : Result (List ℕ) Fault) (before text : List ℕ) → all ≡ entries_after before text → position (is_byte 44) text ≡ None → Stops stop (at_line line (with_entry before text)) → Stops stop (at_line line all)
-last_stops line stop all before text whole e h = subst (λ r. Stops stop (at_line line r)) (sym (last_entry before text e) ∙ sym whole) h
+pub last_stops : (most line : ℕ) (stop : ReadStop) (all : Result (List ℕ) Fault) (before text : List ℕ) → all ≡ entries_after most before text → position (is_byte 44) text ≡ None → Stops stop (at_line line (with_entry most before text)) → Stops stop (at_line line all)
+last_stops most line stop all before text whole e h = subst (λ r. Stops stop (at_line line r)) (sym (last_entry most before text e) ∙ sym whole) h

@@ -158,16 +158,16 @@ is_entry e = nat_lt e (2 ^ 26)
 small : (e : ℕ) → is_entry e ≡ true → e < 2 ^ 26
 small e h = grind (arith, nat_tests)
 
-room_left : (n more : ℕ) → n + (1 + more) ≤ 256 → nat_lt n 256 ≡ true
-room_left n more h = grind (arith, nat_tests)
+room_left : (most n more : ℕ) → n + (1 + more) ≤ most → nat_lt n most ≡ true
+room_left most n more h = grind (arith, nat_tests)
 
-entries_read : (before list : List ℕ) → length before + length list ≤ 256 → list_all is_entry list ≡ true → values 256 entry_of before (map entry_text list) ≡ Ok (before ++ list)
-entries_read before [] few h = ap (λ (xs : List ℕ). Ok xs) (sym (append-nil before))
-entries_read before (e ∷ list) few h =
+entries_read : (most : ℕ) (before list : List ℕ) → length before + length list ≤ most → list_all is_entry list ≡ true → values most entry_of before (map entry_text list) ≡ Ok (before ++ list)
+entries_read most before [] few h = ap (λ (xs : List ℕ). Ok xs) (sym (append-nil before))
+entries_read most before (e ∷ list) few h =
     let b = both (is_entry e) (list_all is_entry list) h in
     let l = length-append before (e ∷ []) in
-    rw (room_left (length before) (length list) (omega arith), entry_reads e (small e b.0))
-    (entries_read (before ++ e ∷ []) list (omega arith) b.1 ∙ ap (λ (xs : List ℕ). Ok xs) (append_assoc before (e ∷ []) list))
+    rw (room_left most (length before) (length list) (omega arith), entry_reads e (small e b.0))
+    (entries_read most (before ++ e ∷ []) list (omega arith) b.1 ∙ ap (λ (xs : List ℕ). Ok xs) (append_assoc before (e ∷ []) list))
 
 entries_plain : (list : List ℕ) → list_all is_entry list ≡ true → list_all (list_all (from 47)) (map entry_text list) ≡ true
 entries_plain [] h = refl
@@ -197,13 +197,13 @@ no_dash : (text : List ℕ) → list_all is_list_byte text ≡ true → bytes_eq
 no_dash [] h = refl
 no_dash (c ∷ text) h = rw (not_a_dash c (both (is_list_byte c) (list_all is_list_byte text) h).0) refl
 
-pub list_reads : (list : List ℕ) → length list ≤ 256 → list_all is_entry list ≡ true → list_of (list_text list) ≡ Ok list
+pub list_reads : (most : ℕ) (list : List ℕ) → length list ≤ most → list_all is_entry list ≡ true → list_of most (list_text list) ≡ Ok list
 unfolding list_of
-list_reads [] few h = refl
-list_reads (e ∷ list) few h =
+list_reads most [] few h = refl
+list_reads most (e ∷ list) few h =
     let plain = entries_plain (e ∷ list) h in
     let b = both (is_free (is_byte 44) (entry_text e)) (list_all (is_free (is_byte 44)) (map entry_text list)) (all_commaless (map entry_text (e ∷ list)) plain) in
-    rw (no_dash (list_text (e ∷ list)) (list_bytes e list h), split-join (is_byte 44) 44 refl (entry_text e) (map entry_text list) b.0 b.1) (entries_read [] (e ∷ list) (omega arith) h)
+    rw (no_dash (list_text (e ∷ list)) (list_bytes e list h), split-join (is_byte 44) 44 refl (entry_text e) (map entry_text list) b.0 b.1) (entries_read most [] (e ∷ list) (omega arith) h)
 
 join_some : (c : ℕ) (text : List ℕ) (texts : List (List ℕ)) → is_not_empty text ≡ true → is_not_empty (join_with_byte c (text ∷ texts)) ≡ true
 join_some c text [] h = h
@@ -221,8 +221,8 @@ list_word (e ∷ list) h = record {
 blankless : (text : List ℕ) → IsWord text → is_free is_blank text ≡ true
 blankless text w = free_of (from 44) is_blank no_blank text w.class
 
-words_read : (cmd : CmdText) → HasText cmd → words_of (command_text cmd) ≡ command_words cmd
-words_read cmd h =
+words_read : (most : ℕ) (cmd : CmdText) → HasText most cmd → words_of (command_text cmd) ≡ command_words cmd
+words_read most cmd h =
     let sub = decimal_word cmd.sub (let b = h.sub in omega arith) in
     let flags = decimal_word cmd.flags h.flags in
     let start = trigger_word cmd.start h.start in
@@ -239,9 +239,9 @@ words_read cmd h =
     ∙ kept_all is_not_empty (command_words cmd)
     (and_true _ _ sub.some (and_true _ _ flags.some (and_true _ _ start.some (and_true _ _ scan_begin.some (and_true _ _ convert.some (and_true _ _ scan_end.some (and_true _ _ stop.some (and_true _ true list.some refl))))))))
 
-words_say : (cmd : CmdText) → HasText cmd → command_of (command_words cmd) ≡ Ok cmd
+words_say : (most : ℕ) (cmd : CmdText) → HasText most cmd → command_of most (command_words cmd) ≡ Ok cmd
 unfolding head_of
-words_say cmd h =
+words_say most cmd h =
     rw (
       number_in-decimal 255 cmd.sub (let b = h.sub in omega arith) (let b = h.sub in omega arith),
       number_in-decimal 4294967295 cmd.flags h.flags (let b = h.flags in omega arith),
@@ -250,7 +250,7 @@ words_say cmd h =
       trigger_reads cmd.convert h.convert,
       trigger_reads cmd.scan_end h.scan_end,
       trigger_reads cmd.stop h.stop,
-      list_reads cmd.list h.few h.entries,
+      list_reads most cmd.list h.few h.entries,
     ) refl
 
 -- the text of a list that is not empty is its first entry and the others after commas
@@ -259,4 +259,4 @@ list_text_first entry [] = sym (append-nil (entry_text entry))
 list_text_first entry (next ∷ list) = ap (λ (text : List ℕ). entry_text entry ++ (44 ∷ text)) (list_text_first next list)
 
 pub printed_reads : PrintedReads
-printed_reads cmd h = ap command_of (words_read cmd h) ∙ words_say cmd h
+printed_reads most cmd h = ap (command_of most) (words_read most cmd h) ∙ words_say most cmd h

@@ -117,38 +117,38 @@ is_entry entry = nat_lt entry (2 ^ 26)
 entry_test : (entry : ℕ) → entry < 2 ^ 26 → is_entry entry ≡ true
 entry_test entry h = grind (arith, nat_tests)
 
--- what a list can say
-record IsList (list : List ℕ) : Type 0 where
-  pub few : length list ≤ 256
+-- what a list of at most so many entries can say
+record IsList (most : ℕ) (list : List ℕ) : Type 0 where
+  pub few : length list ≤ most
   pub entries : list_all is_entry list ≡ true
 
-has_room : (n : ℕ) (read : List ℕ → Result ℕ Fault) (word : List ℕ) (entry : ℕ) → up_to 256 read n word ≡ Ok entry → (n < 256) × (read word ≡ Ok entry)
-has_room n read word entry = elim (nat_lt n 256) as (λ b. nat_lt n 256 ≡ b → (if b then read word else Err Limit) ≡ Ok entry → (n < 256) × (read word ≡ Ok entry)) [
+has_room : (most n : ℕ) (read : List ℕ → Result ℕ Fault) (word : List ℕ) (entry : ℕ) → up_to most read n word ≡ Ok entry → (n < most) × (read word ≡ Ok entry)
+has_room most n read word entry = elim (nat_lt n most) as (λ b. nat_lt n most ≡ b → (if b then read word else Err Limit) ≡ Ok entry → (n < most) × (read word ≡ Ok entry)) [
   | true ↦ λ e h. (grind (arith, nat_tests), h)
   | false ↦ λ e h. cc
 ] refl
 
-one_more : (before : List ℕ) (entry : ℕ) → IsList before → length before < 256 → entry < 2 ^ 26 → IsList (before ++ entry ∷ [])
-one_more before entry h few small = record {
+one_more : (most : ℕ) (before : List ℕ) (entry : ℕ) → IsList most before → length before < most → entry < 2 ^ 26 → IsList most (before ++ entry ∷ [])
+one_more most before entry h few small = record {
   few = (let l = length-append before (entry ∷ []) in omega arith);
   entries = list_all-append is_entry before (entry ∷ []) ∙ and_true _ _ h.entries (and_true _ true (entry_test entry small) refl);
 }
 
-values_fit : (before : List ℕ) (texts : List (List ℕ)) (list : List ℕ) → IsList before → values 256 entry_of before texts ≡ Ok list → IsList list
-values_fit before [] list h e = subst IsList (let f : before ≡ list = cc in f) h
-values_fit before (text ∷ texts) list h e =
-    let r = after_read (up_to 256 entry_of (length before) text) (λ x. values 256 entry_of (before ++ x ∷ []) texts) list e in
-    let u = has_room (length before) entry_of text r.0 r.1 in
-    values_fit (before ++ r.0 ∷ []) texts list (one_more before r.0 h u.0 (entry_small text r.0 u.1)) r.2
+values_fit : (most : ℕ) (before : List ℕ) (texts : List (List ℕ)) (list : List ℕ) → IsList most before → values most entry_of before texts ≡ Ok list → IsList most list
+values_fit most before [] list h e = subst (IsList most) (let f : before ≡ list = cc in f) h
+values_fit most before (text ∷ texts) list h e =
+    let r = after_read (up_to most entry_of (length before) text) (λ x. values most entry_of (before ++ x ∷ []) texts) list e in
+    let u = has_room most (length before) entry_of text r.0 r.1 in
+    values_fit most (before ++ r.0 ∷ []) texts list (one_more most before r.0 h u.0 (entry_small text r.0 u.1)) r.2
 
-list_fits : (text : List ℕ) (list : List ℕ) → list_of text ≡ Ok list → IsList list
+list_fits : (most : ℕ) (text : List ℕ) (list : List ℕ) → list_of most text ≡ Ok list → IsList most list
 unfolding list_of
-list_fits text list = elim (bytes_eq text (codes "-")) as (λ b. (if b then Ok [] else values 256 entry_of [] (slice_split (is_byte 44) text)) ≡ Ok list → IsList list) [
-  | true ↦ λ h. subst IsList (let e : [] ≡ list = cc in e) none
-  | false ↦ values_fit [] (slice_split (is_byte 44) text) list none
+list_fits most text list = elim (bytes_eq text (codes "-")) as (λ b. (if b then Ok [] else values most entry_of [] (slice_split (is_byte 44) text)) ≡ Ok list → IsList most list) [
+  | true ↦ λ h. subst (IsList most) (let e : [] ≡ list = cc in e) none
+  | false ↦ values_fit most [] (slice_split (is_byte 44) text) list none
 ]
   where
-    none : IsList []
+    none : IsList most []
     none = record { few = omega arith; entries = refl }
 
 -- what a command without its list can say
@@ -185,8 +185,8 @@ head_fits s f t0 t1 t2 t3 t4 cmd h =
       stop = trigger_fits t4 stop.0 stop.1;
     })
 
-whole_fits : (head : CmdText) (list : List ℕ) → IsHead head → IsList list → HasText (record head { list = list })
-whole_fits head list h l = record {
+whole_fits : (most : ℕ) (head : CmdText) (list : List ℕ) → IsHead head → IsList most list → HasText most (record head { list = list })
+whole_fits most head list h l = record {
   sub = h.sub;
   flags = h.flags;
   start = h.start;
@@ -199,21 +199,21 @@ whole_fits head list h l = record {
 }
 
 pub read_has_text : ReadHasText
-read_has_text [] cmd h = cc
-read_has_text (s ∷ []) cmd h = cc
-read_has_text (s ∷ f ∷ []) cmd h = cc
-read_has_text (s ∷ f ∷ t0 ∷ []) cmd h = cc
-read_has_text (s ∷ f ∷ t0 ∷ t1 ∷ []) cmd h = cc
-read_has_text (s ∷ f ∷ t0 ∷ t1 ∷ t2 ∷ []) cmd h = cc
-read_has_text (s ∷ f ∷ t0 ∷ t1 ∷ t2 ∷ t3 ∷ []) cmd h = cc
-read_has_text (s ∷ f ∷ t0 ∷ t1 ∷ t2 ∷ t3 ∷ t4 ∷ []) cmd h = cc
-read_has_text (s ∷ f ∷ t0 ∷ t1 ∷ t2 ∷ t3 ∷ t4 ∷ l ∷ []) cmd h =
-    let head = after_read (head_of s f t0 t1 t2 t3 t4) (λ head. list_of l >>= λ list. Ok (record head { list = list })) cmd h in
-    let list = after_read (list_of l) (λ list. Ok (record head.0 { list = list })) cmd head.2 in
+read_has_text most [] cmd h = cc
+read_has_text most (s ∷ []) cmd h = cc
+read_has_text most (s ∷ f ∷ []) cmd h = cc
+read_has_text most (s ∷ f ∷ t0 ∷ []) cmd h = cc
+read_has_text most (s ∷ f ∷ t0 ∷ t1 ∷ []) cmd h = cc
+read_has_text most (s ∷ f ∷ t0 ∷ t1 ∷ t2 ∷ []) cmd h = cc
+read_has_text most (s ∷ f ∷ t0 ∷ t1 ∷ t2 ∷ t3 ∷ []) cmd h = cc
+read_has_text most (s ∷ f ∷ t0 ∷ t1 ∷ t2 ∷ t3 ∷ t4 ∷ []) cmd h = cc
+read_has_text most (s ∷ f ∷ t0 ∷ t1 ∷ t2 ∷ t3 ∷ t4 ∷ l ∷ []) cmd h =
+    let head = after_read (head_of s f t0 t1 t2 t3 t4) (λ head. list_of most l >>= λ list. Ok (record head { list = list })) cmd h in
+    let list = after_read (list_of most l) (λ list. Ok (record head.0 { list = list })) cmd head.2 in
     let e : record head.0 { list = list.0 } ≡ cmd = (let g = list.2 in cc) in
-    subst HasText e (whole_fits head.0 list.0 (head_fits s f t0 t1 t2 t3 t4 head.0 head.1) (list_fits l list.0 list.1))
-read_has_text (s ∷ f ∷ t0 ∷ t1 ∷ t2 ∷ t3 ∷ t4 ∷ l ∷ x ∷ more) cmd h = cc
+    subst (HasText most) e (whole_fits most head.0 list.0 (head_fits s f t0 t1 t2 t3 t4 head.0 head.1) (list_fits most l list.0 list.1))
+read_has_text most (s ∷ f ∷ t0 ∷ t1 ∷ t2 ∷ t3 ∷ t4 ∷ l ∷ x ∷ more) cmd h = cc
 
-pub gives_text : (line : ℕ) (words : List (List ℕ)) (result : Result CmdText ReadStop) → Gives (λ cmd. cmd) result (at_line line (command_of words)) → IfOk result (λ cmd. HasText cmd)
-gives_text line words (Ok cmd) h = read_has_text words cmd (line_ok line (command_of words) cmd h)
-gives_text line words (Err stop) h = tt
+pub gives_text : (most line : ℕ) (words : List (List ℕ)) (result : Result CmdText ReadStop) → Gives (λ cmd. cmd) result (at_line line (command_of most words)) → IfOk result (λ cmd. HasText most cmd)
+gives_text most line words (Ok cmd) h = read_has_text most words cmd (line_ok line (command_of most words) cmd h)
+gives_text most line words (Err stop) h = tt

@@ -46,11 +46,11 @@ head_of s f t0 t1 t2 t3 t4 = do
   stop ← trigger_of t4
   Ok (record { sub = sub; flags = flags; start = start; scan_begin = scan_begin; convert = convert; scan_end = scan_end; stop = stop; list = [] })
 
--- a command with the list that a word says
-abbrev pub with_list : Result CmdText Fault → List ℕ → Result CmdText Fault
-with_list head word = head >>= λ cmd. list_of word >>= λ list. Ok (record cmd { list = list })
+-- a command with the list of at most so many entries that a word says
+abbrev pub with_list : ℕ → Result CmdText Fault → List ℕ → Result CmdText Fault
+with_list most head word = head >>= λ cmd. list_of most word >>= λ list. Ok (record cmd { list = list })
 
--- the command that eight words say
-abbrev pub command_of : List (List ℕ) → Result CmdText Fault
-command_of (s ∷ f ∷ t0 ∷ t1 ∷ t2 ∷ t3 ∷ t4 ∷ l ∷ []) = with_list (head_of s f t0 t1 t2 t3 t4) l
-command_of words = Err BadLine
+-- the command that eight words say, with at most so many entries
+abbrev pub command_of : ℕ → List (List ℕ) → Result CmdText Fault
+command_of most (s ∷ f ∷ t0 ∷ t1 ∷ t2 ∷ t3 ∷ t4 ∷ l ∷ []) = with_list most (head_of s f t0 t1 t2 t3 t4) l
+command_of most words = Err BadLine

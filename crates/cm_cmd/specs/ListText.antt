@@ -37,10 +37,10 @@ aref_of word = keyword arefs word
 unfoldable pub entry_of : List ℕ → Result ℕ Fault
 entry_of text = three pack (number_in 0 65535) (number_in 0 255) aref_of (slice_split (is_byte 47) text)
 
--- a list with the entry of this text, of which there may be 256
-abbrev pub with_entry : List ℕ → List ℕ → Result (List ℕ) Fault
-with_entry list text = up_to 256 entry_of (length list) text >>= λ entry. Ok (list ++ entry ∷ [])
+-- a list with the entry of this text, of which there may be so many
+abbrev pub with_entry : ℕ → List ℕ → List ℕ → Result (List ℕ) Fault
+with_entry most list text = up_to most entry_of (length list) text >>= λ entry. Ok (list ++ entry ∷ [])
 
--- at most 256 entries with commas between them, and a dash for none
-unfoldable pub list_of : List ℕ → Result (List ℕ) Fault
-list_of text = if bytes_eq text (codes "-") then Ok [] else values 256 entry_of [] (slice_split (is_byte 44) text)
+-- at most so many entries with commas between them, and a dash for none
+unfoldable pub list_of : ℕ → List ℕ → Result (List ℕ) Fault
+list_of most text = if bytes_eq text (codes "-") then Ok [] else values most entry_of [] (slice_split (is_byte 44) text)

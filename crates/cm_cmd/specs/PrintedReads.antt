@@ -11,8 +11,8 @@ pub record IsTrigger (t : Trig) : Type 0 where
   pub source : t.src < 2 ^ 9
   pub arg : t.arg < 2 ^ 32
 
--- the commands that a text can say
-pub record HasText (cmd : CmdText) : Type 0 where
+-- the commands that a text with at most so many entries can say
+pub record HasText (most : ℕ) (cmd : CmdText) : Type 0 where
   pub sub : cmd.sub < 256
   pub flags : cmd.flags < 2 ^ 32
   pub start : IsTrigger cmd.start
@@ -21,12 +21,12 @@ pub record HasText (cmd : CmdText) : Type 0 where
   pub scan_end : IsTrigger cmd.scan_end
   pub stop : IsTrigger cmd.stop
   pub entries : IsTrue (list_all (λ entry. nat_lt entry (2 ^ 26)) cmd.list)
-  pub few : length cmd.list ≤ 256
+  pub few : length cmd.list ≤ most
 
 -- the printed words of such a command say the command
 abbrev pub PrintedReads : Type 0
-PrintedReads = (cmd : CmdText) → HasText cmd → command_of (words_of (command_text cmd)) ≡ Ok cmd
+PrintedReads = (most : ℕ) (cmd : CmdText) → HasText most cmd → command_of most (words_of (command_text cmd)) ≡ Ok cmd
 
 -- words that say a command say one that a text can say
 abbrev pub ReadHasText : Type 0
-ReadHasText = (words : List (List ℕ)) (cmd : CmdText) → command_of words ≡ Ok cmd → HasText cmd
+ReadHasText = (most : ℕ) (words : List (List ℕ)) (cmd : CmdText) → command_of most words ≡ Ok cmd → HasText most cmd

@@ -1,5 +1,5 @@
 // Commands, written as text.
-ghost use Rattle.std.specs.Prelude.{◌≡◌, ◌++◌, ◌∷◌, Ok, IfOk, OnOk};
+ghost use Rattle.std.specs.Prelude.{ℕ, ◌≡◌, ◌++◌, ◌∷◌, Ok, IfOk, OnOk};
 ghost use Rattle.std.specs.Fmt.{decimal};
 ghost use Rattle.std.specs.List.{flat_map};
 ghost use Rattle.cm_base.specs.Lines.{words_of};
@@ -15,11 +15,11 @@ use cm_base::transfer::NoMemory;
 use std::alloc::Global;
 
 /// The text of a command: its eight words with one space between two. Where the subdevice is below
-/// 256, the sources are some of the nine, each entry has 26 bits and there are at most 256 entries,
-/// the text is read as the same command.
+/// 256, the sources are some of the nine, each entry has 26 bits and there aren't more entries than
+/// may be read, the text is read as the same command.
 pub fn print_cmd(alloc: Global, cmd: &Cmd) -> Result<Vec<u8>, NoMemory>
     ensures text { IfOk result (λ text. text.items ≡ command_text cmd.now) }
-    ensures reads { IfOk result (λ text. HasText cmd.now → command_of (words_of text.items) ≡ Ok cmd.now) }
+    ensures reads { IfOk result (λ text. (most : ℕ) → HasText most cmd.now → command_of most (words_of text.items) ≡ Ok cmd.now) }
 {
     let mut out = Vec::new(alloc);
     put_cmd(&mut out, cmd)?;

@@ -17,17 +17,30 @@ use cm_base::lines::Line;
 use cm_base::words::{at_line, number_in, source_of};
 use std::alloc::Global;
 
-// The longest channel list of a text.
+// The longest channel list where the board has no limit of its own.
 const MOST_ENTRIES: usize = 256;
 
 /// The command that the words of a line say, from word `from` (counted from 0) to the line's end:
-/// subdevice, flags, five triggers and channel list. It is refused where there are not eight words,
-/// and at the first word that does not say its part.
+/// subdevice, flags, five triggers and channel list, of at most 256 entries. It is refused where
+/// there are not eight words, and at the first word that does not say its part.
 pub fn read_cmd(alloc: Global, line: &Line<'_>, from: usize) -> Result<Cmd, ReadStop>
-    ensures read { Gives (λ cmd. cmd) result (at_line line.now.number (spec.command_of (drop from (line_view line.now).words))) }
-    ensures text { IfOk result (λ cmd. HasText cmd) }
+    ensures read { Gives (λ cmd. cmd) result (at_line line.now.number (spec.command_of 256 (drop from (line_view line.now).words))) }
+    ensures text { IfOk result (λ cmd. HasText 256 cmd) }
 {
-    read_words(alloc, line.number, words_from(line, from))
+    read_cmd_up_to(alloc, line, from, MOST_ENTRIES)
+}
+
+/// The same with a list of at most `most` entries.
+pub fn read_cmd_up_to(
+    alloc: Global,
+    line: &Line<'_>,
+    from: usize,
+    most: usize,
+) -> Result<Cmd, ReadStop>
+    ensures read { Gives (λ cmd. cmd) result (at_line line.now.number (spec.command_of most (drop from (line_view line.now).words))) }
+    ensures text { IfOk result (λ cmd. HasText most cmd) }
+{
+    read_words(alloc, line.number, words_from(line, from), most)
 }
 
 // The words of a line from this one on.
@@ -39,15 +52,15 @@ fn words_from<'a>(line: &'a Line<'_>, from: usize) -> &'a [&'a [u8]]
 }
 
 // The command that eight words say.
-fn read_words(alloc: Global, line: u32, words: &[&[u8]]) -> Result<Cmd, ReadStop>
-    ensures { Gives (λ cmd. cmd) result (at_line line (spec.command_of (map (λ word. word.now) words.now))) }
+fn read_words(alloc: Global, line: u32, words: &[&[u8]], most: usize) -> Result<Cmd, ReadStop>
+    ensures { Gives (λ cmd. cmd) result (at_line line (spec.command_of most (map (λ word. word.now) words.now))) }
 {
     match words {
         [sub, flags, start, scan_begin, convert, scan_end, stop, list] => {
             let head = read_head(
                 alloc, sub, flags, start, scan_begin, convert, scan_end, stop,
             );
-            read_with_list(alloc, line, head, list)
+            read_with_list(alloc, line, head, list, most)
         }
         _ => at_line(line, Err(Fault::BadLine)),
     }
@@ -59,11 +72,12 @@ fn read_with_list(
     line: u32,
     head: Result<Cmd, Fault>,
     list: &[u8],
+    most: usize,
 ) -> Result<Cmd, ReadStop>
-    ensures { Gives (λ cmd. cmd) result (at_line line (spec.with_list head list.now)) }
+    ensures { Gives (λ cmd. cmd) result (at_line line (spec.with_list most head list.now)) }
 {
     let mut cmd = at_line(line, head)?;
-    cmd.list = read_list(alloc, line, list)?;
+    cmd.list = read_list(alloc, line, list, most)?;
     Ok(cmd)
 }
 
@@ -106,44 +120,44 @@ fn read_trigger(text: &[u8]) -> Result<Trig, Fault>
 
 // The entries with commas between them, and a dash for none.
 #[tactic(auto, unfolding(crate::specs::ListText::list_of))]
-fn read_list(alloc: Global, line: u32, text: &[u8]) -> Result<Vec<u32>, ReadStop>
-    ensures { Gives (λ list. list.items) result (at_line line (lists.list_of text.now)) }
+fn read_list(alloc: Global, line: u32, text: &[u8], most: usize) -> Result<Vec<u32>, ReadStop>
+    ensures { Gives (λ list. list.items) result (at_line line (lists.list_of most text.now)) }
 {
     if text == b"-".as_slice() {
         Ok(Vec::new(alloc))
     } else {
-        read_entries(alloc, line, text)
+        read_entries(alloc, line, text, most)
     }
 }
 
 // The entries with commas between them.
-fn read_entries(alloc: Global, line: u32, text: &[u8]) -> Result<Vec<u32>, ReadStop>
-    ensures { Gives (λ list. list.items) result (at_line line (values 256 lists.entry_of [] (slice_split (lists.is_byte 44) text.now))) }
+fn read_entries(alloc: Global, line: u32, text: &[u8], most: usize) -> Result<Vec<u32>, ReadStop>
+    ensures { Gives (λ list. list.items) result (at_line line (values most lists.entry_of [] (slice_split (lists.is_byte 44) text.now))) }
 {
     let mut list = Vec::new(alloc);
     let mut rest = text;
     while let Some(at) = first_place(rest, b',') {
-        push_entry(&mut list, line, before(rest, at))?;
+        push_entry(&mut list, line, before(rest, at), most)?;
         rest = after(rest, at);
     }
-    push_entry(&mut list, line, rest)?;
+    push_entry(&mut list, line, rest, most)?;
     Ok(list)
 }
 
 // Adds the entry that a text says, where there is room for one more.
-fn push_entry(list: &mut Vec<u32>, line: u32, text: &[u8]) -> Result<(), ReadStop>
-    ensures { Gives (λ done. list.new.items) result (at_line line (lists.with_entry list.old.items text.now)) }
+fn push_entry(list: &mut Vec<u32>, line: u32, text: &[u8], most: usize) -> Result<(), ReadStop>
+    ensures { Gives (λ done. list.new.items) result (at_line line (lists.with_entry most list.old.items text.now)) }
 {
-    let entry = at_line(line, read_next_entry(list.len(), text))?;
+    let entry = at_line(line, read_next_entry(list.len(), text, most))?;
     list.push(entry)?;
     Ok(())
 }
 
 // The entry that a text says after others.
-fn read_next_entry(before: usize, text: &[u8]) -> Result<u32, Fault>
-    ensures { result ≡ up_to 256 lists.entry_of before text.now }
+fn read_next_entry(before: usize, text: &[u8], most: usize) -> Result<u32, Fault>
+    ensures { result ≡ up_to most lists.entry_of before text.now }
 {
-    if before < MOST_ENTRIES {
+    if before < most {
         read_entry(text)
     } else {
         Err(Fault::Limit)

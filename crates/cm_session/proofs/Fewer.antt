@@ -10,6 +10,7 @@ use Rattle.cm_base.specs.declared.faults.Fault.TheVariants.{BadLine, Unknown}
 use Rattle.cm_base.proofs.Values.{at_line_ok}
 use Rattle.cm_session.specs.Law.{InsnReadsTheSame}
 use Rattle.cm_session.specs.SessionPart.{after_time, command_lines, insn_lines, last_time, line_after, line_words, lines_by}
+use Rattle.cm_signal.specs.declared.bounds.Bounds.{Bounds}
 use Rattle.cm_session.specs.declared.op.SessionLine.{SessionLine}
 
 -- a key that is found in a table is found where more stand after it
@@ -29,22 +30,22 @@ both_steps : {E A B : Type 0} (r s : Result A E) (f g : A → Result B E) (x : B
 both_steps (Ok a) s f g x h k e = ap (λ r. r >>= g) (h a refl) ∙ k a e
 both_steps (Err d) s f g x h k e = cc
 
-words_same : (horizon : ℕ) (words : List (List ℕ)) (x : SessionLine) → line_words true horizon words ≡ Ok x → line_words false horizon words ≡ Ok x
-words_same horizon [] x e = cc
-words_same horizon (time ∷ []) x e = cc
-words_same horizon (time ∷ key ∷ words) x e =
-    both_steps (keyword (lines_by true) key) (keyword (lines_by false) key) (λ form. form horizon time words) (λ form. form horizon time words) x
+words_same : (bounds : Bounds) (words : List (List ℕ)) (x : SessionLine) → line_words true bounds words ≡ Ok x → line_words false bounds words ≡ Ok x
+words_same bounds [] x e = cc
+words_same bounds (time ∷ []) x e = cc
+words_same bounds (time ∷ key ∷ words) x e =
+    both_steps (keyword (lines_by true) key) (keyword (lines_by false) key) (λ form. form bounds time words) (λ form. form bounds time words) x
     (λ form. listed_more insn_lines command_lines key form) (λ form e. e) e
 
-line_same : (horizon before : ℕ) (line : LineText) (x : SessionLine) → line_after true horizon before line ≡ Ok x → line_after false horizon before line ≡ Ok x
-line_same horizon before line x = at line.bad
+line_same : (bounds : Bounds) (before : ℕ) (line : LineText) (x : SessionLine) → line_after true bounds before line ≡ Ok x → line_after false bounds before line ≡ Ok x
+line_same bounds before line x = at line.bad
   where
     kind : Bool → Bool → Result SessionLine Fault
-    kind only bad = if bad then Err BadLine else line_words only horizon line.words >>= λ next. after_time before next
+    kind only bad = if bad then Err BadLine else line_words only bounds line.words >>= λ next. after_time before next
 
     at : (bad : Bool) → kind true bad ≡ Ok x → kind false bad ≡ Ok x
     at true e = e
-    at false e = both_steps (line_words true horizon line.words) (line_words false horizon line.words) (λ next. after_time before next) (λ next. after_time before next) x (words_same horizon line.words) (λ next e. e) e
+    at false e = both_steps (line_words true bounds line.words) (line_words false bounds line.words) (λ next. after_time before next) (λ next. after_time before next) x (words_same bounds line.words) (λ next e. e) e
 
 -- lines that are read the same one by one are read the same together
 each_same : {X : Type 0} (read other : List X → LineText → Result X Fault) → ((before : List X) (line : LineText) (x : X) → read before line ≡ Ok x → other before line ≡ Ok x) →
@@ -56,5 +57,5 @@ each_same read other h before (line ∷ rest) all e =
     (λ x k. each_same read other h (before ++ x ∷ []) rest all k) e
 
 pub insn_reads_the_same : InsnReadsTheSame
-insn_reads_the_same horizon lines all e =
-    each_same (λ before line. line_after true horizon (last_time before) line) (λ before line. line_after false horizon (last_time before) line) (λ before line x k. line_same horizon (last_time before) line x k) [] lines all e
+insn_reads_the_same bounds lines all e =
+    each_same (λ before line. line_after true bounds (last_time before) line) (λ before line. line_after false bounds (last_time before) line) (λ before line x k. line_same bounds (last_time before) line x k) [] lines all e

@@ -7,7 +7,7 @@ use Rattle.cm_session.specs.declared.op.SessionLine.{SessionLine}
 
 -- the limits on what a line asks, of which the session's work needs those on lists and on reads
 abbrev pub HasLimits : Op → Type 0
-HasLimits (ops.Cmd cmd) = HasText cmd
+HasLimits (ops.Cmd cmd) = HasText 1024 cmd
 HasLimits (ops.Read sub n) = n ≤ 65536
 HasLimits (ops.Map sub n) = n ≤ 65536
 HasLimits (ops.Write sub values) = length values ≤ 1024

@@ -8,6 +8,7 @@ use Rattle.cm_base.specs.declared.faults.Fault.TheVariants.{Bad, BadLine}
 use Rattle.cm_base.specs.declared.faults.Refused.{Refused}
 use Rattle.cm_session.specs.Forms.{LineForm, on_file, on_sub, with_command, with_number, with_values}
 use Rattle.cm_session.specs.Instructions.{on_instruction}
+use Rattle.cm_signal.specs.declared.bounds.Bounds.{Bounds}
 use Rattle.cm_session.specs.declared.op.Op.TheVariants as ops
 use Rattle.cm_session.specs.declared.op.SessionLine.{SessionLine}
 
@@ -36,21 +37,21 @@ lines_by only_insn = insn_lines ++ (if only_insn then [] else command_lines)
 
 -- what the words after a key ask, by the forms of a table
 abbrev pub keyed : List (List ℕ × LineForm) → List ℕ → LineForm
-keyed forms key horizon time words = keyword forms key >>= λ form. form horizon time words
+keyed forms key bounds time words = keyword forms key >>= λ form. form bounds time words
 
 -- what the words of a line ask: its time, its key and those after them
-abbrev pub line_words : Bool → ℕ → List (List ℕ) → Result SessionLine Fault
-line_words only_insn horizon (time ∷ key ∷ words) = keyed (lines_by only_insn) key horizon time words
-line_words only_insn horizon words = Err BadLine
+abbrev pub line_words : Bool → Bounds → List (List ℕ) → Result SessionLine Fault
+line_words only_insn bounds (time ∷ key ∷ words) = keyed (lines_by only_insn) key bounds time words
+line_words only_insn bounds words = Err BadLine
 
 -- a line after one of this time, which it may not be below
 abbrev pub after_time : ℕ → SessionLine → Result SessionLine Fault
 after_time before line = if nat_le before line.time then Ok line else Err Bad
 
 -- what a line asks
-abbrev pub line_after : Bool → ℕ → ℕ → LineText → Result SessionLine Fault
-line_after only_insn horizon before line =
-    if line.bad then Err BadLine else line_words only_insn horizon line.words >>= λ next. after_time before next
+abbrev pub line_after : Bool → Bounds → ℕ → LineText → Result SessionLine Fault
+line_after only_insn bounds before line =
+    if line.bad then Err BadLine else line_words only_insn bounds line.words >>= λ next. after_time before next
 
 -- the time of the last line, and 0 before the first
 abbrev pub last_time : List SessionLine → ℕ
@@ -58,6 +59,6 @@ last_time [] = 0
 last_time (line ∷ []) = line.time
 last_time (line ∷ next ∷ more) = last_time (next ∷ more)
 
--- the lines of a session, of instructions alone or of all kinds, up to a horizon
-abbrev pub session_of : Bool → ℕ → List LineText → Result (List SessionLine) Refused
-session_of only_insn horizon lines = read_each (λ before line. line_after only_insn horizon (last_time before) line) [] lines
+-- the lines of a session, of instructions alone or of all kinds, within these bounds
+abbrev pub session_of : Bool → Bounds → List LineText → Result (List SessionLine) Refused
+session_of only_insn bounds lines = read_each (λ before line. line_after only_insn bounds (last_time before) line) [] lines

@@ -12,15 +12,16 @@ use cm_base::faults::{Fault, ReadStop};
 use cm_base::lines::Line;
 use cm_base::lists::Nums;
 use cm_base::words::{at_line, number_in, numbers, one, three, time_in, two, two_and_more};
-use cm_cmd::reading::read_cmd;
+use cm_board::versions::most_entries;
+use cm_cmd::reading::read_cmd_up_to;
+use cm_signal::bounds::Bounds;
 use std::alloc::Global;
 
-/// How a line starts: its number in the text, the horizon up to which times go, and the word of its
-/// time.
+/// How a line starts: its number in the text, its bounds, and the word of its time.
 #[derive(Clone, Copy)]
 pub struct Start<'a> {
     pub number: u32,
-    pub horizon: u64,
+    pub bounds: Bounds,
     pub time: &'a [u8],
 }
 
@@ -46,18 +47,18 @@ impl Head {
 
 // The time and the file.
 fn read_head(start: &Start<'_>, file: &[u8]) -> Result<Head, Fault>
-    ensures value { result ≡ spec.head_of start.now.horizon start.now.time.now file.now }
-    ensures within { IfOk result (λ head. head.time ≤ start.now.horizon) }
+    ensures value { result ≡ spec.head_of start.now.bounds start.now.time.now file.now }
+    ensures within { IfOk result (λ head. head.time ≤ start.now.bounds.horizon) }
 {
-    let time = time_in(start.time, 0, start.horizon)?;
+    let time = time_in(start.time, 0, start.bounds.horizon)?;
     let file = number_in(file, 0, 15)?;
     Ok(Head { time, file })
 }
 
 /// The time, the file and the subdevice.
 pub fn place(start: &Start<'_>, file: &[u8], sub: &[u8]) -> Result<(Head, u32), Fault>
-    ensures value { result ≡ spec.place_of start.now.horizon start.now.time.now file.now sub.now }
-    ensures within { IfOk result (λ place. place.0.time ≤ start.now.horizon) }
+    ensures value { result ≡ spec.place_of start.now.bounds start.now.time.now file.now sub.now }
+    ensures within { IfOk result (λ place. place.0.time ≤ start.now.bounds.horizon) }
 {
     let head = read_head(start, file)?;
     let sub = number_in(sub, 0, 255)?;
@@ -66,8 +67,8 @@ pub fn place(start: &Start<'_>, file: &[u8], sub: &[u8]) -> Result<(Head, u32), 
 
 /// The file of `T KEY F`.
 pub(crate) fn file_words(start: &Start<'_>, words: &[&[u8]]) -> Result<Head, Fault>
-    ensures value { result ≡ spec.file_words start.now.horizon start.now.time.now (map (λ word. word.now) words.now) }
-    ensures within { IfOk result (λ head. head.time ≤ start.now.horizon) }
+    ensures value { result ≡ spec.file_words start.now.bounds start.now.time.now (map (λ word. word.now) words.now) }
+    ensures within { IfOk result (λ head. head.time ≤ start.now.bounds.horizon) }
 {
     let file = one(words)?;
     read_head(start, file)
@@ -75,8 +76,8 @@ pub(crate) fn file_words(start: &Start<'_>, words: &[&[u8]]) -> Result<Head, Fau
 
 /// The file and the subdevice of `T KEY F SUB`.
 pub fn sub_words(start: &Start<'_>, words: &[&[u8]]) -> Result<(Head, u32), Fault>
-    ensures value { result ≡ spec.sub_words start.now.horizon start.now.time.now (map (λ word. word.now) words.now) }
-    ensures within { IfOk result (λ place. place.0.time ≤ start.now.horizon) }
+    ensures value { result ≡ spec.sub_words start.now.bounds start.now.time.now (map (λ word. word.now) words.now) }
+    ensures within { IfOk result (λ place. place.0.time ≤ start.now.bounds.horizon) }
 {
     let (file, sub) = two(words)?;
     place(start, file, sub)
@@ -88,8 +89,8 @@ pub fn number_words(
     words: &[&[u8]],
     most: u32,
 ) -> Result<(Head, u32, u32), Fault>
-    ensures value { result ≡ spec.number_words most start.now.horizon start.now.time.now (map (λ word. word.now) words.now) }
-    ensures within { IfOk result (λ w. (w.0.time ≤ start.now.horizon) × (w.2 ≤ most)) }
+    ensures value { result ≡ spec.number_words most start.now.bounds start.now.time.now (map (λ word. word.now) words.now) }
+    ensures within { IfOk result (λ w. (w.0.time ≤ start.now.bounds.horizon) × (w.2 ≤ most)) }
 {
     let (file, sub, number) = three(words)?;
     let (head, sub) = place(start, file, sub)?;
@@ -103,8 +104,8 @@ pub(crate) fn values_words(
     start: &Start<'_>,
     words: &[&[u8]],
 ) -> Result<(Head, u32, Nums), ReadStop>
-    ensures value { Gives (λ w. (w.0, w.1, w.2)) result (at_line start.now.number (spec.values_words start.now.horizon start.now.time.now (map (λ word. word.now) words.now))) }
-    ensures within { IfOk result (λ w. (w.0.time ≤ start.now.horizon) × (length w.2 ≤ 1024)) }
+    ensures value { Gives (λ w. (w.0, w.1, w.2)) result (at_line start.now.number (spec.values_words start.now.bounds start.now.time.now (map (λ word. word.now) words.now))) }
+    ensures within { IfOk result (λ w. (w.0.time ≤ start.now.bounds.horizon) × (length w.2 ≤ 1024)) }
 {
     let (file, sub, values) = at_line(start.number, two_and_more(words))?;
     let (head, sub) = at_line(start.number, place(start, file, sub))?;
@@ -146,11 +147,11 @@ pub(crate) fn command_words(
 ) -> Result<(Head, BoxedCmd), ReadStop>
     requires number { start.now.number ≡ line.now.number }
     requires words { drop 2 (line_view line.now).words ≡ map (λ word. word.now) words.now }
-    ensures value { Gives (λ w. (w.0, w.1)) result (at_line start.now.number (spec.command_words start.now.horizon start.now.time.now (map (λ word. word.now) words.now))) }
-    ensures within { IfOk result (λ w. (w.0.time ≤ start.now.horizon) × HasText w.1) }
+    ensures value { Gives (λ w. (w.0, w.1)) result (at_line start.now.number (spec.command_words start.now.bounds start.now.time.now (map (λ word. word.now) words.now))) }
+    ensures within { IfOk result (λ w. (w.0.time ≤ start.now.bounds.horizon) × HasText 1024 w.1) }
 {
     let file = at_line(start.number, file_word(words))?;
     let head = at_line(start.number, read_head(start, file))?;
-    let cmd = read_cmd(alloc, line, 3)?;
+    let cmd = read_cmd_up_to(alloc, line, 3, most_entries(start.bounds.version))?;
     Ok((head, BoxedCmd::new(alloc, cmd)?))
 }

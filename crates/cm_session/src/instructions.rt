@@ -19,8 +19,8 @@ pub(crate) fn instruction(
     start: &Start<'_>,
     words: &[&[u8]],
 ) -> Result<SessionLine, ReadStop>
-    ensures value { Gives (λ line. line) result (at_line start.now.number (spec.on_instruction start.now.horizon start.now.time.now (map (λ word. word.now) words.now))) }
-    ensures limits { IfOk result (IsLimited start.now.horizon) }
+    ensures value { Gives (λ line. line) result (at_line start.now.number (spec.on_instruction start.now.bounds start.now.time.now (map (λ word. word.now) words.now))) }
+    ensures limits { IfOk result (IsLimited start.now.bounds.horizon) }
 {
     let number = start.number;
     let (file, sub, kind, words) = at_line(number, three_and_more(words))?;
@@ -43,8 +43,8 @@ pub(crate) fn instruction(
 
 // `read ENTRY N`
 fn read(start: &Start<'_>, file: &[u8], sub: &[u8], words: &[&[u8]]) -> Result<SessionLine, Fault>
-    ensures value { result ≡ spec.read_words start.now.horizon start.now.time.now file.now sub.now (map (λ word. word.now) words.now) }
-    ensures limits { IfOk result (IsLimited start.now.horizon) }
+    ensures value { result ≡ spec.read_words start.now.bounds start.now.time.now file.now sub.now (map (λ word. word.now) words.now) }
+    ensures limits { IfOk result (IsLimited start.now.bounds.horizon) }
 {
     let (entry, n) = two(words)?;
     let (head, sub) = place(start, file, sub)?;
@@ -61,8 +61,8 @@ fn write(
     sub: &[u8],
     words: &[&[u8]],
 ) -> Result<SessionLine, ReadStop>
-    ensures value { Gives (λ line. line) result (at_line start.now.number (spec.write_words start.now.horizon start.now.time.now file.now sub.now (map (λ word. word.now) words.now))) }
-    ensures limits { IfOk result (IsLimited start.now.horizon) }
+    ensures value { Gives (λ line. line) result (at_line start.now.number (spec.write_words start.now.bounds start.now.time.now file.now sub.now (map (λ word. word.now) words.now))) }
+    ensures limits { IfOk result (IsLimited start.now.bounds.horizon) }
 {
     let (entry, values) = at_line(start.number, one_and_more(words))?;
     let (head, sub) = at_line(start.number, place(start, file, sub))?;
@@ -73,8 +73,8 @@ fn write(
 
 // `bits MASK BITS`
 fn bits(start: &Start<'_>, file: &[u8], sub: &[u8], words: &[&[u8]]) -> Result<SessionLine, Fault>
-    ensures value { result ≡ spec.bits_words start.now.horizon start.now.time.now file.now sub.now (map (λ word. word.now) words.now) }
-    ensures limits { IfOk result (IsLimited start.now.horizon) }
+    ensures value { result ≡ spec.bits_words start.now.bounds start.now.time.now file.now sub.now (map (λ word. word.now) words.now) }
+    ensures limits { IfOk result (IsLimited start.now.bounds.horizon) }
 {
     let (mask, bits) = two(words)?;
     let (head, sub) = place(start, file, sub)?;
@@ -85,8 +85,8 @@ fn bits(start: &Start<'_>, file: &[u8], sub: &[u8], words: &[&[u8]]) -> Result<S
 
 // `config ENTRY D`
 fn config(start: &Start<'_>, file: &[u8], sub: &[u8], words: &[&[u8]]) -> Result<SessionLine, Fault>
-    ensures value { result ≡ spec.config_words start.now.horizon start.now.time.now file.now sub.now (map (λ word. word.now) words.now) }
-    ensures limits { IfOk result (IsLimited start.now.horizon) }
+    ensures value { result ≡ spec.config_words start.now.bounds start.now.time.now file.now sub.now (map (λ word. word.now) words.now) }
+    ensures limits { IfOk result (IsLimited start.now.bounds.horizon) }
 {
     let (entry, value) = two(words)?;
     let (head, sub) = place(start, file, sub)?;
@@ -97,8 +97,8 @@ fn config(start: &Start<'_>, file: &[u8], sub: &[u8], words: &[&[u8]]) -> Result
 
 // `gtod`
 fn gtod(start: &Start<'_>, file: &[u8], sub: &[u8], words: &[&[u8]]) -> Result<SessionLine, Fault>
-    ensures value { result ≡ spec.gtod_words start.now.horizon start.now.time.now file.now sub.now (map (λ word. word.now) words.now) }
-    ensures limits { IfOk result (IsLimited start.now.horizon) }
+    ensures value { result ≡ spec.gtod_words start.now.bounds start.now.time.now file.now sub.now (map (λ word. word.now) words.now) }
+    ensures limits { IfOk result (IsLimited start.now.bounds.horizon) }
 {
     none(words)?;
     let (head, sub) = place(start, file, sub)?;
@@ -112,8 +112,8 @@ fn trigger(
     sub: &[u8],
     words: &[&[u8]],
 ) -> Result<SessionLine, Fault>
-    ensures value { result ≡ spec.trigger_words start.now.horizon start.now.time.now file.now sub.now (map (λ word. word.now) words.now) }
-    ensures limits { IfOk result (IsLimited start.now.horizon) }
+    ensures value { result ≡ spec.trigger_words start.now.bounds start.now.time.now file.now sub.now (map (λ word. word.now) words.now) }
+    ensures limits { IfOk result (IsLimited start.now.bounds.horizon) }
 {
     let num = one(words)?;
     let (head, sub) = place(start, file, sub)?;

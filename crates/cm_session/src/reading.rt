@@ -6,6 +6,7 @@ ghost use Rattle.cm_base.specs.Reading.{at_line};
 ghost use Rattle.cm_session.specs.Limits.{InOrder, IsLimited};
 ghost use Rattle.cm_session.specs.SessionPart as spec;
 ghost use Rattle.cm_session.specs.SessionPart.{session_of};
+ghost use Rattle.cm_signal.specs.Bounds.{bounds_of};
 
 use crate::forms::{Start, command_words, file_words, number_words, sub_words, values_words};
 use crate::instructions::instruction;
@@ -14,6 +15,8 @@ use cm_base::faults::{Fault, ReadStop};
 use cm_base::lines::{Line, Lines};
 use cm_base::parts::refused;
 use cm_base::words::at_line;
+use cm_board::board::BoardDesc;
+use cm_signal::bounds::Bounds;
 use cm_signal::signals::Signals;
 use std::alloc::Global;
 
@@ -26,21 +29,22 @@ const MOST_SAMPLES: u32 = 65_536;
 /// outside its limits.
 pub fn read_session(
     alloc: Global,
+    board: &BoardDesc,
     signals: &Signals,
     lines: &Lines<'_>,
     at: usize,
     only_insn: bool,
 ) -> Result<Vec<SessionLine>, ReadStop>
-    ensures value { Gives (λ lines. lines.items) result (session_of only_insn signals.now.horizon (drop at lines.now.list)) }
+    ensures value { Gives (λ lines. lines.items) result (session_of only_insn (bounds_of board.now signals.now) (drop at lines.now.list)) }
     ensures order { IfOk result (λ lines. InOrder signals.now.horizon 0 lines.items) }
 {
-    let horizon = signals.horizon;
+    let bounds = Bounds::of(board, signals);
     let mut lines = lines.from(at);
     let mut line = Line::empty(alloc);
     let mut all = Vec::new(alloc);
     let mut latest = 0;
     while lines.next(alloc, &mut line)? {
-        let next = match read_line(alloc, horizon, latest, only_insn, &line) {
+        let next = match read_line(alloc, bounds, latest, only_insn, &line) {
             Ok(next) => next,
             Err(stop) => return Err(stop),
         };
@@ -50,23 +54,23 @@ pub fn read_session(
     Ok(all)
 }
 
-/// Reads one line of a session, after a line of the time `before` and up to the horizon. It refuses a
+/// Reads one line of a session, after a line of the time `before` and within these bounds. It refuses a
 /// line as `read_session` does.
 pub fn read_line(
     alloc: Global,
-    horizon: u64,
+    bounds: Bounds,
     before: u64,
     only_insn: bool,
     line: &Line<'_>,
 ) -> Result<SessionLine, ReadStop>
-    ensures value { Gives (λ line. line) result (at_line line.now.number (spec.line_after only_insn horizon before (line_view line.now))) }
+    ensures value { Gives (λ line. line) result (at_line line.now.number (spec.line_after only_insn bounds before (line_view line.now))) }
     ensures after { IfOk result (λ line. before ≤ line.time) }
-    ensures limits { IfOk result (IsLimited horizon) }
+    ensures limits { IfOk result (IsLimited bounds.horizon) }
 {
     if line.bad {
         return Err(refused(line.number, Fault::BadLine));
     }
-    let next = read_words(alloc, horizon, only_insn, line)?;
+    let next = read_words(alloc, bounds, only_insn, line)?;
     if before <= next.time {
         Ok(next)
     } else {
@@ -77,19 +81,19 @@ pub fn read_line(
 // What the words of a line ask.
 fn read_words(
     alloc: Global,
-    horizon: u64,
+    bounds: Bounds,
     only_insn: bool,
     line: &Line<'_>,
 ) -> Result<SessionLine, ReadStop>
-    ensures value { Gives (λ line. line) result (at_line line.now.number (spec.line_words only_insn horizon (line_view line.now).words)) }
-    ensures limits { IfOk result (IsLimited horizon) }
+    ensures value { Gives (λ line. line) result (at_line line.now.number (spec.line_words only_insn bounds (line_view line.now).words)) }
+    ensures limits { IfOk result (IsLimited bounds.horizon) }
 {
     let number = line.number;
     match line.words.as_slice() {
         [time, key, words @ ..] => {
             let start = Start {
                 number,
-                horizon,
+                bounds,
                 time,
             };
             keyed_line(alloc, &start, only_insn, line, key, words)
@@ -109,8 +113,8 @@ fn keyed_line(
 ) -> Result<SessionLine, ReadStop>
     requires number { start.now.number ≡ line.now.number }
     requires words { drop 2 (line_view line.now).words ≡ map (λ word. word.now) words.now }
-    ensures value { Gives (λ line. line) result (at_line start.now.number (spec.keyed (spec.lines_by only_insn) key.now start.now.horizon start.now.time.now (map (λ word. word.now) words.now))) }
-    ensures limits { IfOk result (IsLimited start.now.horizon) }
+    ensures value { Gives (λ line. line) result (at_line start.now.number (spec.keyed (spec.lines_by only_insn) key.now start.now.bounds start.now.time.now (map (λ word. word.now) words.now))) }
+    ensures limits { IfOk result (IsLimited start.now.bounds.horizon) }
 {
     let number = start.number;
     if key == b"open".as_slice() {
@@ -144,8 +148,8 @@ fn command_line(
 ) -> Result<SessionLine, ReadStop>
     requires number { start.now.number ≡ line.now.number }
     requires words { drop 2 (line_view line.now).words ≡ map (λ word. word.now) words.now }
-    ensures value { Gives (λ line. line) result (at_line start.now.number (spec.keyed spec.command_lines key.now start.now.horizon start.now.time.now (map (λ word. word.now) words.now))) }
-    ensures limits { IfOk result (IsLimited start.now.horizon) }
+    ensures value { Gives (λ line. line) result (at_line start.now.number (spec.keyed spec.command_lines key.now start.now.bounds start.now.time.now (map (λ word. word.now) words.now))) }
+    ensures limits { IfOk result (IsLimited start.now.bounds.horizon) }
 {
     let number = start.number;
     if key == b"cmd".as_slice() {
@@ -170,8 +174,8 @@ fn command_line(
 
 // What a line with a number after its subdevice asks.
 fn number_line(start: &Start<'_>, key: &[u8], words: &[&[u8]]) -> Result<SessionLine, Fault>
-    ensures value { result ≡ spec.keyed spec.number_lines key.now start.now.horizon start.now.time.now (map (λ word. word.now) words.now) }
-    ensures limits { IfOk result (IsLimited start.now.horizon) }
+    ensures value { result ≡ spec.keyed spec.number_lines key.now start.now.bounds start.now.time.now (map (λ word. word.now) words.now) }
+    ensures limits { IfOk result (IsLimited start.now.bounds.horizon) }
 {
     if key == b"read".as_slice() {
         let (head, sub, n) = number_words(start, words, MOST_SAMPLES)?;

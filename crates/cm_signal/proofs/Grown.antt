@@ -129,17 +129,17 @@ lists_with horizon lists line new are there is k below = elim (cases_eq k line) 
 ]
 
 -- the edges of a line with a slope
-pub line_edges : (s : SignalsText) (slope : Slope) (line : ℕ) → IsSoundSignals s → line < 16 → AreEdges s.horizon (times_at s slope line)
+pub line_edges : (s : SignalsText) (slope : Slope) (line : ℕ) → IsSoundSignals s → line < 64 → AreEdges s.horizon (times_at s slope line)
 line_edges s slopes.Rise line sound h = sound.edges line (omega (arith, sound.lines))
 line_edges s slopes.Fall line sound h = sound.falls line (omega (arith, sound.fall_lines))
 
 -- they are among all
-among_all : (s : SignalsText) (slope : Slope) (line : ℕ) → IsSoundSignals s → line < 16 → length (times_at s slope line) ≤ edge_count s.edges + edge_count s.falls
+among_all : (s : SignalsText) (slope : Slope) (line : ℕ) → IsSoundSignals s → line < 64 → length (times_at s slope line) ≤ edge_count s.edges + edge_count s.falls
 among_all s slopes.Rise line sound h = let lines = sound.lines in let one = one_line s.edges line (omega arith) in omega arith
 among_all s slopes.Fall line sound h = let lines = sound.fall_lines in let one = one_line s.falls line (omega arith) in omega arith
 
 -- signals with other edges on a line
-pub sound_with : (s : SignalsText) (slope : Slope) (line : ℕ) (new : List ℕ) → IsSoundSignals s → line < 16 → AreEdges s.horizon new →
+pub sound_with : (s : SignalsText) (slope : Slope) (line : ℕ) (new : List ℕ) → IsSoundSignals s → line < 64 → AreEdges s.horizon new →
     edge_count s.edges + edge_count s.falls + length new ≤ 10 ^ 5 + length (times_at s slope line) → IsSoundSignals (with_times s slope line new)
 sound_with s slopes.Rise line new sound h are room =
     let lines = sound.lines in
@@ -182,7 +182,7 @@ has_both s times room =
 
 -- edges of one text line that may stand after those before them
 pub record MayStand (s : SignalsText) (slope : Slope) (line : ℕ) (times : List ℕ) : Type 0 where
-  pub below : line < 16
+  pub below : line < 64
   pub room : has_room s times ≡ true
   pub rise : rises_from 0 (times_at s slope line ++ times) ≡ true
 
@@ -206,7 +206,7 @@ more_edges s slope line times sound may =
     }
 
 -- a place that a line names has at most so many edges, all of them early
-pub early : (s : SignalsText) (times : List ℕ) → IsSoundSignals s → has_room s times ≡ true → (k : ℕ) → k < length times → get_or times k 0 ≤ 10 ^ 12
+pub early : (s : SignalsText) (times : List ℕ) → IsSoundSignals s → has_room s times ≡ true → (k : ℕ) → k < length times → get_or times k 0 ≤ 10 ^ 15
 early s times sound room k h =
     let low = leb-true _ s.horizon (all_at (λ time. nat_le time s.horizon) times k (has_both s times room).0 h) in
     let high = sound.horizon in
@@ -284,15 +284,15 @@ none_counted zero = refl
 none_counted (suc n) = let rest = none_counted n in omega arith
 
 -- silence
-pub silent_sound : (horizon : ℕ) → horizon ≤ 10 ^ 12 → IsSoundSignals (silent horizon)
+pub silent_sound : (horizon : ℕ) → horizon ≤ 10 ^ 15 → IsSoundSignals (silent horizon)
 unfolding have_own
 silent_sound horizon h = record {
   horizon = h;
   lines = refl;
   fall_lines = refl;
-  edges = λ line below. no_edges_anywhere horizon 16 line;
-  falls = λ line below. no_edges_anywhere horizon 16 line;
-  few_edges = let none = none_counted 16 in omega arith;
+  edges = λ line below. no_edges_anywhere horizon 64 line;
+  falls = λ line below. no_edges_anywhere horizon 64 line;
+  few_edges = let none = none_counted 64 in omega arith;
   waves = All-nil (λ x. IsWave x.wave);
   own = refl;
   few_recorded = omega arith;
@@ -300,7 +300,7 @@ silent_sound horizon h = record {
   few_ints = omega arith;
 }
 
-pub silent_like : (horizon : ℕ) (waves : List WaveAt) (edges falls : List (List ℕ)) (ints : List IntAt) → waves ≡ [] → edges ≡ replicate 16 [] → falls ≡ replicate 16 [] → ints ≡ [] → horizon ≤ 10 ^ 12 →
+pub silent_like : (horizon : ℕ) (waves : List WaveAt) (edges falls : List (List ℕ)) (ints : List IntAt) → waves ≡ [] → edges ≡ replicate 64 [] → falls ≡ replicate 64 [] → ints ≡ [] → horizon ≤ 10 ^ 15 →
     IsSoundSignals (record { horizon = horizon; waves = waves; edges = edges; falls = falls; ints = ints })
 silent_like horizon waves edges falls ints no_waves no_edges no_falls no_ints h =
     let same : ◌≡◌ {A = SignalsText} (record { horizon = horizon; waves = waves; edges = edges; falls = falls; ints = ints }) (silent horizon) =

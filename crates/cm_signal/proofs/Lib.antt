@@ -1,3 +1,4 @@
+pub mod Entries
 pub mod Grown
 pub mod Parts
 pub mod Progressions

@@ -91,7 +91,7 @@ gives_err view (Ok x) stop read h s = absurd h
 gives_err view (Err e) stop read h s = subst (λ st. Stops st read) (sym h) s
 
 -- the whole part, from what is after its first line
-pub part_after : (board : BoardText) (end horizon : ℕ) (lines : List LineText) → fixed end (codes "signals") horizon_words lines ≡ Ok horizon →
+pub part_after : (board : BoardText) (end horizon : ℕ) (lines : List LineText) → fixed end (codes "signals") (horizon_words board.version) lines ≡ Ok horizon →
     signals_of board end lines ≡ raised 1 (signals_after board end (silent horizon) (drop 1 lines))
 part_after board end horizon lines e =
     let rest = drop 1 lines in
@@ -101,7 +101,7 @@ part_after board end horizon lines e =
 
 -- what was read after the first line
 pub record IsBegun (board : BoardText) (end horizon : ℕ) (lines rest : List LineText) (start : SignalsText) : Type 0 where
-  pub head : fixed end (codes "signals") horizon_words lines ≡ Ok horizon
+  pub head : fixed end (codes "signals") (horizon_words board.version) lines ≡ Ok horizon
   pub rest_is : rest ≡ drop 1 lines
   pub silence : start ≡ silent horizon
 

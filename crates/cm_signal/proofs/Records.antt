@@ -1,7 +1,6 @@
 -- What a record says, by its levels.
-use Rattle.std.proofs.Common.{◌≡◌, ℕ, ℤ, ◌≤◌, List, length, ap, sym, ◌∙◌, Result, Ok, Err}
-use Rattle.std.specs.Prelude.{nat_le}
-use Rattle.std.proofs.lemmas.Bool.{cond-true, le-leb}
+use Rattle.std.proofs.Common.{◌≡◌, ℕ, ℤ, true, List, length, ap, sym, ◌∙◌, Result, Ok, Err}
+use Rattle.std.proofs.lemmas.Bool.{cond-true}
 use Rattle.cm_base.specs.ReadStop.{Stops}
 use Rattle.cm_base.specs.Reading.{◌>>=◌, at_line}
 use Rattle.cm_base.specs.declared.faults.Fault.{Fault}
@@ -9,6 +8,7 @@ use Rattle.cm_base.specs.declared.faults.Fault.TheVariants.{Unknown}
 use Rattle.cm_base.specs.declared.faults.ReadStop.{ReadStop}
 use Rattle.cm_base.specs.declared.faults.ReadStop.TheVariants as stops
 use Rattle.cm_board.specs.Board.{BoardText, SubText}
+use Rattle.cm_board.specs.Versions.{is_wide}
 use Rattle.cm_signal.specs.SignalsPart.{levels_words, record_words, wave_said}
 use Rattle.cm_signal.specs.declared.said.Said.{Said}
 use Rattle.cm_signal.specs.declared.wave.Wave.TheVariants as waves
@@ -18,10 +18,10 @@ abbrev pub as_record : Result ((ℕ × ℕ) × ℕ × List ℤ) Fault → Result
 as_record levels = levels >>= λ l. Ok (wave_said l.0 (waves.Record l.1 l.2))
 
 -- on a board that has records
-pub record_is : (board : BoardText) (subs : List SubText) (sub chan : List ℕ) (words : List (List ℕ)) (most : ℕ) → 3 ≤ board.version → subs ≡ board.subs → most ≡ length words →
+pub record_is : (board : BoardText) (subs : List SubText) (sub chan : List ℕ) (words : List (List ℕ)) (most : ℕ) → is_wide board.version ≡ true → subs ≡ board.subs → most ≡ length words →
     record_words board sub chan words ≡ as_record (levels_words most subs sub chan words)
-record_is board subs sub chan words most late same long =
-    cond-true (nat_le 3 board.version) (as_record (levels_words (length words) board.subs sub chan words)) (Err Unknown) (le-leb 3 board.version late)
+record_is board subs sub chan words most wide same long =
+    cond-true (is_wide board.version) (as_record (levels_words (length words) board.subs sub chan words)) (Err Unknown) wide
     ∙ ap (λ (ss : List SubText). as_record (levels_words (length words) ss sub chan words)) (sym same)
     ∙ ap (λ (n : ℕ). as_record (levels_words n subs sub chan words)) (sym long)
 

@@ -93,12 +93,12 @@ after_head board end more said =
     said >>= λ horizon. read_on (said_after board) (silent horizon) (lines_inside more) >>= λ signals.
     fixed end (codes "session") (alone true) (lines_after more) >>= λ closed. Ok (signals, 2 + position_or_len is_session more)
 
-first_fails : (board : BoardText) (end : ℕ) (line : LineText) (rest : List LineText) (refused : Refused) → fixed end (codes "signals") horizon_words (line ∷ rest) ≡ Err refused → IsFirstFault board end (line ∷ rest) refused
+first_fails : (board : BoardText) (end : ℕ) (line : LineText) (rest : List LineText) (refused : Refused) → fixed end (codes "signals") (horizon_words board.version) (line ∷ rest) ≡ Err refused → IsFirstFault board end (line ∷ rest) refused
 first_fails board end line rest refused e = record {
   good = [];
   rest = line ∷ rest;
   parts = refl;
-  line = fixed_number end (codes "signals") horizon_words line rest refused e;
+  line = fixed_number end (codes "signals") (horizon_words board.version) line rest refused e;
   before = λ other. refl;
   here = ap (after_head board end []) e;
 }
@@ -112,9 +112,9 @@ first_refused board end [] refused e = record {
   before = λ other. refl;
   here = e;
 }
-first_refused board end (line ∷ rest) refused e = by (fixed end (codes "signals") horizon_words (line ∷ rest)) refl
+first_refused board end (line ∷ rest) refused e = by (fixed end (codes "signals") (horizon_words board.version) (line ∷ rest)) refl
   where
-    by : (said : Result ℕ Refused) → fixed end (codes "signals") horizon_words (line ∷ rest) ≡ said → IsFirstFault board end (line ∷ rest) refused
+    by : (said : Result ℕ Refused) → fixed end (codes "signals") (horizon_words board.version) (line ∷ rest) ≡ said → IsFirstFault board end (line ∷ rest) refused
     by (Err r) is =
         let same : r ≡ refused = err_is _ _ (sym (ap (after_head board end rest) is) ∙ e) in
         first_fails board end line rest refused (is ∙ ap (λ (x : Refused). Err x) same)

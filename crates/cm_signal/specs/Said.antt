@@ -14,8 +14,8 @@ HasPeriod (Saw low high period) = (1 ≤ period) × (period ≤ 10 ^ 12)
 HasPeriod (Table period levels) = AreHeld period levels × (length levels ≤ 64)
 HasPeriod (Record period levels) = AreHeld period levels
 
--- a wave with its period, one of the 16 lines, or a trigger up to the horizon
+-- a wave with its period, one of the 64 lines, or a trigger up to the horizon
 abbrev pub IsSaid : ℕ → Said → Type 0
 IsSaid horizon (said.Wave w) = HasPeriod w.wave
-IsSaid horizon (said.Edges slope line times) = line < 16
+IsSaid horizon (said.Edges slope line times) = line < 64
 IsSaid horizon (said.Int int) = int.time ≤ horizon

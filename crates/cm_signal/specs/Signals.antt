@@ -75,9 +75,9 @@ recorded_count (w ∷ ws) = recorded_in w.wave + recorded_count ws
 
 -- what signals keep
 pub record IsSoundSignals (s : SignalsText) : Type 0 where
-  pub horizon : s.horizon ≤ 10 ^ 12
-  pub lines : length s.edges ≡ 16
-  pub fall_lines : length s.falls ≡ 16
+  pub horizon : s.horizon ≤ 10 ^ 15
+  pub lines : length s.edges ≡ 64
+  pub fall_lines : length s.falls ≡ 64
   pub edges : (line : ℕ) → line < length s.edges → AreEdges s.horizon (slice_index_or s.edges line [])
   pub falls : (line : ℕ) → line < length s.falls → AreEdges s.horizon (slice_index_or s.falls line [])
   pub few_edges : edge_count s.edges + edge_count s.falls ≤ 10 ^ 5

@@ -12,6 +12,7 @@ use Rattle.cm_base.specs.declared.faults.Fault.{Fault}
 use Rattle.cm_base.specs.declared.faults.Fault.TheVariants.{Bad, BadLine, BadNumber, Double, Limit, Unknown}
 use Rattle.cm_base.specs.declared.faults.Refused.{Refused}
 use Rattle.cm_board.specs.Board.{BoardText, SubText, has_levels}
+use Rattle.cm_board.specs.Versions.{is_wide, most_in, most_lines}
 use Rattle.cm_signal.specs.Signals.{SignalsText, edge_count, is_at, recorded_count, times_at}
 use Rattle.cm_signal.specs.declared.said.Said.{Said}
 use Rattle.cm_signal.specs.declared.said.Said.TheVariants as said
@@ -75,10 +76,10 @@ levels_words most subs sub chan words =
 abbrev pub table_words : List SubText → List ℕ → List ℕ → Form Said
 table_words subs sub chan words = levels_words 64 subs sub chan words >>= λ l. Ok (wave_said l.0 (waves.Table l.1 l.2))
 
--- a record: its period, and as many levels as the line has; boards have it whose text begins with `zendrouz 1`, the third version
+-- a record: its period, and as many levels as the line has; boards of the wider texts have it
 abbrev pub record_words : BoardText → List ℕ → List ℕ → Form Said
 record_words board sub chan words =
-    if nat_le 3 board.version
+    if is_wide board.version
     then (levels_words (length words) board.subs sub chan words >>= λ l. Ok (wave_said l.0 (waves.Record l.1 l.2)))
     else Err Unknown
 
@@ -96,14 +97,14 @@ abbrev pub wave_words : BoardText → Form Said
 wave_words board words = three_and_more words >>= λ w. keyword (wave_forms board) w.2 >>= λ form. form w.0 w.1 w.3
 
 -- the number of an external line
-abbrev pub line_word : List ℕ → Result ℕ Fault
-line_word = number_in 0 15
+abbrev pub line_word : ℕ → List ℕ → Result ℕ Fault
+line_word version = number_below (most_lines version)
 
 -- `edges LINE T..` and `falls LINE T..`
-abbrev pub edges_words : Slope → ℕ → Form Said
-edges_words slope horizon words =
+abbrev pub edges_words : Slope → ℕ → ℕ → Form Said
+edges_words slope version horizon words =
     one_and_more words >>= λ w.
-    line_word w.0 >>= λ line.
+    line_word version w.0 >>= λ line.
     each_word (number_in 0 horizon) [] w.1 >>= λ times.
     Ok (said.Edges slope line times)
 
@@ -113,14 +114,14 @@ progression first period zero = []
 progression first period (suc count) = first ∷ progression (first + period) period count
 
 -- the numbers of `every LINE FIRST PERIOD COUNT`
-abbrev pub every_numbers : Form (ℕ × ℕ × ℕ × ℕ)
-every_numbers words =
-    four_words words >>= λ w. line_word w.0 >>= λ line. or_fault BadNumber (number_of w.1) >>= λ first.
+abbrev pub every_numbers : ℕ → Form (ℕ × ℕ × ℕ × ℕ)
+every_numbers version words =
+    four_words words >>= λ w. line_word version w.0 >>= λ line. or_fault BadNumber (number_of w.1) >>= λ first.
     period_word w.2 >>= λ period. number_in 1 100000 w.3 >>= λ count. Ok (line, first, period, count)
 
 -- rises at equal distances
-abbrev pub every_words : Form Said
-every_words words = every_numbers words >>= λ n. Ok (said.Edges slopes.Rise n.0 (progression n.1 n.2 n.3))
+abbrev pub every_words : ℕ → Form Said
+every_words version words = every_numbers version words >>= λ n. Ok (said.Edges slopes.Rise n.0 (progression n.1 n.2 n.3))
 
 -- `int SUB T ARG`
 abbrev pub int_words : List SubText → ℕ → Form Said
@@ -131,8 +132,9 @@ int_words subs horizon words =
 -- the lines of the part, by their first word
 abbrev pub signal_forms : BoardText → ℕ → List (List ℕ × Form Said)
 signal_forms board horizon =
-    (codes "wave", wave_words board) ∷ (codes "edges", edges_words slopes.Rise horizon) ∷ (codes "falls", edges_words slopes.Fall horizon) ∷
-    (codes "every", every_words) ∷ (codes "int", int_words board.subs horizon) ∷ []
+    (codes "wave", wave_words board) ∷ (codes "edges", edges_words slopes.Rise board.version horizon) ∷
+    (codes "falls", edges_words slopes.Fall board.version horizon) ∷ (codes "every", every_words board.version) ∷
+    (codes "int", int_words board.subs horizon) ∷ []
 
 -- what a line of the signals part says
 abbrev pub said_words : BoardText → ℕ → List (List ℕ) → Result Said Fault
@@ -201,15 +203,15 @@ said_after board s line = said_line board s.horizon line >>= λ what. checked s 
 
 -- no wave, no edge and no trigger
 abbrev pub silent : ℕ → SignalsText
-silent horizon = record { horizon = horizon; waves = []; edges = replicate 16 []; falls = replicate 16 []; ints = [] }
+silent horizon = record { horizon = horizon; waves = []; edges = replicate 64 []; falls = replicate 64 []; ints = [] }
 
 -- the line that starts the session
 abbrev pub is_session : LineText → Bool
 is_session = begins (codes "session")
 
--- the horizon: at most 1,000 seconds
-abbrev pub horizon_words : Form ℕ
-horizon_words = one (λ horizon. horizon) (number_in 0 1000000000000)
+-- the horizon: at most 1,000 seconds, and in the wider texts 1,000,000
+abbrev pub horizon_words : ℕ → Form ℕ
+horizon_words version = one (λ horizon. horizon) (number_in 0 (most_in version 1000000000000 1000000000000000))
 
 -- the lines up to the `session` line, and those from it on
 abbrev pub lines_inside : List LineText → List LineText
@@ -229,7 +231,7 @@ signals_after board end before lines =
 -- the signals that these lines describe, from the `signals` line to the `session` line, and how many they are
 abbrev pub signals_of : BoardText → ℕ → List LineText → Result (SignalsText × ℕ) Refused
 signals_of board end lines =
-    fixed end (codes "signals") horizon_words lines >>= λ horizon.
+    fixed end (codes "signals") (horizon_words board.version) lines >>= λ horizon.
     read_on (said_after board) (silent horizon) (lines_inside (drop 1 lines)) >>= λ signals.
     fixed end (codes "session") (alone true) (lines_after (drop 1 lines)) >>= λ closed.
     Ok (signals, 2 + position_or_len is_session (drop 1 lines))

@@ -23,7 +23,7 @@ impl Signals {
 
     /// No wave, no edge and no trigger up to a horizon.
     pub fn silent(alloc: Global, horizon: u64) -> Result<Signals, AllocError>
-        requires { horizon ≤ 10 ^ 12 }
+        requires { horizon ≤ 10 ^ 15 }
         ensures { IfOk result (λ s. s ≡ silent horizon) }
     {
         Ok(Signals {
@@ -83,7 +83,7 @@ impl Signals {
     }
 
     fn check_edges(&self, slope: Slope, line: u32, times: &[u64]) -> Result<(), Fault>
-        requires { line < 16 }
+        requires { line < 64 }
         ensures { seen (λ u. tt) result ≡ part.checked_edges self.now slope line times.now }
     {
         // This read shows what holds of the signals so far: each line has its list of edges.
@@ -147,7 +147,7 @@ impl Signals {
     }
 
     fn put_edges(&mut self, slope: Slope, line: u32, times: &Times) -> Result<(), AllocError>
-        requires line { line < 16 }
+        requires line { line < 64 }
         requires room { has_room self.old times.now ≡ true }
         requires rise { rises_from 0 (times_at self.old slope line ++ times.now) ≡ true }
         ensures { OnOk result (self.new ≡ with_times self.old slope line (times_at self.old slope line ++ times.now)) }
@@ -168,12 +168,12 @@ impl Signals {
     }
 }
 
-// No edge on any of the 16 lines.
+// No edge on any of the 64 lines.
 fn no_edges(alloc: Global) -> Result<Vec<Times>, AllocError>
-    ensures { IfOk result (λ lines. lines.items ≡ replicate 16 []) }
+    ensures { IfOk result (λ lines. lines.items ≡ replicate 64 []) }
 {
     let mut lines = Vec::new(alloc);
-    while lines.len() < 16 {
+    while lines.len() < 64 {
         lines.push(Times::new(Vec::new(alloc)))?;
     }
     Ok(lines)
@@ -232,8 +232,8 @@ fn are_up_to(times: &[u64], most: u64) -> bool
 // Whether times rise strictly after others that do.
 fn rises_after(before: &[u64], times: &[u64]) -> bool
     requires rise { IsStrictlyIncreasing before.now }
-    requires low { (k : ℕ) → k < length before.now → slice_index before.now k ≤ 10 ^ 12 }
-    requires within { (k : ℕ) → k < length times.now → slice_index times.now k ≤ 10 ^ 12 }
+    requires low { (k : ℕ) → k < length before.now → slice_index before.now k ≤ 10 ^ 15 }
+    requires within { (k : ℕ) → k < length times.now → slice_index times.now k ≤ 10 ^ 15 }
     ensures { result ≡ part.rises_from 0 (before.now ++ times.now) }
 {
     match before.last() {
@@ -244,7 +244,7 @@ fn rises_after(before: &[u64], times: &[u64]) -> bool
 
 // Whether times rise strictly, none below `least`.
 fn rises_from(least: u64, times: &[u64]) -> bool
-    requires { (k : ℕ) → k < length times.now → slice_index times.now k ≤ 10 ^ 12 }
+    requires { (k : ℕ) → k < length times.now → slice_index times.now k ≤ 10 ^ 15 }
     ensures { result ≡ part.rises_from least times.now }
 {
     let mut least = least;

@@ -5,6 +5,7 @@ ghost use Rattle.cm_base.specs.Parts as parts;
 ghost use Rattle.cm_base.specs.ReadStop.{Gives};
 ghost use Rattle.cm_base.specs.Reading.{at_line};
 ghost use Rattle.cm_base.specs.Words.{alone};
+ghost use Rattle.cm_board.specs.Versions.{most_in};
 ghost use Rattle.cm_signal.specs.Fitting.{FitBoard};
 ghost use Rattle.cm_signal.specs.SignalsPart.{horizon_words, said_after, signals_at, signals_after, signals_of};
 
@@ -15,6 +16,7 @@ use cm_base::lines::{Cursor, Line, Lines};
 use cm_base::parts::{begins, fixed, refused};
 use cm_base::words::{at_line, none, one, time_in};
 use cm_board::board::BoardDesc;
+use cm_board::versions::is_wide;
 use std::alloc::Global;
 
 /// Reads the signals part from the `signals` line, whose index is `at`, and reports the index of the
@@ -49,7 +51,7 @@ fn read_part(
 {
     let mut cursor = cursor;
     let mut line = Line::empty(alloc);
-    let horizon = read_horizon(alloc, &mut cursor, &mut line, end)?;
+    let horizon = read_horizon(alloc, board, &mut cursor, &mut line, end)?;
     let mut signals = Signals::silent(alloc, horizon)?;
     let count = add_lines(alloc, board, &mut signals, &mut cursor, &mut line, end)?;
     Ok((signals, 1 + count))
@@ -58,12 +60,13 @@ fn read_part(
 // The last nanosecond, which the `signals` line says.
 fn read_horizon<'a>(
     alloc: Global,
+    board: &BoardDesc,
     cursor: &mut Cursor<'a>,
     line: &mut Line<'a>,
     end: u32,
 ) -> Result<u64, ReadStop>
-    ensures value { Gives (λ horizon. horizon) result (parts.fixed end (codes "signals") horizon_words cursor.old) }
-    ensures limit { IfOk result (λ horizon. horizon ≤ 10 ^ 12) }
+    ensures value { Gives (λ horizon. horizon) result (parts.fixed end (codes "signals") (horizon_words board.now.version) cursor.old) }
+    ensures limit { IfOk result (λ horizon. horizon ≤ 10 ^ 15) }
     ensures some { IfOk result (λ horizon. 0 < length cursor.old) }
     ensures rest { cursor.new ≡ drop 1 cursor.old }
 {
@@ -71,15 +74,26 @@ fn read_horizon<'a>(
         return Err(refused(end, Fault::Missing));
     }
     let (number, words) = fixed(line, b"signals")?;
-    at_line(number, horizon(words))
+    at_line(number, horizon(board.version, words))
 }
 
-fn horizon(words: &[&[u8]]) -> Result<u64, Fault>
-    ensures value { result ≡ horizon_words (map (λ word. word.now) words.now) }
-    ensures limit { IfOk result (λ horizon. horizon ≤ 10 ^ 12) }
+fn horizon(version: u32, words: &[&[u8]]) -> Result<u64, Fault>
+    ensures value { result ≡ horizon_words version (map (λ word. word.now) words.now) }
+    ensures limit { IfOk result (λ horizon. horizon ≤ 10 ^ 15) }
 {
     let horizon = one(words)?;
-    time_in(horizon, 0, 1_000_000_000_000)
+    time_in(horizon, 0, most_horizon(version))
+}
+
+// The greatest horizon in texts of a version.
+fn most_horizon(version: u32) -> u64
+    ensures { result ≡ most_in version (10 ^ 12) (10 ^ 15) }
+{
+    if is_wide(version) {
+        1_000_000_000_000_000
+    } else {
+        1_000_000_000_000
+    }
 }
 
 // The `session` line has no more words.

@@ -23,6 +23,7 @@ use cm_base::words::{
     three, three_and_more, time_in, times_in,
 };
 use cm_board::board::{BoardDesc, Sub};
+use cm_board::versions::{is_wide, most_lines};
 use std::alloc::{AllocError, Global};
 
 /// What a line of the signals part says.
@@ -73,11 +74,11 @@ fn read_words(
     if key == b"wave".as_slice() {
         read_wave(alloc, number, board, words)
     } else if key == b"edges".as_slice() {
-        read_edges(alloc, number, Slope::Rise, horizon, words)
+        read_edges(alloc, number, Slope::Rise, board.version, horizon, words)
     } else if key == b"falls".as_slice() {
-        read_edges(alloc, number, Slope::Fall, horizon, words)
+        read_edges(alloc, number, Slope::Fall, board.version, horizon, words)
     } else if key == b"every".as_slice() {
-        read_every(alloc, number, words)
+        read_every(alloc, number, board.version, words)
     } else if key == b"int".as_slice() {
         at_line(number, read_int(&board.subs, horizon, words))
     } else {
@@ -188,7 +189,7 @@ fn read_record(
     ensures limits { IfOk result (IsSaid 0) }
     ensures fits { IfOk result (Fits board.now.subs) }
 {
-    if board.version < 3 {
+    if !is_wide(board.version) {
         return Err(refused(number, Fault::Unknown));
     }
     let most = words.len();
@@ -232,37 +233,38 @@ fn read_edges(
     alloc: Global,
     number: u32,
     slope: Slope,
+    version: u32,
     horizon: u64,
     words: &[&[u8]],
 ) -> Result<Said, ReadStop>
-    ensures value { Gives (λ said. said) result (at_line number (spec.edges_words slope horizon (map (λ word. word.now) words.now))) }
+    ensures value { Gives (λ said. said) result (at_line number (spec.edges_words slope version horizon (map (λ word. word.now) words.now))) }
     ensures limits { IfOk result (IsSaid 0) }
     ensures fits { IfOk result (Fits []) }
 {
     let (line, times) = at_line(number, one_and_more(words))?;
-    let line = at_line(number, read_line_number(line))?;
+    let line = at_line(number, read_line_number(version, line))?;
     let times = times_in(alloc, number, times, horizon)?;
     Ok(Said::Edges(slope, line, Times::new(times)))
 }
 
 // `every LINE FIRST PERIOD COUNT`
-fn read_every(alloc: Global, number: u32, words: &[&[u8]]) -> Result<Said, ReadStop>
-    ensures value { Gives (λ said. said) result (at_line number (spec.every_words (map (λ word. word.now) words.now))) }
+fn read_every(alloc: Global, number: u32, version: u32, words: &[&[u8]]) -> Result<Said, ReadStop>
+    ensures value { Gives (λ said. said) result (at_line number (spec.every_words version (map (λ word. word.now) words.now))) }
     ensures limits { IfOk result (IsSaid 0) }
     ensures fits { IfOk result (Fits []) }
 {
-    let (line, first, period, count) = at_line(number, read_numbers(words))?;
+    let (line, first, period, count) = at_line(number, read_numbers(version, words))?;
     let times = progression(alloc, first, period, count)?;
     Ok(Said::Edges(Slope::Rise, line, Times::new(times)))
 }
 
 // The numbers of `every LINE FIRST PERIOD COUNT`.
-fn read_numbers(words: &[&[u8]]) -> Result<(u32, u64, u64, u32), Fault>
-    ensures value { result ≡ spec.every_numbers (map (λ word. word.now) words.now) }
-    ensures limits { IfOk result (λ n. (n.0 < 16) × (n.1 < 10 ^ 18) × (n.2 ≤ 10 ^ 12) × (n.3 ≤ 100000)) }
+fn read_numbers(version: u32, words: &[&[u8]]) -> Result<(u32, u64, u64, u32), Fault>
+    ensures value { result ≡ spec.every_numbers version (map (λ word. word.now) words.now) }
+    ensures limits { IfOk result (λ n. (n.0 < 64) × (n.1 < 10 ^ 18) × (n.2 ≤ 10 ^ 12) × (n.3 ≤ 100000)) }
 {
     let (line, first, period, count) = four(words)?;
-    let line = read_line_number(line)?;
+    let line = read_line_number(version, line)?;
     let first = read_first(first)?;
     let period = read_period(period)?;
     let count = number_in(count, 1, 100_000)?;
@@ -351,11 +353,11 @@ fn read_period(word: &[u8]) -> Result<u64, Fault>
 }
 
 // The number of an external line.
-fn read_line_number(word: &[u8]) -> Result<u32, Fault>
-    ensures value { result ≡ spec.line_word word.now }
-    ensures limits { IfOk result (λ line. line < 16) }
+fn read_line_number(version: u32, word: &[u8]) -> Result<u32, Fault>
+    ensures value { result ≡ spec.line_word version word.now }
+    ensures limits { IfOk result (λ line. line < 64) }
 {
-    number_in(word, 0, 15)
+    number_below(word, most_lines(version))
 }
 
 // The time of a first edge, which has no limit of its own.

@@ -10,7 +10,7 @@ use Rattle.cm_cmd.specs.declared.command.Trig.{Trig}
 use Rattle.std.specs.Prelude.{◌^◌}
 use Rattle.cm_test.specs.declared.limits.Limits.{Limits}
 use Rattle.cm_test.specs.ValidList.{is_valid_list}
-use Rattle.cm_test.specs.Steps.{narrowed, narrowed_to, repaired, rounded, ticked, way, up, scan_time, moved_into, scan_length, exactly, line_limits, start_limits, scan_begin_limits, convert_limits, stop_limits, least_period, held_time, moved, with_arg}
+use Rattle.cm_test.specs.Steps.{narrowed, narrowed_to, repaired, rounded, timed, way, up, scan_time, moved_into, scan_length, exactly, line_limits, start_limits, scan_begin_limits, convert_limits, stop_limits, least_period, held_time, moved, with_arg}
 use Rattle.cm_test.specs.Questions.{same_triggers, has_sources, is_narrow, is_compatible, is_within, is_rounded, tested}
 use Rattle.cm_test.specs.Law.{PassesThree, PassesFour, IsSettled, KeepEdges, RepairedKeepsEdges, RepairedPasses, RoundedPasses, RoundedSettles}
 use Rattle.cm_base.proofs.Bools.{both, and_true}
@@ -177,7 +177,7 @@ within_rounded sub cmd ok narrow h =
     let by = way sub cmd.flags in
     let scan : Bool = cmd.scan_begin.src == source.timer in
     let conv : Bool = cmd.convert.src == source.timer in
-    let c = time_of half by sub.tick (conversions sub) conv cmd.convert.arg in
+    let c = time_of half by sub.timers (conversions sub) conv cmd.convert.arg in
     let convert = convert_within sub n half by cmd.convert.arg scan conv (moved_convert sub cmd) ok fit (timed_convert sub cmd) (ap (λ (t : Trig). t.arg) s.convert) in
     let held : ℕ = held_time sub cmd in
     let now : ℕ = held_time sub (rounded sub cmd) in
@@ -295,12 +295,12 @@ held_time_fits sub cmd ok scan =
 pub least_period_fits : (sub : SubText) (cmd : CmdText) → IsSoundSub sub → least_period sub cmd ≤ sub.scan_max
 least_period_fits sub cmd ok = least_fits sub (scan_length sub cmd) ok (scan_length_fits sub cmd ok).1
 
--- where scans are timed, some period on the tick is possible
-pub periods_fit : (sub : SubText) (cmd : CmdText) → IsSoundSub sub → is_narrow sub cmd ≡ true → (cmd.scan_begin.src == source.timer) ≡ true → up sub.tick (least_period sub cmd) ≤ sub.scan_max
-periods_fit sub cmd ok narrow scan = possible_least sub.tick (least_period sub cmd) sub.scan_max ((fits_times sub cmd ok narrow).periods scan)
+-- where scans are timed, some period can be made
+pub periods_fit : (sub : SubText) (cmd : CmdText) → IsSoundSub sub → is_narrow sub cmd ≡ true → (cmd.scan_begin.src == source.timer) ≡ true → up sub.timers (least_period sub cmd) ≤ sub.scan_max
+periods_fit sub cmd ok narrow scan = possible_least sub.timers (least_period sub cmd) sub.scan_max ((fits_times sub cmd ok narrow).periods scan)
 
--- a scan of conversions on the tick still fits
-pub scan_fits : (sub : SubText) (cmd : CmdText) → IsSoundSub sub → is_narrow sub cmd ≡ true → is_within sub cmd ≡ true → scan_time sub (ticked sub cmd) < 2 ^ 32
+-- a scan that is raised for its conversions still fits
+pub scan_fits : (sub : SubText) (cmd : CmdText) → IsSoundSub sub → is_narrow sub cmd ≡ true → is_within sub cmd ≡ true → up sub.timers (scan_time sub (timed sub cmd)) < 2 ^ 32
 scan_fits sub cmd ok narrow h =
     needed_fits sub (scan_length sub cmd) sub.rounding.half_down (way sub cmd.flags) cmd.convert.arg (cmd.scan_begin.src == source.timer) (cmd.convert.src == source.timer) ok (fits_times sub cmd ok narrow) (convert_in sub cmd h)
 

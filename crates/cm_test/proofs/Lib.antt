@@ -1,5 +1,5 @@
 pub mod Adjusted
-pub mod Ticks
+pub mod Made
 pub mod Same
 pub mod Inside
 pub mod Kept

@@ -6,7 +6,7 @@ use Rattle.std.proofs.lemmas.Bool.{cond-true, eqb-true, eq-eqb, leb-true, ltb-tr
 use Rattle.std.proofs.lemmas.Bool.Decides.{nat_tests}
 use Rattle.std.proofs.lemmas.List.Sums.{AllPass-from_list_all}
 use Rattle.std.proofs.lemmas.Nat.{and_assoc, and_le_r}
-use Rattle.cm_board.specs.Board.{SubText, Masks, IsSoundSub, IsFrom1To, has_text, fits_kind, fits_commands, fits_lines, takes_commands, are_empty, are_full, is_among, is_idle, may_command, range_count}
+use Rattle.cm_board.specs.Board.{SubText, TimersText, Masks, IsSoundSub, IsFrom1To, has_text, fits_kind, fits_commands, fits_lines, takes_commands, are_empty, are_full, is_among, is_idle, may_command, range_count}
 use Rattle.cm_board.specs.BoardTable.{convert_sets, scan_begin_sets, scan_end_sets, start_sets, stop_sets}
 use Rattle.cm_board.specs.Kept.{set_in}
 use Rattle.cm_board.specs.declared.table.Sets.{Sets}
@@ -18,11 +18,12 @@ use Rattle.cm_test.specs.declared.limits.Limits.{Limits}
 use Rattle.cm_test.specs.Law.{AreInside}
 use Rattle.cm_test.specs.Passed.{IsOneOf, IsEntry, PassedIsTaken}
 use Rattle.cm_test.specs.Questions.{same_triggers, has_sources, is_narrow, is_compatible, is_within, is_rounded, is_one_bit, are_single, is_endless}
-use Rattle.cm_test.specs.Steps.{narrowed, narrowed_to, repaired, rounded, ticked, scan_length, scan_time, held_time, scan_begin_limits, convert_limits, stop_limits, limited}
+use Rattle.cm_test.specs.Steps.{narrowed, narrowed_to, repaired, rounded, timed, scan_length, scan_time, held_time, scan_begin_limits, convert_limits, stop_limits, limited}
 use Rattle.cm_test.specs.ValidList.{is_valid_entry, is_valid_list, has_valid_length, keeps_rules}
 use Rattle.cm_base.proofs.SourcesBack.{each_below}
 use Rattle.cm_test.proofs.Adjusted.{first_no}
 use Rattle.cm_test.proofs.Inside.{passed_inside}
+use Rattle.cm_test.proofs.Kept.{raised_holds, raised_time}
 use Rattle.cm_test.proofs.Moved.{whole}
 use Rattle.cm_base.proofs.Bools.{and_true, both, not_true}
 use Rattle.cm_test.proofs.Same.{are_same}
@@ -223,21 +224,21 @@ needed_is : (b : Bool) (x : ℕ) → b ≡ true → (if b then x else 0) ≡ x
 needed_is true x e = refl
 needed_is false x e = cc
 
-below_max : (a m x y : ℕ) → max a m ≡ y → m ≡ x → x ≤ y
-below_max a m x y e f = omega arith
+held_above : (timers : TimersText) (need a x y : ℕ) → raised_time timers need a ≡ y → need ≡ x → x ≤ y
+held_above timers need a x y e f = let holds = raised_holds timers need a in omega arith
 
 -- a timed scan has the time for its timed conversions
 fits : (sub : SubText) (cmd : CmdText) → is_rounded sub cmd ≡ true → 1 ≤ length cmd.list → length cmd.list ≤ sub.list_max →
     cmd.scan_begin.src ≡ source.timer → cmd.convert.src ≡ source.timer → cmd.convert.arg * length cmd.list ≤ cmd.scan_begin.arg
 fits sub cmd h some few b c =
     let s = are_same (rounded sub cmd) cmd h in
-    let same : (ticked sub cmd).convert.arg ≡ cmd.convert.arg = ap (λ (t : Trig). t.arg) s.convert in
-    let timed : (cmd.scan_begin.src == source.timer && cmd.convert.src == source.timer) ≡ true = and_true _ _ (eq-eqb cmd.scan_begin.src source.timer b) (eq-eqb cmd.convert.src source.timer c) in
+    let same : (timed sub cmd).convert.arg ≡ cmd.convert.arg = ap (λ (t : Trig). t.arg) s.convert in
+    let both_timed : (cmd.scan_begin.src == source.timer && cmd.convert.src == source.timer) ≡ true = and_true _ _ (eq-eqb cmd.scan_begin.src source.timer b) (eq-eqb cmd.convert.src source.timer c) in
     let n = whole_length sub cmd some few in
-    let time : scan_time sub (ticked sub cmd) ≡ cmd.convert.arg * length cmd.list =
-    needed_is (cmd.scan_begin.src == source.timer && cmd.convert.src == source.timer) ((ticked sub cmd).convert.arg * scan_length sub cmd) timed ∙ ap₂ (λ (x y : ℕ). x * y) same n in
+    let time : scan_time sub (timed sub cmd) ≡ cmd.convert.arg * length cmd.list =
+    needed_is (cmd.scan_begin.src == source.timer && cmd.convert.src == source.timer) ((timed sub cmd).convert.arg * scan_length sub cmd) both_timed ∙ ap₂ (λ (x y : ℕ). x * y) same n in
     let raised : (rounded sub cmd).scan_begin.arg ≡ cmd.scan_begin.arg = ap (λ (t : Trig). t.arg) s.scan_begin in
-    below_max (ticked sub cmd).scan_begin.arg (scan_time sub (ticked sub cmd)) (cmd.convert.arg * length cmd.list) cmd.scan_begin.arg raised time
+    held_above sub.timers (scan_time sub (timed sub cmd)) (timed sub cmd).scan_begin.arg (cmd.convert.arg * length cmd.list) cmd.scan_begin.arg raised time
 
 an_entry : (sub : SubText) (entry : ℕ) → is_valid_entry sub entry ≡ true → IsEntry sub entry
 an_entry sub entry h =

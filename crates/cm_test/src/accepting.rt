@@ -12,7 +12,7 @@ use cm_cmd::command::Cmd;
 /// A command that its subdevice accepts. It is Bad where there is no such subdevice, and where the
 /// command doesn't pass its test.
 pub fn accepted(board: &BoardDesc, cmd: Cmd) -> Result<Accepted, Fault>
-    requires { length cmd.list ≤ 256 }
+    requires { length cmd.list ≤ 1024 }
     ensures { result ≡ spec.accepted board.now cmd }
 {
     let sub = numbered_sub(board, cmd.sub)?;
@@ -33,7 +33,7 @@ pub fn numbered_sub(board: &BoardDesc, number: u32) -> Result<&Sub, Fault>
 
 /// A command that passes the test of a subdevice. It is Bad where it doesn't.
 pub fn passed(sub: &Sub, cmd: Cmd) -> Result<Accepted, Fault>
-    requires { length cmd.list ≤ 256 }
+    requires { length cmd.list ≤ 1024 }
     ensures value { result ≡ spec.passed sub.now cmd }
     ensures passes { IfOk result (λ cmd. (tested sub.now cmd).0 ≡ 0) }
 {

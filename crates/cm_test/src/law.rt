@@ -1,6 +1,6 @@
 // What holds of the definitions alone.
 ghost use Rattle.cm_test.specs.Law.{PassedIsInside, RepairedKeepsEdges, RepairedPasses, RoundedPasses, RoundedSettles};
-ghost use Rattle.cm_test.specs.Law.{RoundedIsOnTick, RoundedIsPossible, RoundedStaysBetween, RoundingIsAsNamed};
+ghost use Rattle.cm_test.specs.Law.{RoundedIsPossible, RoundedIsTime, RoundedStaysBetween, RoundingIsAsNamed};
 ghost use Rattle.cm_test.specs.Passed.{PassedIsTaken};
 
 /// A command that the test has adjusted passes the steps up to that one. Where lines can be inverted,
@@ -23,13 +23,13 @@ pub fn what_passes_is_taken()
     ensures { PassedIsTaken }
 {}
 
-/// A time is rounded up to the least multiple of the tick not below it, down to the greatest not
+/// A time is rounded up to the least that timers can make not below it, down to the greatest not
 /// above it, or to the nearest one, where a half goes up, or down where that is asked for. So a rounded
-/// time is on the tick. It still is when it is moved between two limits with a multiple of the tick
-/// between them, which needn't be on it. Limits that are on it move no rounded time.
+/// time can be made. It still can when it is moved between two limits with a time between them that can
+/// be made, where they needn't be such times. Limits that can be made move no rounded time.
 pub fn rounding_is_as_named()
     ensures named { RoundingIsAsNamed }
-    ensures on_tick { RoundedIsOnTick }
+    ensures made { RoundedIsTime }
     ensures possible { RoundedIsPossible }
     ensures unmoved { RoundedStaysBetween }
 {}

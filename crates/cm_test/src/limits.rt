@@ -154,14 +154,15 @@ fn convert_limits(sub: &Sub, cmd: &Cmd) -> Limits
     }
 }
 
-// The longest time between conversions with which a scan still fits, where scans are timed.
+// The longest time between conversions: where scans are timed, the longest one that the timers can make
+// with which a scan still fits.
 fn slowest_conversion(sub: &Sub, cmd: &Cmd) -> u32
     requires { length cmd.now.list < 2 ^ 32 }
     ensures { result ≡ spec.slowest_conversion sub.now cmd.now }
 {
     if cmd.scan_begin.src == TIMER {
-        let time = sub.scan_max / scan_length(sub, cmd);
-        sub.conv_max.min(time / sub.tick * sub.tick)
+        let time = sub.timers.down(sub.scan_max) / scan_length(sub, cmd);
+        sub.conv_max.min(sub.timers.down(time))
     } else {
         sub.conv_max
     }

@@ -16,8 +16,8 @@ use std::marker::Model;
 /// 1 leaves each trigger only sources that the subdevice has, 2 changes nothing, 3 moves each
 /// argument to the nearest one in its limits, which are about the line of an external one and not
 /// about the edges that it asks for, and of a timed scan also about the time for each entry of the list
-/// and, where the subdevice asks for that, for its conversions; 4 puts times on the tick, rounded in the
-/// subdevice's own way or else in that of the flags, and within their limits, and gives a scan the time
+/// and, where the subdevice asks for that, for its conversions; 4 rounds times to ones that the board can
+/// make, in the subdevice's own way or else in that of the flags, and within their limits, and gives a scan the time
 /// for its conversions, 5 changes nothing. A command that step 4 has changed fails step 5 at most. It
 /// takes no memory.
 pub fn command_test(sub: &Sub, cmd: &mut Cmd) -> u8
@@ -36,7 +36,7 @@ pub fn command_test(sub: &Sub, cmd: &mut Cmd) -> u8
     if !repair(sub, cmd) {
         return 3;
     }
-    // Step 4: each time is on the tick, and a scan has the time for its conversions.
+    // Step 4: each time can be made, and a scan has the time for its conversions.
     if !round(sub, cmd) {
         return 4;
     }

@@ -1,12 +1,14 @@
-// Times on the tick of a subdevice, in nanoseconds.
+// The times that the timers of a subdevice can make, in nanoseconds.
 ghost use Rattle.std.specs.Prelude.{◌≡◌, ◌<◌, ◌≤◌, ◌^◌, ◌/◌, ◌%◌, ◌*◌, ◌==◌, length, IsTrue};
 ghost use Rattle.cm_base.specs.Source as source;
+ghost use Rattle.cm_board.specs.declared.board.Way.TheVariants as ways;
 ghost use Rattle.cm_test.specs.Steps as spec;
 ghost use Rattle.cm_test.specs.Questions.{same_trigger, is_narrow, is_within, is_rounded};
 
 use crate::limits::{Limits, least_period, scan_length};
 use cm_base::source::TIMER;
 use cm_board::board::{Sub, Way};
+use cm_board::versions::is_wide;
 use cm_cmd::command::{Cmd, Trig};
 
 // The numbers of the flags' rounding bits that are asked about (Comedi: `CMDF_ROUND_NEAREST`,
@@ -17,7 +19,7 @@ const DOWN: u32 = 1;
 
 const UP_NEXT: u32 = 3;
 
-/// Puts the times on the tick, gives a scan the time for its conversions, and reports whether nothing changed.
+/// Rounds the times, gives a scan the time for its conversions, and reports whether nothing changed.
 pub(crate) fn round(sub: &Sub, cmd: &mut Cmd) -> bool
     requires narrow { IsTrue (is_narrow sub.now cmd.old) }
     requires within { IsTrue (is_within sub.now cmd.old) }
@@ -28,7 +30,7 @@ pub(crate) fn round(sub: &Sub, cmd: &mut Cmd) -> bool
 {
     let scan_begin = cmd.scan_begin;
     let convert = cmd.convert;
-    put_on_tick(sub, cmd);
+    round_times(sub, cmd);
     raise(sub, cmd);
     is_same(cmd.scan_begin, scan_begin) && is_same(cmd.convert, convert)
 }
@@ -39,13 +41,13 @@ fn is_same(new: Trig, old: Trig) -> bool
     new == old
 }
 
-// Puts both times on the tick and in their limits. A scan still fits then.
-fn put_on_tick(sub: &Sub, cmd: &mut Cmd)
+// Rounds both times to ones that can be made in their limits. A scan still fits then.
+fn round_times(sub: &Sub, cmd: &mut Cmd)
     requires narrow { IsTrue (is_narrow sub.now cmd.old) }
     requires within { IsTrue (is_within sub.now cmd.old) }
     requires few { length cmd.old.list < 2 ^ 32 }
-    ensures cmd { cmd.new ≡ spec.ticked sub.now cmd.old }
-    ensures fits { spec.scan_time sub.now cmd.new < 2 ^ 32 }
+    ensures cmd { cmd.new ≡ spec.timed sub.now cmd.old }
+    ensures fits { spec.up sub.now.timers (spec.scan_time sub.now cmd.new) < 2 ^ 32 }
 {
     let way = way(sub, cmd.flags);
     let scans = Limits {
@@ -56,28 +58,30 @@ fn put_on_tick(sub: &Sub, cmd: &mut Cmd)
         low: sub.conv_min,
         high: sub.conv_max,
     };
-    cmd.scan_begin = on_tick(sub, way, scans, cmd.scan_begin);
-    cmd.convert = on_tick(sub, way, conversions, cmd.convert);
+    cmd.scan_begin = rounded_timer(sub, way, scans, cmd.scan_begin);
+    cmd.convert = rounded_timer(sub, way, conversions, cmd.convert);
 }
 
 // Gives a scan at least the time that its conversions need.
 fn raise(sub: &Sub, cmd: &mut Cmd)
     requires few { length cmd.old.list < 2 ^ 32 }
-    requires fits { spec.scan_time sub.now cmd.old < 2 ^ 32 }
+    requires fits { spec.up sub.now.timers (spec.scan_time sub.now cmd.old) < 2 ^ 32 }
     ensures { cmd.new ≡ spec.raised sub.now cmd.old }
 {
     let least = scan_time(sub, cmd);
-    cmd.scan_begin.arg = cmd.scan_begin.arg.max(least);
+    if cmd.scan_begin.arg < least {
+        cmd.scan_begin.arg = sub.timers.up(least) as u32;
+    }
 }
 
-// A timer's argument on the tick, moved to the nearest time on the tick that is in the limits.
-fn on_tick(sub: &Sub, way: Way, limits: Limits, trigger: Trig) -> Trig
-    requires { IsTrue (trigger.src == source.timer) → spec.up sub.now.tick limits.low ≤ limits.high }
-    ensures { result ≡ spec.on_tick sub.now.rounding.half_down way sub.now.tick (spec.possible sub.now.tick limits.low limits.high) trigger }
+// A timer's argument rounded, and moved to the nearest time that can be made in the limits.
+fn rounded_timer(sub: &Sub, way: Way, limits: Limits, trigger: Trig) -> Trig
+    requires { IsTrue (trigger.src == source.timer) → spec.up sub.now.timers limits.low ≤ limits.high }
+    ensures { result ≡ spec.rounded_timer sub.now.rounding.half_down way sub.now.timers (spec.possible sub.now.timers limits.low limits.high) trigger }
 {
     if trigger.src == TIMER {
-        let least = rounded_by(sub, Way::Up, limits.low);
-        let most = rounded_by(sub, Way::Down, limits.high);
+        let least = sub.timers.up(limits.low);
+        let most = u64::from(sub.timers.down(limits.high));
         let time = rounded_by(sub, way, trigger.arg).min(most).max(least);
         Trig {
             src: trigger.src,
@@ -105,7 +109,7 @@ fn way_of_bits(version: u32, bits: u32) -> Way
     match bits {
         NEAREST => Way::Nearest,
         DOWN => Way::Down,
-        UP_NEXT if version >= 3 => Way::Nearest,
+        UP_NEXT if is_wide(version) => Way::Nearest,
         _ => Way::Up,
     }
 }
@@ -117,18 +121,31 @@ fn rounding(flags: u32) -> u32
     flags / 65536 % 4
 }
 
-// The time on the tick, by a way of rounding. Halves go up, or down where the subdevice rounds so.
+// The time that can be made, by a way of rounding. Halves go up, or down where the subdevice rounds so.
 fn rounded_by(sub: &Sub, way: Way, time: u32) -> u64
-    ensures { result ≡ spec.rounded_by sub.now.rounding.half_down way sub.now.tick time }
+    ensures { result ≡ spec.rounded_by sub.now.rounding.half_down way sub.now.timers time }
 {
-    let tick = u64::from(sub.tick);
-    let slack = match way {
-        Way::Nearest if sub.rounding.half_down => (tick - 1) / 2,
-        Way::Nearest => tick / 2,
-        Way::Down => 0,
-        Way::Up => tick - 1,
-    };
-    (u64::from(time) + slack) / tick * tick
+    match way {
+        Way::Nearest => nearest(sub, time),
+        Way::Down => u64::from(sub.timers.down(time)),
+        Way::Up => sub.timers.up(time),
+    }
+}
+
+// The nearest time that can be made. Of two that are as near it is the later, or the earlier where the
+// subdevice rounds so.
+fn nearest(sub: &Sub, time: u32) -> u64
+    ensures { result ≡ spec.rounded_by sub.now.rounding.half_down ways.Nearest sub.now.timers time }
+{
+    let below = u64::from(sub.timers.down(time));
+    let above = sub.timers.up(time);
+    let early = u64::from(time) - below;
+    let late = above - u64::from(time);
+    if early < late || (sub.rounding.half_down && early == late) {
+        below
+    } else {
+        above
+    }
 }
 
 // The time that a timed scan needs for its conversions, where these are timed too.

@@ -7,4 +7,4 @@ use Rattle.cm_cmd.proofs.printing.print_cmd.Goals as goal
 pub returns-clause-reads : goal.returns-clause-reads
 returns-clause-reads c =
     let e : c.put_cmd.new.out.items ≡ command_text c.args.cmd.now = search rules in
-    λ h. ap (λ (text : List ℕ). command_of (words_of text)) e ∙ printed_reads c.args.cmd.now h
+    λ most h. ap (λ (text : List ℕ). command_of most (words_of text)) e ∙ printed_reads most c.args.cmd.now h

@@ -7,9 +7,9 @@ use Rattle.cm_session.proofs.reading.read_session.Given as goal
 -- the lines so far, in order, after which those that are left stand
 abbrev pub invariant-loop-all : goal.invariant-loop-all
 invariant-loop-all l = record {
-  reported : session_of l.only_insn l.horizon l.initial.lines ≡ read_each (λ before line. line_after l.only_insn l.horizon (last_time before) line) l.all.items l.lines;
+  reported : session_of l.only_insn l.bounds l.initial.lines ≡ read_each (λ before line. line_after l.only_insn l.bounds (last_time before) line) l.all.items l.lines;
   latest : l.latest ≡ last_time l.all.items;
-  order : InOrder l.horizon 0 l.all.items;
+  order : InOrder l.bounds.horizon 0 l.all.items;
 }
 
 abbrev pub decreases-loop-all : goal.decreases-loop-all

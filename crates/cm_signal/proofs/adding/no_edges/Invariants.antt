@@ -6,8 +6,8 @@ use Rattle.cm_signal.proofs.adding.no_edges.Given as goal
 abbrev pub invariant-loop-alloc : goal.invariant-loop-alloc
 invariant-loop-alloc l = record {
   none : l.lines.items ≡ replicate (vec_len l.lines) [];
-  few : vec_len l.lines ≤ 16;
+  few : vec_len l.lines ≤ 64;
 }
 
 abbrev pub decreases-loop-alloc : goal.decreases-loop-alloc
-decreases-loop-alloc l = 16 - vec_len l.lines
+decreases-loop-alloc l = 64 - vec_len l.lines
