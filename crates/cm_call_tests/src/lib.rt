@@ -10,6 +10,4 @@ mod ring_core;
 #[cfg(test)]
 mod sample;
 #[cfg(test)]
-mod serve;
-#[cfg(test)]
 mod sub;

@@ -5,7 +5,8 @@ use Rattle.cm_base.specs.Reading.{at_line}
 use Rattle.cm_base.specs.declared.faults.Fault.{Fault}
 use Rattle.cm_base.specs.declared.faults.Refused.{Refused}
 use Rattle.cm_replay.specs.Declined.{refused_text}
-use Rattle.cm_serve.specs.Playing.{Play}
+use Rattle.cm_signal.specs.declared.bounds.Bounds.{Bounds}
+use Rattle.cm_serve.specs.Playing.{Play, bounds_at}
 use Rattle.cm_serve.specs.Dialogue.{replied, replied_if, reply, reply_of, unchanged}
 use Rattle.cm_serve.specs.Lines.{said_by}
 use Rattle.cm_serve.specs.declared.said.Said.{Said}
@@ -26,21 +27,21 @@ renumbered-err {X} number other (Err fault) refused e = refused_at other fault r
     same_cause number fault refused e = cc
 
 -- what the first line says that counts
-line_read : (p : Play) (number at : ℕ) (bytes : List ℕ) (line : LineText) (rest : List LineText) (horizon latest : ℕ) → lines_of bytes ≡ line ∷ rest → horizon ≡ p.setting.signals.horizon → latest ≡ p.latest →
-    reply p number bytes ≡ replied_if p (at_line number (said_by horizon latest line))
-line_read p number at bytes line rest horizon latest e h l =
+line_read : (p : Play) (number at : ℕ) (bytes : List ℕ) (line : LineText) (rest : List LineText) (bounds : Bounds) (latest : ℕ) → lines_of bytes ≡ line ∷ rest → bounds ≡ bounds_at p → latest ≡ p.latest →
+    reply p number bytes ≡ replied_if p (at_line number (said_by bounds latest line))
+line_read p number at bytes line rest bounds latest e h l =
     ap (reply_of p number) e
-    ∙ ap (λ (n : ℕ). replied_if p (at_line number (said_by n p.latest line))) (sym h)
-    ∙ ap (λ (n : ℕ). replied_if p (at_line number (said_by horizon n line))) (sym l)
+    ∙ ap (λ (b : Bounds). replied_if p (at_line number (said_by b p.latest line))) (sym h)
+    ∙ ap (λ (n : ℕ). replied_if p (at_line number (said_by bounds n line))) (sym l)
 
-pub reply-said : (p : Play) (number at : ℕ) (bytes : List ℕ) (line : LineText) (rest : List LineText) (horizon latest : ℕ) (said : Said) → lines_of bytes ≡ line ∷ rest → horizon ≡ p.setting.signals.horizon → latest ≡ p.latest →
-    at_line at (said_by horizon latest line) ≡ Ok said → reply p number bytes ≡ replied p said
-reply-said p number at bytes line rest horizon latest said e h l is =
-    line_read p number at bytes line rest horizon latest e h l
-    ∙ ap (replied_if p) (renumbered-ok at number (said_by horizon latest line) said is)
+pub reply-said : (p : Play) (number at : ℕ) (bytes : List ℕ) (line : LineText) (rest : List LineText) (bounds : Bounds) (latest : ℕ) (said : Said) → lines_of bytes ≡ line ∷ rest → bounds ≡ bounds_at p → latest ≡ p.latest →
+    at_line at (said_by bounds latest line) ≡ Ok said → reply p number bytes ≡ replied p said
+reply-said p number at bytes line rest bounds latest said e h l is =
+    line_read p number at bytes line rest bounds latest e h l
+    ∙ ap (replied_if p) (renumbered-ok at number (said_by bounds latest line) said is)
 
-pub reply-refused : (p : Play) (number at : ℕ) (bytes : List ℕ) (line : LineText) (rest : List LineText) (horizon latest : ℕ) (refused : Refused) → lines_of bytes ≡ line ∷ rest → horizon ≡ p.setting.signals.horizon → latest ≡ p.latest →
-    at_line at (said_by horizon latest line) ≡ Err refused → reply p number bytes ≡ unchanged p (refused_text (record { line = number; cause = refused.cause }))
-reply-refused p number at bytes line rest horizon latest refused e h l is =
-    line_read p number at bytes line rest horizon latest e h l
-    ∙ ap (replied_if p) (renumbered-err at number (said_by horizon latest line) refused is)
+pub reply-refused : (p : Play) (number at : ℕ) (bytes : List ℕ) (line : LineText) (rest : List LineText) (bounds : Bounds) (latest : ℕ) (refused : Refused) → lines_of bytes ≡ line ∷ rest → bounds ≡ bounds_at p → latest ≡ p.latest →
+    at_line at (said_by bounds latest line) ≡ Err refused → reply p number bytes ≡ unchanged p (refused_text (record { line = number; cause = refused.cause }))
+reply-refused p number at bytes line rest bounds latest refused e h l is =
+    line_read p number at bytes line rest bounds latest e h l
+    ∙ ap (replied_if p) (renumbered-err at number (said_by bounds latest line) refused is)

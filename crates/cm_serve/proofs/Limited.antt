@@ -9,11 +9,14 @@ use Rattle.cm_base.specs.Words.{keyword, limited, listed, no_words, number_in, o
 use Rattle.cm_base.specs.declared.faults.Fault.{Fault}
 use Rattle.cm_base.specs.declared.faults.Fault.TheVariants.{BadNumber, Unknown}
 use Rattle.cm_base.proofs.Values.{values_few}
+use Rattle.cm_board.specs.Versions.{most_entries}
 use Rattle.cm_cmd.specs.Command.{CmdText}
 use Rattle.cm_cmd.specs.CommandText.{command_of}
 use Rattle.cm_cmd.specs.ListText.{entry_of}
 use Rattle.cm_cmd.specs.PrintedReads.{HasText}
 use Rattle.cm_cmd.proofs.Readable.{read_has_text}
+use Rattle.cm_signal.proofs.Entries.{few_entries}
+use Rattle.cm_signal.specs.declared.bounds.Bounds.{Bounds}
 use Rattle.cm_session.specs.Forms.{LineForm, command_words, data_word, file_word, file_words, head_of, number_words, on_file, on_sub, place_of, sub_word, sub_words, values_words, with_command, with_number, with_values}
 use Rattle.cm_session.specs.Instructions.{InsnForm, insn_forms, on_instruction}
 use Rattle.cm_session.specs.Limits.{HasLimits, IsLimited}
@@ -79,69 +82,87 @@ number_most least most word =
 values_most : (most : ℕ) (words : List (List ℕ)) → IfOk (values most data_word [] words) (λ vs. length vs ≤ most)
 values_most most words = has_each (λ vs. length vs ≤ most) (values most data_word [] words) (λ vs e. (values_few most data_word [] words vs (omega arith) e).few)
 
+-- a command with as many entries as a version says has no more than the widest
+any_version : (version : ℕ) (cmd : CmdText) → HasText (most_entries version) cmd → HasText 1024 cmd
+any_version version cmd h =
+    let most = few_entries version in
+    let few = h.few in
+    record {
+      sub = h.sub;
+      flags = h.flags;
+      start = h.start;
+      scan_begin = h.scan_begin;
+      convert = h.convert;
+      scan_end = h.scan_end;
+      stop = h.stop;
+      entries = h.entries;
+      few = omega arith;
+    }
+
 -- a command that is read is one that a text can say
-pub command_said : (words : List (List ℕ)) → IfOk (command_of words) HasText
-command_said words = has_each HasText (command_of words) (read_has_text words)
+pub command_said : (version : ℕ) (words : List (List ℕ)) → IfOk (command_of (most_entries version) words) (HasText 1024)
+command_said version words =
+    has_each (HasText 1024) (command_of (most_entries version) words) (λ cmd e. any_version version cmd (read_has_text (most_entries version) words cmd e))
 
 -- a line's time is as this says, and the line has its limits
 abbrev pub IsGood : (ℕ → Type 0) → SessionLine → Type 0
 IsGood P line = P line.time × HasLimits line.op
 
 -- the forms of lines, and what holds of each time that a word says
-module _ (P : ℕ → Type 0) (horizon : ℕ) (time : List ℕ) (says : IfOk (number_in 0 horizon time) P) where
-  head_timed : (file : List ℕ) → IfOk (head_of horizon time file) (λ head. P head.time)
-  head_timed file = then_has P _ (number_in 0 horizon time) _ says (λ t is. then_any _ (number_in 0 15 file) _ (λ f. is))
+module _ (P : ℕ → Type 0) (bounds : Bounds) (time : List ℕ) (says : IfOk (number_in 0 bounds.horizon time) P) where
+  head_timed : (file : List ℕ) → IfOk (head_of bounds time file) (λ head. P head.time)
+  head_timed file = then_has P _ (number_in 0 bounds.horizon time) _ says (λ t is. then_any _ (number_in 0 15 file) _ (λ f. is))
 
-  pub place_timed : (file sub : List ℕ) → IfOk (place_of horizon time file sub) (λ at. P at.0.time)
-  place_timed file sub = then_has (λ head. P head.time) _ (head_of horizon time file) _ (head_timed file) (λ head is. then_any _ (sub_word sub) _ (λ s. is))
+  pub place_timed : (file sub : List ℕ) → IfOk (place_of bounds time file sub) (λ at. P at.0.time)
+  place_timed file sub = then_has (λ head. P head.time) _ (head_of bounds time file) _ (head_timed file) (λ head is. then_any _ (sub_word sub) _ (λ s. is))
 
-  file_timed : (words : List (List ℕ)) → IfOk (file_words horizon time words) (λ head. P head.time)
+  file_timed : (words : List (List ℕ)) → IfOk (file_words bounds time words) (λ head. P head.time)
   file_timed words = then_any _ (one_word words) _ (λ file. head_timed file)
 
-  pub sub_timed : (words : List (List ℕ)) → IfOk (sub_words horizon time words) (λ w. P w.0.time)
+  pub sub_timed : (words : List (List ℕ)) → IfOk (sub_words bounds time words) (λ w. P w.0.time)
   sub_timed words = then_any _ (two_words words) _ (λ w. place_timed w.0 w.1)
 
   -- with a limit on what stands after the subdevice
-  pub number_timed : (most : ℕ) (words : List (List ℕ)) → IfOk (number_words most horizon time words) (λ w. P w.0.time × (w.2 ≤ most))
+  pub number_timed : (most : ℕ) (words : List (List ℕ)) → IfOk (number_words most bounds time words) (λ w. P w.0.time × (w.2 ≤ most))
   number_timed most words =
-      then_any _ (three_words words) _ (λ w. then_has (λ at. P at.0.time) _ (place_of horizon time w.0 w.1) _ (place_timed w.0 w.1)
+      then_any _ (three_words words) _ (λ w. then_has (λ at. P at.0.time) _ (place_of bounds time w.0 w.1) _ (place_timed w.0 w.1)
       (λ at is. then_has (λ n. n ≤ most) _ (number_in 0 most w.2) _ (number_most 0 most w.2) (λ n few. (is, few))))
 
-  values_timed : (words : List (List ℕ)) → IfOk (values_words horizon time words) (λ w. P w.0.time × (length w.2 ≤ 1024))
+  values_timed : (words : List (List ℕ)) → IfOk (values_words bounds time words) (λ w. P w.0.time × (length w.2 ≤ 1024))
   values_timed words =
-      then_any _ (two_and_more words) _ (λ w. then_has (λ at. P at.0.time) _ (place_of horizon time w.0 w.1) _ (place_timed w.0 w.1)
+      then_any _ (two_and_more words) _ (λ w. then_has (λ at. P at.0.time) _ (place_of bounds time w.0 w.1) _ (place_timed w.0 w.1)
       (λ at is. then_has (λ vs. length vs ≤ 1024) _ (values 1024 data_word [] w.2) _ (values_most 1024 w.2) (λ vs few. (is, few))))
 
-  command_timed : (words : List (List ℕ)) → IfOk (command_words horizon time words) (λ w. P w.0.time × HasText w.1)
+  command_timed : (words : List (List ℕ)) → IfOk (command_words bounds time words) (λ w. P w.0.time × HasText 1024 w.1)
   command_timed words =
-      then_any _ (file_word words) _ (λ file. then_has (λ head. P head.time) _ (head_of horizon time file) _ (head_timed file)
-      (λ head is. then_has HasText _ (command_of (drop 1 words)) _ (command_said (drop 1 words)) (λ cmd text. (is, text))))
+      then_any _ (file_word words) _ (λ file. then_has (λ head. P head.time) _ (head_of bounds time file) _ (head_timed file)
+      (λ head is. then_has (HasText 1024) _ (command_of (most_entries bounds.version) (drop 1 words)) _ (command_said bounds.version (drop 1 words)) (λ cmd text. (is, text))))
 
   -- so lines have theirs
-  file_good : (op : Op) (words : List (List ℕ)) → HasLimits op → IfOk (on_file op horizon time words) (IsGood P)
-  file_good op words limits = then_has (λ head. P head.time) _ (file_words horizon time words) _ (file_timed words) (λ head is. (is, limits))
+  file_good : (op : Op) (words : List (List ℕ)) → HasLimits op → IfOk (on_file op bounds time words) (IsGood P)
+  file_good op words limits = then_has (λ head. P head.time) _ (file_words bounds time words) _ (file_timed words) (λ head is. (is, limits))
 
-  sub_good : (make : ℕ → Op) (words : List (List ℕ)) → ((sub : ℕ) → HasLimits (make sub)) → IfOk (on_sub make horizon time words) (IsGood P)
-  sub_good make words limits = then_has (λ w. P w.0.time) _ (sub_words horizon time words) _ (sub_timed words) (λ w is. (is, limits w.1))
+  sub_good : (make : ℕ → Op) (words : List (List ℕ)) → ((sub : ℕ) → HasLimits (make sub)) → IfOk (on_sub make bounds time words) (IsGood P)
+  sub_good make words limits = then_has (λ w. P w.0.time) _ (sub_words bounds time words) _ (sub_timed words) (λ w is. (is, limits w.1))
 
-  number_good : (most : ℕ) (make : ℕ → ℕ → Op) (words : List (List ℕ)) → ((sub n : ℕ) → n ≤ most → HasLimits (make sub n)) → IfOk (with_number most make horizon time words) (IsGood P)
+  number_good : (most : ℕ) (make : ℕ → ℕ → Op) (words : List (List ℕ)) → ((sub n : ℕ) → n ≤ most → HasLimits (make sub n)) → IfOk (with_number most make bounds time words) (IsGood P)
   number_good most make words limits =
-      then_has (λ w. P w.0.time × (w.2 ≤ most)) _ (number_words most horizon time words) _ (number_timed most words) (λ w is. (is.0, limits w.1 w.2 is.1))
+      then_has (λ w. P w.0.time × (w.2 ≤ most)) _ (number_words most bounds time words) _ (number_timed most words) (λ w is. (is.0, limits w.1 w.2 is.1))
 
-  values_good : (make : ℕ → List ℕ → Op) (words : List (List ℕ)) → ((sub : ℕ) (vs : List ℕ) → length vs ≤ 1024 → HasLimits (make sub vs)) → IfOk (with_values make horizon time words) (IsGood P)
+  values_good : (make : ℕ → List ℕ → Op) (words : List (List ℕ)) → ((sub : ℕ) (vs : List ℕ) → length vs ≤ 1024 → HasLimits (make sub vs)) → IfOk (with_values make bounds time words) (IsGood P)
   values_good make words limits =
-      then_has (λ w. P w.0.time × (length w.2 ≤ 1024)) _ (values_words horizon time words) _ (values_timed words) (λ w is. (is.0, limits w.1 w.2 is.1))
+      then_has (λ w. P w.0.time × (length w.2 ≤ 1024)) _ (values_words bounds time words) _ (values_timed words) (λ w is. (is.0, limits w.1 w.2 is.1))
 
-  command_good : (make : CmdText → Op) (words : List (List ℕ)) → ((cmd : CmdText) → HasText cmd → HasLimits (make cmd)) → IfOk (with_command make horizon time words) (IsGood P)
+  command_good : (make : CmdText → Op) (words : List (List ℕ)) → ((cmd : CmdText) → HasText 1024 cmd → HasLimits (make cmd)) → IfOk (with_command make bounds time words) (IsGood P)
   command_good make words limits =
-      then_has (λ w. P w.0.time × HasText w.1) _ (command_words horizon time words) _ (command_timed words) (λ w is. (is.0, limits w.1 is.1))
+      then_has (λ w. P w.0.time × HasText 1024 w.1) _ (command_words bounds time words) _ (command_timed words) (λ w is. (is.0, limits w.1 is.1))
 
   -- those of instructions, each with what stands after its place
   placed_good : {W : Type 0} (r : Result W Fault) (file sub : List ℕ) (f : W → Head × ℕ → Result SessionLine Fault) → ((w : W) (at : Head × ℕ) → P at.0.time → IfOk (f w at) (IsGood P)) →
-      IfOk (r >>= λ w. place_of horizon time file sub >>= λ at. f w at) (IsGood P)
-  placed_good r file sub f next = then_any _ r _ (λ w. then_has (λ at. P at.0.time) _ (place_of horizon time file sub) (f w) (place_timed file sub) (next w))
+      IfOk (r >>= λ w. place_of bounds time file sub >>= λ at. f w at) (IsGood P)
+  placed_good r file sub f next = then_any _ r _ (λ w. then_has (λ at. P at.0.time) _ (place_of bounds time file sub) (f w) (place_timed file sub) (next w))
 
-  insn_forms_good : (file sub : List ℕ) (words : List (List ℕ)) → Each (λ (form : InsnForm). IfOk (form horizon time file sub words) (IsGood P)) insn_forms
+  insn_forms_good : (file sub : List ℕ) (words : List (List ℕ)) → Each (λ (form : InsnForm). IfOk (form bounds time file sub words) (IsGood P)) insn_forms
   insn_forms_good file sub words = (
     placed_good (two_words words) file sub _ (λ w at is. then_any _ (entry_of w.0) _ (λ entry. then_has (λ n. n ≤ 64) _ (number_in 1 64 w.1) _ (number_most 1 64 w.1) (λ n few. (is, few)))),
     (
@@ -159,12 +180,12 @@ module _ (P : ℕ → Type 0) (horizon : ℕ) (time : List ℕ) (says : IfOk (nu
     ),
   )
 
-  instruction_good : (words : List (List ℕ)) → IfOk (on_instruction horizon time words) (IsGood P)
-  instruction_good words = then_any _ (three_and_more words) _ (λ w. keyed_has _ (λ (form : InsnForm). form horizon time w.0 w.1 w.3) insn_forms w.2 (insn_forms_good w.0 w.1 w.3))
+  instruction_good : (words : List (List ℕ)) → IfOk (on_instruction bounds time words) (IsGood P)
+  instruction_good words = then_any _ (three_and_more words) _ (λ w. keyed_has _ (λ (form : InsnForm). form bounds time w.0 w.1 w.3) insn_forms w.2 (insn_forms_good w.0 w.1 w.3))
 
   -- those of files, locks and instructions, those with a number, and all of commands
   abbrev MakesGood : List (List ℕ) → LineForm → Type 0
-  MakesGood words form = IfOk (form horizon time words) (IsGood P)
+  MakesGood words form = IfOk (form bounds time words) (IsGood P)
 
   insn_lines_good : (words : List (List ℕ)) → Each (MakesGood words) insn_lines
   insn_lines_good words = (
@@ -191,20 +212,20 @@ module _ (P : ℕ → Type 0) (horizon : ℕ) (time : List ℕ) (says : IfOk (nu
   )
 
   -- and all
-  keyed_good : (key : List ℕ) (words : List (List ℕ)) → IfOk (keyed (lines_by false) key horizon time words) (IsGood P)
+  keyed_good : (key : List ℕ) (words : List (List ℕ)) → IfOk (keyed (lines_by false) key bounds time words) (IsGood P)
   keyed_good key words =
-      keyed_has _ (λ (form : LineForm). form horizon time words) (lines_by false) key (each_more (MakesGood words) insn_lines command_lines (insn_lines_good words) (command_lines_good words))
+      keyed_has _ (λ (form : LineForm). form bounds time words) (lines_by false) key (each_more (MakesGood words) insn_lines command_lines (insn_lines_good words) (command_lines_good words))
 
 -- a word that is no number is the time of no line
-pub untimed : (horizon : ℕ) (time : List ℕ) (fault : Fault) → number_in 0 horizon time ≡ Err fault → (key : List ℕ) (words : List (List ℕ)) (line : SessionLine) → keyed (lines_by false) key horizon time words ≡ Ok line → ⊥
-untimed horizon time fault is key words line e =
-    (has_ok _ _ line e (keyed_good (λ t. ⊥) horizon time (has_each _ _ (λ t said. never t (sym is ∙ said))) key words)).0
+pub untimed : (bounds : Bounds) (time : List ℕ) (fault : Fault) → number_in 0 bounds.horizon time ≡ Err fault → (key : List ℕ) (words : List (List ℕ)) (line : SessionLine) → keyed (lines_by false) key bounds time words ≡ Ok line → ⊥
+untimed bounds time fault is key words line e =
+    (has_ok _ _ line e (keyed_good (λ t. ⊥) bounds time (has_each _ _ (λ t said. never t (sym is ∙ said))) key words)).0
   where
     never : (t : ℕ) → (let r : Result ℕ Fault = Err fault in r) ≡ Ok t → ⊥
     never t e = cc
 
 -- and a line is limited
-pub line_limited : (horizon : ℕ) (words : List (List ℕ)) → IfOk (line_words false horizon words) (IsLimited horizon)
-line_limited horizon [] = tt
-line_limited horizon (time ∷ []) = tt
-line_limited horizon (time ∷ key ∷ words) = keyed_good (λ t. t ≤ horizon) horizon time (number_most 0 horizon time) key words
+pub line_limited : (bounds : Bounds) (words : List (List ℕ)) → IfOk (line_words false bounds words) (IsLimited bounds.horizon)
+line_limited bounds [] = tt
+line_limited bounds (time ∷ []) = tt
+line_limited bounds (time ∷ key ∷ words) = keyed_good (λ t. t ≤ bounds.horizon) bounds time (number_most 0 bounds.horizon time) key words

@@ -8,6 +8,7 @@ use Rattle.cm_base.specs.Words.{listed}
 use Rattle.cm_base.specs.declared.faults.ReadStop.{ReadStop}
 use Rattle.cm_base.specs.declared.faults.Refused.{Refused}
 use Rattle.cm_base.proofs.Each.{stops-along}
+use Rattle.cm_signal.specs.declared.bounds.Bounds.{Bounds}
 use Rattle.cm_serve.specs.declared.asked.Question.TheVariants.{Await, Info, Codes, Peek}
 use Rattle.cm_serve.specs.Lines.{QuestionForm, counted, fetching, next_line, plain, questions, ranged, timed}
 
@@ -31,8 +32,8 @@ asks_nothing key a b c d e =
     ∙ not_here key (codes "fetch") fetching None e
 
 -- the words of such a line are a line of the session
-pub timed_next : (number other horizon before : ℕ) (line : LineText) (time : List ℕ) (words : List (List ℕ)) (key : List ℕ) → number ≡ other → listed questions key ≡ None →
-    at_line number (timed horizon before line time words (listed questions key)) ≡ at_line other (next_line horizon before line)
-timed_next number other horizon before line time words key n e =
-    ap (λ (form : Option QuestionForm). at_line number (timed horizon before line time words form)) e
-    ∙ ap (λ (n : ℕ). at_line n (next_line horizon before line)) n
+pub timed_next : (number other : ℕ) (bounds : Bounds) (before : ℕ) (line : LineText) (time : List ℕ) (words : List (List ℕ)) (key : List ℕ) → number ≡ other → listed questions key ≡ None →
+    at_line number (timed bounds before line time words (listed questions key)) ≡ at_line other (next_line bounds before line)
+timed_next number other bounds before line time words key n e =
+    ap (λ (form : Option QuestionForm). at_line number (timed bounds before line time words form)) e
+    ∙ ap (λ (n : ℕ). at_line n (next_line bounds before line)) n

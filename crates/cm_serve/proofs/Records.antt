@@ -7,7 +7,7 @@ use Rattle.cm_base.specs.declared.faults.Fault.{Fault}
 use Rattle.cm_session.specs.Limits.{InOrder}
 use Rattle.cm_session.specs.declared.op.SessionLine.{SessionLine}
 use Rattle.cm_serve.specs.Asking.{awaits, line_of, takes, taking_time}
-use Rattle.cm_serve.specs.Playing.{Play, first_play, line_text, played}
+use Rattle.cm_serve.specs.Playing.{Play, bounds_at, first_play, line_text, played}
 use Rattle.cm_replay.specs.Texts.{texts_from}
 use Rattle.cm_serve.specs.Dialogue.{fetched, next_number, replied, replied_if, reply_of}
 use Rattle.cm_serve.specs.Law.{RecordReplays, answer_of, lines_of_fetch, play_after, played_all, record_of, recorded, recorded_answers, said_in}
@@ -79,7 +79,7 @@ line_step : (p : Play) (number : ℕ) (here : List LineText) (n : ℕ) (lines : 
     IsStep p (reply_of p number here).play (record_of p (said_in p here)) (answer_of p (reply_of p number here).text (said_in p here)) n lines
 line_step p number [] n lines later = no_record p n lines (later p)
 line_step p number (line ∷ rest) n lines later =
-    read_step p number (said_by p.setting.signals.horizon p.latest line) n lines (said_fits p.setting.signals.horizon p.latest line) later
+    read_step p number (said_by (bounds_at p) p.latest line) n lines (said_fits (bounds_at p) p.latest line) later
 
 -- line by line
 replays : (p : Play) (n : ℕ) (lines : List (List ℕ)) → IsReplayed p n lines

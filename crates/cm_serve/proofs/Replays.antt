@@ -11,10 +11,11 @@ use Rattle.cm_base.specs.declared.faults.Fault.{Fault}
 use Rattle.cm_base.specs.declared.faults.Fault.TheVariants.{BadLine, BadNumber}
 use Rattle.cm_base.specs.declared.faults.Refused.{Refused}
 use Rattle.cm_base.proofs.Values.{at_line_ok}
+use Rattle.cm_signal.specs.declared.bounds.Bounds.{Bounds}
 use Rattle.cm_session.specs.SessionPart.{after_time, keyed, last_time, line_after, line_words, lines_by}
 use Rattle.cm_session.specs.declared.op.SessionLine.{SessionLine}
 use Rattle.cm_session.proofs.After.{last-after}
-use Rattle.cm_serve.specs.Playing.{Play, first_play, line_text, played}
+use Rattle.cm_serve.specs.Playing.{Play, bounds_at, first_play, line_text, played}
 use Rattle.cm_replay.specs.State.{at_start}
 use Rattle.cm_replay.specs.Texts.{texts_from}
 use Rattle.cm_serve.specs.Ahead.{IsLine}
@@ -35,20 +36,20 @@ is_not word key n = by (bytes_eq word key) refl
     by false e = e
 
 -- a key of a question is none of a session
-asked_never : (key : List ℕ) (horizon : ℕ) (time : List ℕ) (words : List (List ℕ)) (next : SessionLine) → keyed (lines_by false) key horizon time words ≡ Ok next → listed questions key ≡ None
-asked_never key horizon time words next e = none_listed
+asked_never : (key : List ℕ) (bounds : Bounds) (time : List ℕ) (words : List (List ℕ)) (next : SessionLine) → keyed (lines_by false) key bounds time words ≡ Ok next → listed questions key ≡ None
+asked_never key bounds time words next e = none_listed
   where
-    other : (word : List ℕ) → ((n : SessionLine) → keyed (lines_by false) word horizon time words ≡ Ok n → ⊥) → bytes_eq key word ≡ false
-    other word never = is_not key word (λ same. never next (ap (λ (k : List ℕ). keyed (lines_by false) k horizon time words) (sym same) ∙ e))
+    other : (word : List ℕ) → ((n : SessionLine) → keyed (lines_by false) word bounds time words ≡ Ok n → ⊥) → bytes_eq key word ≡ false
+    other word never = is_not key word (λ same. never next (ap (λ (k : List ℕ). keyed (lines_by false) k bounds time words) (sym same) ∙ e))
 
     none_listed : listed questions key ≡ None
     none_listed = simp (other (codes "await") (λ n f. cc), other (codes "info") (λ n f. cc), other (codes "codes") (λ n f. cc), other (codes "peek") (λ n f. cc), other (codes "fetch") (λ n f. cc))
 
 -- a word of a time is none of those with which other lines start
-timed_word : (time key : List ℕ) (horizon : ℕ) (words : List (List ℕ)) (next : SessionLine) (word : List ℕ) (fault : Fault) → number_in 0 horizon word ≡ Err fault →
-    keyed (lines_by false) key horizon time words ≡ Ok next → bytes_eq time word ≡ false
-timed_word time key horizon words next word fault is e =
-    is_not time word (λ same. untimed horizon word fault is key words next (ap (λ (t : List ℕ). keyed (lines_by false) key horizon t words) (sym same) ∙ e))
+timed_word : (time key : List ℕ) (bounds : Bounds) (words : List (List ℕ)) (next : SessionLine) (word : List ℕ) (fault : Fault) → number_in 0 bounds.horizon word ≡ Err fault →
+    keyed (lines_by false) key bounds time words ≡ Ok next → bytes_eq time word ≡ false
+timed_word time key bounds words next word fault is e =
+    is_not time word (λ same. untimed bounds word fault is key words next (ap (λ (t : List ℕ). keyed (lines_by false) key bounds t words) (sym same) ∙ e))
 
 -- a step that gave something
 opened : {A B E : Type 0} (r : Result A E) (f : A → Result B E) (y : B) → (r >>= f) ≡ Ok y → (x : A) × (r ≡ Ok x) × (f x ≡ Ok y)
@@ -60,32 +61,32 @@ abbrev said_as : SessionLine → Result Said Fault
 said_as line = Ok (says.Session line)
 
 -- a good line of a session is said as one
-good_line : (horizon before number : ℕ) (words : List (List ℕ)) (next : SessionLine) → line_after false horizon before (record { number = number; words = words; bad = false }) ≡ Ok next →
-    said_by horizon before (record { number = number; words = words; bad = false }) ≡ Ok (says.Session next)
-good_line horizon before number [] next e = cc
-good_line horizon before number (time ∷ []) next e = cc
-good_line horizon before number (time ∷ key ∷ words) next e =
-    let o = opened (keyed (lines_by false) key horizon time words) (λ line. after_time before line) next e in
-    let describes = timed_word time key horizon words o.0 (codes "describe") BadNumber refl o.1 in
-    let tests = timed_word time key horizon words o.0 (codes "test") BadNumber refl o.1 in
-    let asks = asked_never key horizon time words o.0 o.1 in
+good_line : (bounds : Bounds) (before number : ℕ) (words : List (List ℕ)) (next : SessionLine) → line_after false bounds before (record { number = number; words = words; bad = false }) ≡ Ok next →
+    said_by bounds before (record { number = number; words = words; bad = false }) ≡ Ok (says.Session next)
+good_line bounds before number [] next e = cc
+good_line bounds before number (time ∷ []) next e = cc
+good_line bounds before number (time ∷ key ∷ words) next e =
+    let o = opened (keyed (lines_by false) key bounds time words) (λ line. after_time before line) next e in
+    let describes = timed_word time key bounds words o.0 (codes "describe") BadNumber refl o.1 in
+    let tests = timed_word time key bounds words o.0 (codes "test") BadNumber refl o.1 in
+    let asks = asked_never key bounds time words o.0 o.1 in
     simp (describes, tests, asks) (ap (λ (r : Result SessionLine Fault). r >>= λ line. said_as line) e)
 
 -- a line of a session is said as one
-said_next : (horizon before : ℕ) (line : LineText) (next : SessionLine) → line_after false horizon before line ≡ Ok next → said_by horizon before line ≡ Ok (says.Session next)
-said_next horizon before line next e = by line.bad refl
+said_next : (bounds : Bounds) (before : ℕ) (line : LineText) (next : SessionLine) → line_after false bounds before line ≡ Ok next → said_by bounds before line ≡ Ok (says.Session next)
+said_next bounds before line next e = by line.bad refl
   where
-    by : (b : Bool) → line.bad ≡ b → said_by horizon before line ≡ Ok (says.Session next)
+    by : (b : Bool) → line.bad ≡ b → said_by bounds before line ≡ Ok (says.Session next)
     by true bad =
-        let refused : Err BadLine ≡ Ok next = ap (λ (b : Bool). cond b (Err BadLine) (line_words false horizon line.words >>= λ n. after_time before n)) (sym bad) ∙ e in
+        let refused : Err BadLine ≡ Ok next = ap (λ (b : Bool). cond b (Err BadLine) (line_words false bounds line.words >>= λ n. after_time before n)) (sym bad) ∙ e in
         cc
     by false good =
         let is : line ≡ record { number = line.number; words = line.words; bad = false } = λ i. record { number = line.number; words = line.words; bad = good i } in
-        ap (said_by horizon before) is ∙ good_line horizon before line.number line.words next (ap (line_after false horizon before) (sym is) ∙ e)
+        ap (said_by bounds before) is ∙ good_line bounds before line.number line.words next (ap (line_after false bounds before) (sym is) ∙ e)
 
 -- lines of a session that were read so far, and those that are read after them
-abbrev pub read_after : ℕ → List SessionLine → List LineText → Result (List SessionLine) Refused
-read_after horizon before lines = read_each (λ before line. line_after false horizon (last_time before) line) before lines
+abbrev pub read_after : Bounds → List SessionLine → List LineText → Result (List SessionLine) Refused
+read_after bounds before lines = read_each (λ before line. line_after false bounds (last_time before) line) before lines
 
 -- the answers to these lines are those to the lines that are read of them
 record IsReplayed (p : Play) (n : ℕ) (lines : List (List ℕ)) (before all : List SessionLine) : Type 0 where
@@ -94,8 +95,8 @@ record IsReplayed (p : Play) (n : ℕ) (lines : List (List ℕ)) (before all : L
   pub text : answers (dialogue p n lines) ≡ texts_from p.setting p.state new
 
 one_more : (p : Play) (n : ℕ) (bytes : List ℕ) (lines : List (List ℕ)) (before all : List SessionLine) (here : List LineText) → lines_of bytes ≡ here → length (lines_of bytes) ≤ 1 → p.latest ≡ last_time before →
-    read_after p.setting.signals.horizon before (here ++ flat_map lines_of lines) ≡ Ok all →
-    ((q : Play) (m : ℕ) (b : List SessionLine) → q.latest ≡ last_time b → read_after q.setting.signals.horizon b (flat_map lines_of lines) ≡ Ok all → IsReplayed q m lines b all) →
+    read_after (bounds_at p) before (here ++ flat_map lines_of lines) ≡ Ok all →
+    ((q : Play) (m : ℕ) (b : List SessionLine) → q.latest ≡ last_time b → read_after (bounds_at q) b (flat_map lines_of lines) ≡ Ok all → IsReplayed q m lines b all) →
     IsReplayed p n (bytes ∷ lines) before all
 one_more p n bytes lines before all [] is one l e later =
     let r = later p (next_number n) before l e in
@@ -105,10 +106,10 @@ one_more p n bytes lines before all [] is one l e later =
       text = ap (λ (a : Reply). a.text ++ answers (dialogue a.play (next_number n) lines)) (ap (reply_of p n) is) ∙ r.text;
     }
 one_more p n bytes lines before all (line ∷ []) is one l e later =
-    let horizon = p.setting.signals.horizon in
-    let o = opened (at_line line.number (line_after false horizon (last_time before) line)) (λ x. read_after horizon (before ++ x ∷ []) (flat_map lines_of lines)) all e in
+    let bounds = bounds_at p in
+    let o = opened (at_line line.number (line_after false bounds (last_time before) line)) (λ x. read_after bounds (before ++ x ∷ []) (flat_map lines_of lines)) all e in
     let x = o.0 in
-    let said : said_by horizon p.latest line ≡ Ok (says.Session x) = ap (λ (t : ℕ). said_by horizon t line) l ∙ said_next horizon (last_time before) line x (at_line_ok line.number (line_after false horizon (last_time before) line) x o.1) in
+    let said : said_by bounds p.latest line ≡ Ok (says.Session x) = ap (λ (t : ℕ). said_by bounds t line) l ∙ said_next bounds (last_time before) line x (at_line_ok line.number (line_after false bounds (last_time before) line) x o.1) in
     let answer : reply p n bytes ≡ replied p (says.Session x) = ap (reply_of p n) is ∙ ap (λ (r : Result Said Fault). replied_if p (at_line n r)) said in
     let r = later (played p x) (next_number n) (before ++ x ∷ []) (sym (last-after before x)) o.2 in
     record {
@@ -118,7 +119,7 @@ one_more p n bytes lines before all (line ∷ []) is one l e later =
     }
 one_more p n bytes lines before all (line ∷ next ∷ more) is one l e later = absurd (omega (arith, ap length is))
 
-replays : (p : Play) (n : ℕ) (lines : List (List ℕ)) (before all : List SessionLine) → All IsLine lines → p.latest ≡ last_time before → read_after p.setting.signals.horizon before (flat_map lines_of lines) ≡ Ok all →
+replays : (p : Play) (n : ℕ) (lines : List (List ℕ)) (before all : List SessionLine) → All IsLine lines → p.latest ≡ last_time before → read_after (bounds_at p) before (flat_map lines_of lines) ≡ Ok all →
     IsReplayed p n lines before all
 replays p n [] before all single l e =
     let same : before ≡ all = cc in

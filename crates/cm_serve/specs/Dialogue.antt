@@ -6,7 +6,7 @@ use Rattle.cm_base.specs.declared.faults.Refused.{Refused}
 use Rattle.cm_board_text.specs.Printed.{printed_board}
 use Rattle.cm_serve.specs.Asking.{asked_text, awaits, line_of, takes, taking_time}
 use Rattle.cm_replay.specs.Declined.{refused_text}
-use Rattle.cm_serve.specs.Playing.{Play, line_text}
+use Rattle.cm_serve.specs.Playing.{Play, bounds_at, line_text}
 use Rattle.cm_serve.specs.Playing as playing
 use Rattle.cm_replay.specs.Testing.{test_answer}
 use Rattle.cm_serve.specs.Lines.{said_by}
@@ -53,7 +53,7 @@ replied_if p (Err refused) = unchanged p (refused_text refused)
 -- the answer to a line with this number: nothing to an empty line or a comment
 abbrev pub reply_of : Play → ℕ → List LineText → Reply
 reply_of p number [] = unchanged p []
-reply_of p number (line ∷ rest) = replied_if p (at_line number (said_by p.setting.signals.horizon p.latest line))
+reply_of p number (line ∷ rest) = replied_if p (at_line number (said_by (bounds_at p) p.latest line))
 
 abbrev pub reply : Play → ℕ → List ℕ → Reply
 reply p number bytes = reply_of p number (lines_of bytes)

@@ -3,12 +3,13 @@ use Rattle.std.specs.Prelude.{◌≡◌, ℕ, false, List, [], ◌∷◌, ◌++�
 use Rattle.std.specs.List.{All}
 use Rattle.std.specs.Result.{result_ok}
 use Rattle.cm_base.specs.Lines.{LineText, lines_of}
+use Rattle.cm_signal.specs.Bounds.{bounds_of}
 use Rattle.cm_signal.specs.Setting.{Setting}
 use Rattle.cm_session.specs.Limits.{InOrder}
 use Rattle.cm_session.specs.SessionPart.{session_of}
 use Rattle.cm_session.specs.declared.op.SessionLine.{SessionLine}
 use Rattle.cm_serve.specs.Asking.{awaits, line_of, takes, taking_time}
-use Rattle.cm_serve.specs.Playing.{Play, first_play, line_text, played}
+use Rattle.cm_serve.specs.Playing.{Play, bounds_at, first_play, line_text, played}
 use Rattle.cm_replay.specs.Texts.{replay_text, texts_from}
 use Rattle.cm_serve.specs.Ahead.{IsLine}
 use Rattle.cm_serve.specs.Dialogue.{dialogue, next_number, reply}
@@ -28,13 +29,13 @@ answers (Answer text ∷ turns) = text ++ answers turns
 abbrev pub AnswersAsReplay : Type 0
 AnswersAsReplay =
     (s : Setting) (first : ℕ) (lines : List (List ℕ)) (all : List SessionLine)
-    → All IsLine lines → session_of false s.signals.horizon (flat_map lines_of lines) ≡ Ok all
+    → All IsLine lines → session_of false (bounds_of s.board s.signals) (flat_map lines_of lines) ≡ Ok all
     → answers (dialogue (first_play s) first lines) ≡ replay_text s all
 
 -- what a client's line says, unless it is refused, empty or a comment
 abbrev pub said_in : Play → List LineText → Option Said
 said_in p [] = None
-said_in p (line ∷ rest) = result_ok (said_by p.setting.signals.horizon p.latest line)
+said_in p (line ∷ rest) = result_ok (said_by (bounds_at p) p.latest line)
 
 -- the record of a fetch: the lines that its two questions are in other words
 abbrev pub lines_of_fetch : Play → Fetch → List SessionLine

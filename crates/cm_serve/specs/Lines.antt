@@ -6,7 +6,9 @@ use Rattle.cm_base.specs.Reading.{◌>>=◌}
 use Rattle.cm_base.specs.Words.{Form, four_words, listed, no_words, number_in}
 use Rattle.cm_base.specs.declared.faults.Fault.{Fault}
 use Rattle.cm_base.specs.declared.faults.Fault.TheVariants.{Bad, BadLine}
+use Rattle.cm_board.specs.Versions.{most_entries}
 use Rattle.cm_cmd.specs.CommandText.{command_of}
+use Rattle.cm_signal.specs.declared.bounds.Bounds.{Bounds}
 use Rattle.cm_session.specs.Forms.{number_words, place_of, sub_words}
 use Rattle.cm_session.specs.SessionPart.{line_after}
 use Rattle.cm_session.specs.declared.forms.Head.{Head}
@@ -17,9 +19,9 @@ use Rattle.cm_serve.specs.declared.asked.Question.TheVariants.{Await, Info, Code
 use Rattle.cm_serve.specs.declared.said.Said.{Said}
 use Rattle.cm_serve.specs.declared.said.Said.TheVariants as says
 
--- what is asked of a subdevice, by the time of the line before, the horizon, the word of its own time, and the words after its key
+-- what is asked of a subdevice, by the time of the line before, its bounds, the word of its own time, and the words after its key
 abbrev pub QuestionForm : Type 0
-QuestionForm = ℕ → ℕ → List ℕ → Form Said
+QuestionForm = ℕ → Bounds → List ℕ → Form Said
 
 -- what is asked at a time by a file about a subdevice
 abbrev pub asked_by : Head → ℕ → Question → Asked
@@ -31,31 +33,31 @@ asked_after before asked = if nat_le before asked.time then Ok (says.Question as
 
 -- `T KEY F SUB`
 abbrev pub plain : Question → QuestionForm
-plain question before horizon time words = sub_words horizon time words >>= λ w. asked_after before (asked_by w.0 w.1 question)
+plain question before bounds time words = sub_words bounds time words >>= λ w. asked_after before (asked_by w.0 w.1 question)
 
 -- `T KEY F SUB N`, with up to 65,536 samples
 abbrev pub counted : (ℕ → Question) → QuestionForm
-counted make before horizon time words = number_words 65536 horizon time words >>= λ w. asked_after before (asked_by w.0 w.1 (make w.2))
+counted make before bounds time words = number_words 65536 bounds time words >>= λ w. asked_after before (asked_by w.0 w.1 (make w.2))
 
 -- `T KEY F SUB I N`, with two numbers up to 65,536
-abbrev pub ranged_words : ℕ → List ℕ → Form (Head × ℕ × ℕ × ℕ)
-ranged_words horizon time words =
+abbrev pub ranged_words : Bounds → List ℕ → Form (Head × ℕ × ℕ × ℕ)
+ranged_words bounds time words =
     four_words words >>= λ w.
-    place_of horizon time w.0 w.1 >>= λ at.
+    place_of bounds time w.0 w.1 >>= λ at.
     number_in 0 65536 w.2 >>= λ from.
     number_in 0 65536 w.3 >>= λ n.
     Ok (at.0, at.1, from, n)
 
 abbrev pub ranged : (ℕ → ℕ → Question) → QuestionForm
-ranged make before horizon time words = ranged_words horizon time words >>= λ w. asked_after before (asked_by w.0 w.1 (make w.2 w.3))
+ranged make before bounds time words = ranged_words bounds time words >>= λ w. asked_after before (asked_by w.0 w.1 (make w.2 w.3))
 
 -- a fetch after a line of this time, which it may not be below
 abbrev pub fetch_after : ℕ → Fetch → Result Said Fault
 fetch_after before fetch = if nat_le before fetch.time then Ok (says.Fetch fetch) else Err Bad
 
 abbrev pub fetching : QuestionForm
-fetching before horizon time words =
-    ranged_words horizon time words >>= λ w. fetch_after before (record { time = w.0.time; file = w.0.file; sub = w.1; wanted = w.2; n = w.3 })
+fetching before bounds time words =
+    ranged_words bounds time words >>= λ w. fetch_after before (record { time = w.0.time; file = w.0.file; sub = w.1; wanted = w.2; n = w.3 })
 
 -- the questions by their keys
 abbrev pub questions : List (List ℕ × QuestionForm)
@@ -64,23 +66,23 @@ questions =
     ∷ (codes "fetch", fetching) ∷ []
 
 -- a line of the session
-abbrev pub next_line : ℕ → ℕ → LineText → Result Said Fault
-next_line horizon before line = line_after false horizon before line >>= λ next. Ok (says.Session next)
+abbrev pub next_line : Bounds → ℕ → LineText → Result Said Fault
+next_line bounds before line = line_after false bounds before line >>= λ next. Ok (says.Session next)
 
 -- a line with a time and a key: a question, or a line of a session
-abbrev pub timed : ℕ → ℕ → LineText → List ℕ → List (List ℕ) → Option QuestionForm → Result Said Fault
-timed horizon before line time words None = next_line horizon before line
-timed horizon before line time words (Some form) = form before horizon time words
+abbrev pub timed : Bounds → ℕ → LineText → List ℕ → List (List ℕ) → Option QuestionForm → Result Said Fault
+timed bounds before line time words None = next_line bounds before line
+timed bounds before line time words (Some form) = form before bounds time words
 
 -- what the words of a line with a time say
-abbrev pub worded : ℕ → ℕ → LineText → List (List ℕ) → Result Said Fault
-worded horizon before line (time ∷ key ∷ words) = timed horizon before line time words (listed questions key)
-worded horizon before line words = Err BadLine
+abbrev pub worded : Bounds → ℕ → LineText → List (List ℕ) → Result Said Fault
+worded bounds before line (time ∷ key ∷ words) = timed bounds before line time words (listed questions key)
+worded bounds before line words = Err BadLine
 
--- what a line says, after one of this time and up to the horizon
-abbrev pub said_by : ℕ → ℕ → LineText → Result Said Fault
-said_by horizon before line =
+-- what a line says, after one of this time and within these bounds
+abbrev pub said_by : Bounds → ℕ → LineText → Result Said Fault
+said_by bounds before line =
     if line.bad then Err BadLine
     else if begins (codes "describe") line then (no_words (drop 1 line.words) >>= λ none. Ok says.Describe)
-    else if begins (codes "test") line then (command_of (drop 1 line.words) >>= λ cmd. Ok (says.Test cmd))
-    else worded horizon before line line.words
+    else if begins (codes "test") line then (command_of (most_entries bounds.version) (drop 1 line.words) >>= λ cmd. Ok (says.Test cmd))
+    else worded bounds before line line.words

@@ -1,6 +1,8 @@
 -- A session whose lines come one after another.
 use Rattle.std.specs.Prelude.{ℕ, List}
+use Rattle.cm_signal.specs.Bounds.{bounds_of}
 use Rattle.cm_signal.specs.Setting.{Setting}
+use Rattle.cm_signal.specs.declared.bounds.Bounds.{Bounds}
 use Rattle.cm_session.specs.declared.op.SessionLine.{SessionLine}
 use Rattle.cm_replay.specs.Session.{step}
 use Rattle.cm_replay.specs.State.{State, at_start}
@@ -11,6 +13,10 @@ pub record Play : Type 0 where
   pub setting : Setting
   pub state : State
   pub latest : ℕ
+
+-- the bounds of its lines
+abbrev pub bounds_at : Play → Bounds
+bounds_at p = bounds_of p.setting.board p.setting.signals
 
 -- before the first line
 abbrev pub first_play : Setting → Play

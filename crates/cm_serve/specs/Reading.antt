@@ -16,5 +16,5 @@ abbrev pub IsFit : ℕ → ℕ → Said → Type 0
 IsFit horizon before (says.Session line) = (before ≤ line.time) × IsLimited horizon line
 IsFit horizon before (says.Question asked) = (before ≤ asked.time) × IsLimited horizon (line_of asked)
 IsFit horizon before (says.Fetch fetch) = (before ≤ fetch.time) × IsFetch horizon fetch
-IsFit horizon before (says.Test cmd) = HasText cmd
+IsFit horizon before (says.Test cmd) = HasText 1024 cmd
 IsFit horizon before says.Describe = Unit {0}

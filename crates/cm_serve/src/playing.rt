@@ -4,7 +4,7 @@ ghost use Rattle.cm_session.specs.Limits.{IsLimited};
 ghost use Rattle.cm_signal.specs.Fitting.{FitBoard};
 ghost use Rattle.cm_serve.specs.Asking.{asked_time, line_of};
 ghost use Rattle.cm_serve.specs.Dialogue.{asked_reply, fetched};
-ghost use Rattle.cm_serve.specs.Playing.{first_play, line_text, played};
+ghost use Rattle.cm_serve.specs.Playing.{bounds_at, first_play, line_text, played};
 ghost use Rattle.cm_serve.specs.Reading.{IsFetch};
 ghost use Rattle.cm_replay.specs.Replies.{tried_of};
 
@@ -18,6 +18,7 @@ use cm_replay::replay::seats_of;
 use cm_replay::seat::Seat;
 use cm_replay::trying::BoxedAccepted;
 use cm_session::op::SessionLine;
+use cm_signal::bounds::Bounds;
 use cm_signal::setting::Setting;
 use cm_signal::signals::Signals;
 use cm_sub::files::Files;
@@ -86,6 +87,13 @@ impl<'a> Playing<'a> {
         ensures { result.now ≡ self.now.setting.signals }
     {
         self.setting.signals
+    }
+
+    /// The bounds of its lines.
+    pub fn bounds(&self) -> Bounds
+        ensures { result ≡ bounds_at self.now }
+    {
+        Bounds::of(self.setting.board, self.setting.signals)
     }
 
     /// Answers a line. `tried` is its command where its subdevice accepts it (`try_line` gives it),

@@ -13,26 +13,28 @@ use cm_base::faults::{Fault, ReadStop};
 use cm_base::lines::Line;
 use cm_base::parts::{begins, refused};
 use cm_base::words::{at_line, four, none, number_in};
-use cm_cmd::reading::read_cmd;
+use cm_board::versions::most_entries;
+use cm_cmd::reading::read_cmd_up_to;
 use cm_session::forms::{Head, Start, number_words, place, sub_words};
 use cm_session::op::BoxedCmd;
 use cm_session::reading::read_line;
+use cm_signal::bounds::Bounds;
 use std::alloc::Global;
 
 // The most samples that a question counts.
 const MOST_SAMPLES: u32 = 65_536;
 
-/// What a line says, after a line of the time `before` and up to the horizon: a line of a session, a
-/// question, a command to test, or that the board is to be described. It refuses a line as
+/// What a line says, after a line of the time `before` and within these bounds: a line of a session,
+/// a question, a command to test, or that the board is to be described. It refuses a line as
 /// `read_session` does.
 pub fn read_said(
     alloc: Global,
-    horizon: u64,
+    bounds: Bounds,
     before: u64,
     line: &Line<'_>,
 ) -> Result<Said, ReadStop>
-    ensures value { Gives (λ said. said) result (at_line line.now.number (spec.said_by horizon before (line_view line.now))) }
-    ensures fit { IfOk result (IsFit horizon before) }
+    ensures value { Gives (λ said. said) result (at_line line.now.number (spec.said_by bounds before (line_view line.now))) }
+    ensures fit { IfOk result (IsFit bounds.horizon before) }
 {
     if line.bad {
         return Err(refused(line.number, Fault::BadLine));
@@ -41,24 +43,24 @@ pub fn read_said(
         at_line(line.number, none(&line.words[1..]))?;
         Ok(Said::Describe)
     } else if begins(b"test", line) {
-        let cmd = read_cmd(alloc, line, 1)?;
+        let cmd = read_cmd_up_to(alloc, line, 1, most_entries(bounds.version))?;
         Ok(Said::Test(BoxedCmd::new(alloc, cmd)?))
     } else {
-        read_words(alloc, horizon, before, line)
+        read_words(alloc, bounds, before, line)
     }
 }
 
 // What a line says that has a time and a key.
-fn read_words(alloc: Global, horizon: u64, before: u64, line: &Line<'_>) -> Result<Said, ReadStop>
-    ensures value { Gives (λ said. said) result (at_line line.now.number (spec.worded horizon before (line_view line.now) (line_view line.now).words)) }
-    ensures fit { IfOk result (IsFit horizon before) }
+fn read_words(alloc: Global, bounds: Bounds, before: u64, line: &Line<'_>) -> Result<Said, ReadStop>
+    ensures value { Gives (λ said. said) result (at_line line.now.number (spec.worded bounds before (line_view line.now) (line_view line.now).words)) }
+    ensures fit { IfOk result (IsFit bounds.horizon before) }
 {
     let number = line.number;
     match line.words.as_slice() {
         [time, key, words @ ..] => {
             let start = Start {
                 number,
-                horizon,
+                bounds,
                 time,
             };
             read_timed(alloc, before, &start, line, key, words)
@@ -77,8 +79,8 @@ fn read_timed(
     words: &[&[u8]],
 ) -> Result<Said, ReadStop>
     requires number { start.now.number ≡ line.now.number }
-    ensures value { Gives (λ said. said) result (at_line start.now.number (spec.timed start.now.horizon before (line_view line.now) start.now.time.now (map (λ word. word.now) words.now) (listed spec.questions key.now))) }
-    ensures fit { IfOk result (IsFit start.now.horizon before) }
+    ensures value { Gives (λ said. said) result (at_line start.now.number (spec.timed start.now.bounds before (line_view line.now) start.now.time.now (map (λ word. word.now) words.now) (listed spec.questions key.now))) }
+    ensures fit { IfOk result (IsFit start.now.bounds.horizon before) }
 {
     if key == b"await".as_slice() {
         let (head, sub, n) = at_line(start.number, number_words(start, words, MOST_SAMPLES))?;
@@ -105,14 +107,14 @@ fn read_timed(
         let (head, sub, wanted, n) = at_line(start.number, ranged_words(start, words))?;
         at_line(start.number, fetch_after(before, head, sub, wanted, n))
     } else {
-        read_next(alloc, start.horizon, before, line)
+        read_next(alloc, start.bounds, before, line)
     }
 }
 
 // The file, the subdevice, and the two numbers of `T KEY F SUB I N`.
 fn ranged_words(start: &Start<'_>, words: &[&[u8]]) -> Result<(Head, u32, u32, u32), Fault>
-    ensures value { result ≡ spec.ranged_words start.now.horizon start.now.time.now (map (λ word. word.now) words.now) }
-    ensures within { IfOk result (λ w. w.0.time ≤ start.now.horizon) }
+    ensures value { result ≡ spec.ranged_words start.now.bounds start.now.time.now (map (λ word. word.now) words.now) }
+    ensures within { IfOk result (λ w. w.0.time ≤ start.now.bounds.horizon) }
     ensures few { IfOk result (λ w. w.3 ≤ 65536) }
 {
     let (file, sub, from, n) = four(words)?;
@@ -123,11 +125,11 @@ fn ranged_words(start: &Start<'_>, words: &[&[u8]]) -> Result<(Head, u32, u32, u
 }
 
 // A line of the session.
-fn read_next(alloc: Global, horizon: u64, before: u64, line: &Line<'_>) -> Result<Said, ReadStop>
-    ensures value { Gives (λ said. said) result (at_line line.now.number (spec.next_line horizon before (line_view line.now))) }
-    ensures fit { IfOk result (IsFit horizon before) }
+fn read_next(alloc: Global, bounds: Bounds, before: u64, line: &Line<'_>) -> Result<Said, ReadStop>
+    ensures value { Gives (λ said. said) result (at_line line.now.number (spec.next_line bounds before (line_view line.now))) }
+    ensures fit { IfOk result (IsFit bounds.horizon before) }
 {
-    let next = read_line(alloc, horizon, before, false, line)?;
+    let next = read_line(alloc, bounds, before, false, line)?;
     Ok(Said::Session(next))
 }
 

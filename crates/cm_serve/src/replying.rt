@@ -44,8 +44,7 @@ pub(crate) fn put_reply<'a, R: Wait>(
     if !cursor.next(alloc, &mut line)? {
         return Ok(playing);
     }
-    let signals = playing.signals();
-    match read_said(alloc, signals.horizon, playing.latest(), &line) {
+    match read_said(alloc, playing.bounds(), playing.latest(), &line) {
         Ok(said) => put_said(rt, alloc, kept, playing, &said, text),
         Err(ReadStop::NoMemory) => Err(NoMemory),
         Err(ReadStop::Refused(refused)) => {

@@ -10,9 +10,9 @@ pub returns-in_err-next-clause-value : goal.returns-in_err-next-clause-value
 returns-in_err-next-clause-value c =
     let line = line_view c.args.line.now in
     gives_err _ c.from_residual.result c.in_err-next.field-0.0 _ c.from_residual.ensures.1
-    (then_stops c.in_err-next.field-0.0 line.number (line_after false c.args.horizon c.args.before line) (λ next. Ok (says.Session next)) c.in_err-next.ensures.value)
+    (then_stops c.in_err-next.field-0.0 line.number (line_after false c.args.bounds c.args.before line) (λ next. Ok (says.Session next)) c.in_err-next.ensures.value)
 
 pub returns-clause-value : goal.returns-clause-value
 returns-clause-value c =
     let line = line_view c.args.line.now in
-    then_reads line.number (line_after false c.args.horizon c.args.before line) (λ next. Ok (says.Session next)) c.in_ok-next.next c.in_ok-next.ensures.value
+    then_reads line.number (line_after false c.args.bounds c.args.before line) (λ next. Ok (says.Session next)) c.in_ok-next.next c.in_ok-next.ensures.value

@@ -9,7 +9,7 @@ pub returns-else-eq-5-clause-value : goal.returns-else-eq-5-clause-value
 returns-else-eq-5-clause-value c =
     let key = c.args.key.now in
     gives-along (λ (said : Said). said) c.read_next.result _ _
-    (timed_next c.args.start.now.number c.args.line.now.number c.args.start.now.horizon c.args.before (line_view c.args.line.now) c.args.start.now.time.now (map (λ word. word.now) c.args.words.now) key c.requires.number
+    (timed_next c.args.start.now.number c.args.line.now.number c.args.start.now.bounds c.args.before (line_view c.args.line.now) c.args.start.now.time.now (map (λ word. word.now) c.args.words.now) key c.requires.number
     (asks_nothing key
     (c.if-eq.ensures ∙ ap (λ (word : List ℕ). bytes_eq key word) c.as_slice.ensures)
     (c.if-eq-2.ensures ∙ ap (λ (word : List ℕ). bytes_eq key word) c.as_slice-else-eq.ensures)
