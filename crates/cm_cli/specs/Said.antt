@@ -6,6 +6,7 @@ use Rattle.cm_base.specs.declared.faults.Refused.{Refused}
 use Rattle.cm_board.specs.Board.{BoardText}
 use Rattle.cm_board_text.specs.BoardPart.{board_of}
 use Rattle.cm_signal.specs.SignalsPart.{signals_at}
+use Rattle.cm_signal.specs.Bounds.{bounds_of}
 use Rattle.cm_signal.specs.Setting.{Setting}
 use Rattle.cm_session.specs.SessionPart.{session_of}
 use Rattle.cm_job.specs.ExpandLines.{expands_of}
@@ -52,7 +53,7 @@ Written how (Soaks n) = how (soak_text n)
 
 -- what the session part of each command says, over a board and signals
 abbrev pub tests_said : BoardText → List LineText → Result Work Refused
-tests_said board lines = tests_of lines >>= λ cmds. Ok (Text (tests_text board cmds))
+tests_said board lines = tests_of board lines >>= λ cmds. Ok (Text (tests_text board cmds))
 
 -- the answer to an `expand` job
 abbrev pub expands_said : Setting → List LineText → Result Work Refused
@@ -61,7 +62,7 @@ expands_said s lines = expands_of s.board s.signals lines >>= λ all. Ok (Text (
 -- the job of a session, of instructions alone or of all kinds of lines
 abbrev pub job_of : Bool → Setting → List LineText → Result JobText Refused
 job_of only_insn s lines =
-    session_of only_insn s.signals.horizon lines >>= λ all. Ok (record { board = s.board; signals = s.signals; lines = all })
+    session_of only_insn (bounds_of s.board s.signals) lines >>= λ all. Ok (record { board = s.board; signals = s.signals; lines = all })
 
 -- the answer to an `insn` job or a `replay` job
 abbrev pub session_answer : Bool → Setting → List LineText → Result Work Refused

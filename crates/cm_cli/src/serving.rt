@@ -93,7 +93,7 @@ fn serve_tests<K: Sink>(
     ensures fault { IsErrOf result Stop.WriteFault → Rose (K.faults sink.old) (K.faults sink.new) }
     ensures later { K.faults sink.old ≤ K.faults sink.new }
 {
-    let cmds = read_tests(alloc, lines)?;
+    let cmds = read_tests(alloc, board, lines)?;
     test_all(alloc, board, &cmds, sink)?;
     Ok(())
 }
@@ -146,7 +146,7 @@ fn read_job(
     requires { FitBoard board.subs signals }
     ensures { Gives (λ job. job) result (job_of only_insn (record { board = board; signals = signals }) (drop at lines.now.list)) }
 {
-    let session = read_session(alloc, &signals, lines, at, only_insn)?;
+    let session = read_session(alloc, &board, &signals, lines, at, only_insn)?;
     Ok(Job {
         board,
         signals,

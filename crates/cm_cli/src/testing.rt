@@ -20,7 +20,7 @@ pub(crate) fn test_all<K: Sink>(
     cmds: &[Cmd],
     sink: &mut K,
 ) -> Result<(), TextStop>
-    requires { All (λ cmd. length cmd.list ≤ 256) cmds.now }
+    requires { All (λ cmd. length cmd.list ≤ 1024) cmds.now }
     ensures ok { OnOk result (Appends (K.text sink.old) (K.text sink.new) (tests_text board.now cmds.now)) }
     ensures prefix { OnErr result (AppendsPrefix (K.text sink.old) (K.text sink.new) (tests_text board.now cmds.now)) }
     ensures fault { IsErrOf result TextStop.WriteFault → Rose (K.faults sink.old) (K.faults sink.new) }

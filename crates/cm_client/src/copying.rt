@@ -23,7 +23,7 @@ pub fn copy_read<P: Planned>(reader: &mut Reader<P>, out: &mut [u32]) -> usize
     if out.is_empty() {
         return 0;
     }
-    let most = out.len().min(65536) as u32;
+    let most = out.len().min(1_048_576) as u32;
     let count = reader.map(most);
     if count > 0 {
         reader.copy_words(out, count);

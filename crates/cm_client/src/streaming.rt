@@ -46,7 +46,7 @@ pub fn stream_words<
     gate: &G,
     who: u32,
 ) -> Result<Streamed<P, C>, NoMemory>
-    requires size { (0 < size) × (size ≤ 65536) }
+    requires size { (0 < size) × (size ≤ 1048576) }
     requires rule { IsRule rule }
     requires few { length (P.samples plan) ≤ 1099511627776 }
     requires plan { (P.samples plan ≡ W.all words) × (W.place words ≡ 0) }
@@ -84,7 +84,7 @@ pub fn stream<'a, R: Threads + Wait + Sync, C: Consumer + Send, G: Gate + Sync>(
     gate: &G,
     who: u32,
 ) -> Result<Streamed<Plan<'a>, C>, NoMemory>
-    requires size { (0 < size) × (size ≤ 65536) }
+    requires size { (0 < size) × (size ≤ 1048576) }
     requires rule { IsRule rule }
     requires few { length (plan_words plan) ≤ 1099511627776 }
     requires new { (C.count consumer ≡ 0) × (C.made consumer ≡ C.makes consumer []) }

@@ -12,7 +12,7 @@ use Rattle.cm_expand.proofs.Codes.{code_is}
 use Rattle.cm_expand.specs.Fit.{IsFit, NamesLine}
 use Rattle.cm_expand.specs.Plan.{PlanText, IsPlan}
 
-line_below : (sub : SubText) (src arg : ℕ) → sub.lines ≤ 16 → (src ≡ source.ext → line_of sub arg < sub.lines) → NamesLine sub src arg
+line_below : (sub : SubText) (src arg : ℕ) → sub.lines ≤ 64 → (src ≡ source.ext → line_of sub arg < sub.lines) → NamesLine sub src arg
 line_below sub src arg few names = λ is. let below = names (eqb-true src source.ext is) in omega (arith, few, below)
 
 -- an entry of a list that passes

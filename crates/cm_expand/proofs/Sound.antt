@@ -50,7 +50,7 @@ converts_by horizon arg true ext edges ticks lines = ticks refl
 converts_by horizon arg false true edges ticks lines = lines refl
 converts_by horizon arg false false edges ticks lines = tt
 
-most_by : (horizon arg : ℕ) (counted : Bool) → horizon ≤ 10 ^ 12 → (counted ≡ true → (1 ≤ arg) × (arg ≤ 4000000000)) → (1 ≤ (if counted then arg else horizon + 1)) × ((if counted then arg else horizon + 1) ≤ 2 ^ 40)
+most_by : (horizon arg : ℕ) (counted : Bool) → horizon ≤ 10 ^ 15 → (counted ≡ true → (1 ≤ arg) × (arg < 2 ^ 32)) → (1 ≤ (if counted then arg else horizon + 1)) × ((if counted then arg else horizon + 1) ≤ 2 ^ 50)
 most_by horizon arg true by counts = (let c = counts refl in c.0, let c = counts refl in omega arith)
 most_by horizon arg false by counts = (omega arith, omega arith)
 
@@ -75,7 +75,7 @@ gap_high sub cmd sound inside timer =
     let limit = sound.convert.high in
     omega arith
 
-count_high : (sub : SubText) (cmd : CmdText) → board.IsSoundSub sub → AreInside sub cmd → (cmd.stop.src == source.count) ≡ true → cmd.stop.arg ≤ 4000000000
+count_high : (sub : SubText) (cmd : CmdText) → board.IsSoundSub sub → AreInside sub cmd → (cmd.stop.src == source.count) ≡ true → cmd.stop.arg < 2 ^ 32
 count_high sub cmd sound inside counted =
     let high : limited sub cmd.stop ≤ (stop_limits sub cmd).high = inside.stop.high in
     let most : limited sub cmd.stop ≤ sub.scans_max = rw counted at high in
@@ -127,18 +127,18 @@ same_horizon p (Some start) = refl
 pub expansion_of : (p : PlanText) → IsSoundPlan p → IsExpansion p
 expansion_of p sound = expansion p (course_of p) refl (course_if p (start_of p) sound refl) (same_horizon p (start_of p)) (fit p sound.sub sound.plan)
 
-length-times : (c : Course) → IsCourse c → length (times c) ≤ 2 ^ 56
+length-times : (c : Course) → IsCourse c → length (times c) ≤ 2 ^ 60
 length-times c is =
     let all = scans_short c (begins c) in
-    let some : length (begins c) ≤ 2 ^ 40 = omega (arith, begins_short c c.most (first c c.start), is.not_more) in
+    let some : length (begins c) ≤ 2 ^ 50 = omega (arith, begins_short c c.most (first c c.start), is.not_more) in
     let a = mul-le-mul_right c.per_scan some in
-    let b = mul-le-mul_left (2 ^ 40) is.few in
+    let b = mul-le-mul_left (2 ^ 50) is.few in
     omega arith
 
-length-times_if : (o : Option Course) → IfSome o IsCourse → length (times_if o) ≤ 2 ^ 56
+length-times_if : (o : Option Course) → IfSome o IsCourse → length (times_if o) ≤ 2 ^ 60
 length-times_if None is = omega arith
 length-times_if (Some c) is = length-times c is
 
 -- an expansion isn't long
-pub length-times_of : (p : PlanText) → IsSoundPlan p → length (times_of p) ≤ 2 ^ 56
+pub length-times_of : (p : PlanText) → IsSoundPlan p → length (times_of p) ≤ 2 ^ 60
 length-times_of p sound = length-times_if (course_of p) (course_if p (start_of p) sound refl)

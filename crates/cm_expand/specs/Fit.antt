@@ -13,14 +13,14 @@ pub record IsCodeAt (p : PlanText) (entry time : ℕ) : Type 0 where
   pub back : munged (munge_of p.sub (chan entry)) (maxdata_of p.sub (chan entry)) (input_at p entry time) ≡ code_at p entry time
   pub within : code_at p entry time ≤ maxdata_of p.sub (chan entry)
 
--- an external source names one of the 16 lines
+-- an external source names one of the 64 lines
 abbrev pub NamesLine : SubText → ℕ → ℕ → Type 0
-NamesLine sub src arg = (src == source.ext) ≡ true → line_of sub arg < 16
+NamesLine sub src arg = (src == source.ext) ≡ true → line_of sub arg < 64
 
 -- what the command of each plan keeps
 pub record IsFit (p : PlanText) : Type 0 where
   pub some : 1 ≤ length p.cmd.list
-  pub few : length p.cmd.list ≤ 256
+  pub few : length p.cmd.list ≤ 1024
   pub channels : (i : ℕ) → i < length p.cmd.list → chan (slice_index p.cmd.list i) < p.sub.channels
   pub ranges : (i : ℕ) → i < length p.cmd.list → range (slice_index p.cmd.list i) < range_count p.sub (chan (slice_index p.cmd.list i))
   pub codes : (i time : ℕ) → i < length p.cmd.list → IsCodeAt p (slice_index p.cmd.list i) time

@@ -7,6 +7,7 @@ use Rattle.cm_cmd.specs.declared.command.Trig.{Trig}
 use Rattle.cm_expand.specs.Plan.{PlanText}
 use Rattle.cm_expand.specs.declared.conv.Conv.{Conv}
 use Rattle.cm_signal.specs.Signals.{SignalsText}
+use Rattle.cm_signal.specs.SignalsPart.{silent}
 use Rattle.cm_fifo.specs.Counts.{count_of}
 use Rattle.cm_fifo.specs.Handed.{handed_of}
 
@@ -20,7 +21,7 @@ input = record (idle_sub kinds.Ai 1 255 (record { min = pos 0; max = pos 255; un
 }
 
 abbrev quiet : SignalsText
-quiet = record { horizon = 10000; waves = []; edges = replicate 16 []; falls = replicate 16 []; ints = [] }
+quiet = silent 10000
 
 abbrev trig : ℕ → ℕ → Trig
 trig src arg = record { src = src; arg = arg }
@@ -83,7 +84,7 @@ unfolding maxdata_of munge_of ranges_of
 four = refl
 
 -- where an edge stops the command later, it is requested then
-stopped : times (handed_of (record six { signals = record quiet { edges = (3800 ∷ []) ∷ replicate 15 [] }; cmd = record six.cmd { stop = trig source.ext 0 } }) (record { depth = 4; latency = 1500 })).arrivals ≡ 2500 ∷ 2500 ∷ 2500 ∷ 5300 ∷ []
+stopped : times (handed_of (record six { signals = record quiet { edges = (3800 ∷ []) ∷ replicate 63 [] }; cmd = record six.cmd { stop = trig source.ext 0 } }) (record { depth = 4; latency = 1500 })).arrivals ≡ 2500 ∷ 2500 ∷ 2500 ∷ 5300 ∷ []
 unfolding maxdata_of munge_of ranges_of
 stopped = refl
 

@@ -56,7 +56,7 @@ pub fn insn(
     ensures words { words.new ≡ words_after (insn_at sub.now index signals.now now state.old what.now words.old) words.old }
     ensures kept { IsAsLong state.old state.new }
 {
-    // These reads show that the horizon is at most 10^12, and that each channel has a direction.
+    // These reads show that the horizon is at most 10^15, and that each channel has a direction.
     shows(&signals.horizon);
     shows(&state.values.len());
     let site = Site {
@@ -200,7 +200,7 @@ impl Site<'_> {
 /// The time of day at a time in nanoseconds: its seconds, and the microseconds since the last of
 /// them.
 pub fn time_words(time: u64) -> [u32; 2]
-    requires { time ≤ 10 ^ 12 }
+    requires { time ≤ 10 ^ 15 }
     ensures { result ≡ table.time_words time }
 {
     [

@@ -14,7 +14,7 @@ pub(crate) struct Site<'a> {
     pub index: u32,
     pub signals: &'a Signals,
     pub time: u64,
-    ghost in_time: { time ≤ 10 ^ 12 },
+    ghost in_time: { time ≤ 10 ^ 15 },
 }
 
 impl Site<'_> {

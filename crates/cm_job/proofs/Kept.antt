@@ -10,10 +10,13 @@ use Rattle.cm_base.specs.Reading.{at_line}
 use Rattle.cm_base.specs.Words.{limited, number_in}
 use Rattle.cm_base.proofs.Values.{at_line_ok}
 use Rattle.cm_board.specs.Board.{BoardText, SubText, is_output}
+use Rattle.cm_board.specs.Versions.{most_entries}
 use Rattle.cm_cmd.specs.Command.{CmdText}
 use Rattle.cm_cmd.specs.CommandText.{command_of}
 use Rattle.cm_test.specs.Accepting.{numbered_sub, passed, sub_at}
+use Rattle.cm_signal.specs.Bounds.{bounds_of}
 use Rattle.cm_signal.specs.Signals.{SignalsText}
+use Rattle.cm_signal.specs.declared.bounds.Bounds.{Bounds}
 use Rattle.cm_test.specs.Questions.{tested}
 use Rattle.cm_expand.specs.Totals.{has_room, length_of, length_of_all}
 use Rattle.cm_expand.proofs.Rooms.{length-more}
@@ -50,31 +53,31 @@ head-from horizon words h e =
     let most = take-from (word_at w.0 3) k.0 k.1 in
     subst (λ (x : Mode × Access × ℕ × Option ℕ). (x.2 ≤ horizon) × IsTake x.3) (same-ok (m.0, a.0, t.0, k.0) h k.2) (time.1, most)
 
-go-from : (horizon : ℕ) (line : LineText) (asked : Asked) → go_line horizon line ≡ Ok asked → IsAsked horizon asked
-go-from horizon line asked e =
-    let h = then-from (go_head horizon (drop 1 line.words)) _ asked e in
-    let c = then-from (command_of (drop 5 line.words)) _ asked h.2 in
-    subst (IsAsked horizon) (same-ok (asks.Go h.0.0 h.0.1 h.0.2 h.0.3 c.0) asked c.2) (head-from horizon (drop 1 line.words) h.0 h.1)
+go-from : (bounds : Bounds) (line : LineText) (asked : Asked) → go_line bounds line ≡ Ok asked → IsAsked bounds.horizon asked
+go-from bounds line asked e =
+    let h = then-from (go_head bounds.horizon (drop 1 line.words)) _ asked e in
+    let c = then-from (command_of (most_entries bounds.version) (drop 5 line.words)) _ asked h.2 in
+    subst (IsAsked bounds.horizon) (same-ok (asks.Go h.0.0 h.0.1 h.0.2 h.0.3 c.0) asked c.2) (head-from bounds.horizon (drop 1 line.words) h.0 h.1)
 
-drive-from : (horizon : ℕ) (line : LineText) (asked : Asked) → drive_line horizon line ≡ Ok asked → IsAsked horizon asked
-drive-from horizon line asked e =
-    let h = then-from (drive_head horizon (drop 1 line.words)) _ asked e in
+drive-from : (bounds : Bounds) (line : LineText) (asked : Asked) → drive_line bounds line ≡ Ok asked → IsAsked bounds.horizon asked
+drive-from bounds line asked e =
+    let h = then-from (drive_head bounds.horizon (drop 1 line.words)) _ asked e in
     let n = then-from (numbers_of h.0.1) _ asked h.2 in
-    let c = then-from (command_of (drop 3 line.words)) _ asked n.2 in
+    let c = then-from (command_of (most_entries bounds.version) (drop 3 line.words)) _ asked n.2 in
     let w = then-from (before_commands 2 8 (drop 1 line.words)) _ h.0 h.1 in
-    let t = then-from (number_in 0 horizon (word_at w.0 0)) _ h.0 w.2 in
-    let time = number-from 0 horizon (word_at w.0 0) t.0 t.1 in
+    let t = then-from (number_in 0 bounds.horizon (word_at w.0 0)) _ h.0 w.2 in
+    let time = number-from 0 bounds.horizon (word_at w.0 0) t.0 t.1 in
     let same : t.0 ≡ h.0.0 = ap (λ (x : ℕ × List ℕ). x.0) (same-ok (t.0, (word_at w.0 1)) h.0 t.2) in
-    subst (IsAsked horizon) (same-ok (asks.Drive h.0.0 n.0 c.0) asked c.2) (subst (λ (k : ℕ). k ≤ horizon) same time.1, numbers-some h.0.1 n.0 n.1)
+    subst (IsAsked bounds.horizon) (same-ok (asks.Drive h.0.0 n.0 c.0) asked c.2) (subst (λ (k : ℕ). k ≤ bounds.horizon) same time.1, numbers-some h.0.1 n.0 n.1)
 
-asked-from : (horizon : ℕ) (line : LineText) (asked : Asked) → asked_of horizon line ≡ Ok asked → IsAsked horizon asked
-asked-from horizon line asked e =
-    let k = then-from (line_key line) (keyed horizon line) asked e in
+asked-from : (bounds : Bounds) (line : LineText) (asked : Asked) → asked_of bounds line ≡ Ok asked → IsAsked bounds.horizon asked
+asked-from bounds line asked e =
+    let k = then-from (line_key line) (keyed bounds line) asked e in
     by k.0 k.2
   where
-    by : (key : Key) → keyed horizon line key ≡ Ok asked → IsAsked horizon asked
-    by keys.Go said = go-from horizon line asked said
-    by keys.Drive said = drive-from horizon line asked said
+    by : (key : Key) → keyed bounds line key ≡ Ok asked → IsAsked bounds.horizon asked
+    by keys.Go said = go-from bounds line asked said
+    by keys.Drive said = drive-from bounds line asked said
 
 -- a subdevice that was found
 record IsFound (board : BoardText) (out : Bool) (i : ℕ) (sub : SubText) : Type 0 where
@@ -168,20 +171,20 @@ taken-from session board asked line e = by (takes session board asked) refl e
     by false is said = absurd (cc)
 
 -- a line that is read can be called, and there are not too many before it
-pub next-called : (session : Session) (board : BoardText) (signals : SignalsText) (count : ℕ) (line : LineText) (next : RunLine) → next_line session board signals.horizon count line ≡ Ok next → IsCalled board signals next × (count < 16)
+pub next-called : (session : Session) (board : BoardText) (signals : SignalsText) (count : ℕ) (line : LineText) (next : RunLine) → next_line session board (bounds_of board signals) count line ≡ Ok next → IsCalled board signals next × (count < 16)
 next-called session board signals count line next e =
-    let a = then-from (asked_of signals.horizon line) _ next e in
+    let a = then-from (asked_of (bounds_of board signals) line) _ next e in
     let f = then-from (limited (nat_lt count 16) a.0) _ next a.2 in
     let l = limited-from (nat_lt count 16) a.0 f.0 f.1 in
     let t = taken-from session board f.0 next f.2 in
-    (line-called board signals f.0 next (subst (IsAsked signals.horizon) l.1 (asked-from signals.horizon line a.0 a.1)) t.said, ltb-true count 16 l.0)
+    (line-called board signals f.0 next (subst (IsAsked signals.horizon) l.1 (asked-from (bounds_of board signals) line a.0 a.1)) t.said, ltb-true count 16 l.0)
 
 -- lines with one more that is read after them can be run
 pub lines-more : (session : Session) (board : BoardText) (signals : SignalsText) (before : List RunLine) (number : ℕ) (line : LineText) (next : RunLine) → AreRunLines board signals before →
     at_line number (line_after session board signals before line) ≡ Ok next → AreRunLines board signals (before ++ next ∷ [])
 lines-more session board signals before number line next so e =
     let said = at_line_ok number (line_after session board signals before line) next e in
-    let n = then-from (next_line session board signals.horizon (length before) line) _ next said in
+    let n = then-from (next_line session board (bounds_of board signals) (length before) line) _ next said in
     let l = limited-from (has_room (length_of_all (plan_of board signals) before) (length_of (plan_of board signals n.0))) n.0 next n.2 in
     let parts = and_parts (nat_le (length_of (plan_of board signals n.0)) 1000000) (nat_le (length_of_all (plan_of board signals) before + length_of (plan_of board signals n.0)) 4000000) l.0 in
     let called = next-called session board signals (length before) line n.0 n.1 in

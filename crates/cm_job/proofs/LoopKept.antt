@@ -7,11 +7,14 @@ use Rattle.cm_base.specs.Words.{number_in}
 use Rattle.cm_base.specs.declared.faults.Fault.{Fault}
 use Rattle.cm_base.specs.declared.faults.Fault.TheVariants.{Bad, Limit}
 use Rattle.cm_board.specs.Board.{BoardText}
+use Rattle.cm_board.specs.Versions.{most_entries}
 use Rattle.cm_cmd.specs.Command.{CmdText}
 use Rattle.cm_cmd.specs.CommandText.{command_of}
 use Rattle.cm_expand.specs.Items.{items_of}
 use Rattle.cm_expand.specs.Rule.{is_raw}
+use Rattle.cm_signal.specs.Bounds.{bounds_of}
 use Rattle.cm_signal.specs.Signals.{SignalsText}
+use Rattle.cm_signal.specs.declared.bounds.Bounds.{Bounds}
 use Rattle.cm_job.proofs.Kept.{accepted-from}
 use Rattle.cm_job.proofs.Steps.{number-from, same-ok, then-from}
 use Rattle.cm_job.specs.RunPart.{accepted}
@@ -45,16 +48,16 @@ head-from horizon line h e =
     let window = number-from 1 16 (word_at w.0 2) n.0 n.1 in
     subst (IsHead horizon) (same-ok (i.0, o.0, n.0) h n.2) (t_in.1, t_out.1, window.0, window.1)
 
-pub asked-from : (horizon : ℕ) (line : LineText) (a : Asked) → asked_of horizon line ≡ Ok a → IsAsked horizon a
+pub asked-from : (bounds : Bounds) (line : LineText) (a : Asked) → asked_of bounds line ≡ Ok a → IsAsked bounds.horizon a
 unfolding IsHead
-asked-from horizon line a e =
-    let h = then-from (loop_head horizon line) _ a e in
-    let i = then-from (command_of (take 8 (drop 4 line.words))) _ a h.2 in
-    let o = then-from (command_of (drop 12 line.words)) _ a i.2 in
-    let head = head-from horizon line h.0 h.1 in
+asked-from bounds line a e =
+    let h = then-from (loop_head bounds.horizon line) _ a e in
+    let i = then-from (command_of (most_entries bounds.version) (take 8 (drop 4 line.words))) _ a h.2 in
+    let o = then-from (command_of (most_entries bounds.version) (drop 12 line.words)) _ a i.2 in
+    let head = head-from bounds.horizon line h.0 h.1 in
     let made : Asked = record { t_in = h.0.0; t_out = h.0.1; window = h.0.2; input = i.0; output = o.0 } in
-    let is : IsAsked horizon made = record { t_in = head.0; t_out = head.1; window = (head.2, head.3) } in
-    subst (IsAsked horizon) (same-ok made a o.2) is
+    let is : IsAsked bounds.horizon made = record { t_in = head.0; t_out = head.1; window = (head.2, head.3) } in
+    subst (IsAsked bounds.horizon) (same-ok made a o.2) is
 
 -- both commands of a line can be called
 pub record AreCalled (board : BoardText) (signals : SignalsText) (a : Asked) (line : LoopLine) : Type 0 where
@@ -107,8 +110,8 @@ not-true false e = refl
 -- a line that is read makes a loop job
 pub loop-from : (board : BoardText) (signals : SignalsText) (line : LineText) (next : LoopLine) → loop_line board signals line ≡ Ok next → IsLoopJob (job_of board signals next)
 loop-from board signals line next e =
-    let a = then-from (asked_of signals.horizon line) _ next e in
-    let asked = asked-from signals.horizon line a.0 a.1 in
+    let a = then-from (asked_of (bounds_of board signals) line) _ next e in
+    let asked = asked-from (bounds_of board signals) line a.0 a.1 in
     let l = then-from (called_of board a.0) (λ x. ruled board signals x) next a.2 in
     let c = called-from board signals a.0 l.0 asked.t_in asked.t_out l.1 in
     let r = ruled-from board signals l.0 next l.2 in

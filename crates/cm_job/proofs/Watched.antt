@@ -12,6 +12,7 @@ use Rattle.cm_base.specs.declared.faults.Fault.{Fault}
 use Rattle.cm_base.specs.declared.faults.ReadStop.{ReadStop}
 use Rattle.cm_board.specs.Board.{BoardText, SubText}
 use Rattle.cm_cmd.specs.Command.{CmdText}
+use Rattle.cm_signal.specs.Bounds.{bounds_of}
 use Rattle.cm_signal.specs.Signals.{SignalsText}
 use Rattle.cm_test.proofs.Adjusted.{first_no}
 use Rattle.cm_test.specs.Questions.{is_compatible, is_narrow, is_rounded, is_within, tested}
@@ -86,9 +87,9 @@ asked-watched board (asks.Drive t0 numbers cmd) line takes e = absurd (cc)
 -- a line that is read of a watch is watched
 line-watched : (board : BoardText) (signals : SignalsText) (before : List RunLine) (line : LineText) (next : RunLine) → line_after sessions.Watch board signals before line ≡ Ok next → IsWatched board next
 line-watched board signals before line next e =
-    let n = then-from (next_line sessions.Watch board signals.horizon (length before) line) (λ x. limited (has_room (length_of_all (plan_of board signals) before) (length_of (plan_of board signals x))) x) next e in
+    let n = then-from (next_line sessions.Watch board (bounds_of board signals) (length before) line) (λ x. limited (has_room (length_of_all (plan_of board signals) before) (length_of (plan_of board signals x))) x) next e in
     let l = limited-from (has_room (length_of_all (plan_of board signals) before) (length_of (plan_of board signals n.0))) n.0 next n.2 in
-    let a = then-from (asked_of signals.horizon line) (λ asked. limited (nat_lt (length before) 16) asked >>= λ asked. taken_line sessions.Watch board asked) n.0 n.1 in
+    let a = then-from (asked_of (bounds_of board signals) line) (λ asked. limited (nat_lt (length before) 16) asked >>= λ asked. taken_line sessions.Watch board asked) n.0 n.1 in
     let f = then-from (limited (nat_lt (length before) 16) a.0) (λ asked. taken_line sessions.Watch board asked) n.0 a.2 in
     let t = taken-from sessions.Watch board f.0 n.0 f.2 in
     subst (IsWatched board) l.1 (asked-watched board f.0 n.0 t.takes t.said)

@@ -6,9 +6,12 @@ use Rattle.cm_base.specs.Words.{limited, number_in}
 use Rattle.cm_base.specs.declared.faults.Fault.{Fault}
 use Rattle.cm_base.specs.declared.faults.Refused.{Refused}
 use Rattle.cm_board.specs.Board.{BoardText}
+use Rattle.cm_board.specs.Versions.{most_entries}
 use Rattle.cm_cmd.specs.Command.{CmdText}
 use Rattle.cm_cmd.specs.CommandText.{command_of}
+use Rattle.cm_signal.specs.Bounds.{bounds_of}
 use Rattle.cm_signal.specs.Signals.{SignalsText}
+use Rattle.cm_signal.specs.declared.bounds.Bounds.{Bounds}
 use Rattle.cm_test.specs.Accepting.{accepted}
 use Rattle.cm_expand.specs.Calls as calls
 use Rattle.cm_expand.specs.Plan.{PlanText}
@@ -21,8 +24,9 @@ abbrev pub expand_time : ℕ → LineText → Result ℕ Fault
 expand_time horizon line = only_word (codes "expand") line >>= λ u. before_commands 2 8 line.words >>= λ w. number_in 0 horizon (word_at w 1)
 
 -- the time and the command of such a line
-abbrev pub expand_words : ℕ → LineText → Result (ℕ × CmdText) Fault
-expand_words horizon line = expand_time horizon line >>= λ t. command_of (drop 2 line.words) >>= λ cmd. Ok (t, cmd)
+abbrev pub expand_words : Bounds → LineText → Result (ℕ × CmdText) Fault
+expand_words bounds line =
+    expand_time bounds.horizon line >>= λ t. command_of (most_entries bounds.version) (drop 2 line.words) >>= λ cmd. Ok (t, cmd)
 
 -- a line whose command is accepted
 abbrev pub accepted_line : BoardText → ℕ × CmdText → Result ExpandLine Fault
@@ -30,7 +34,7 @@ accepted_line board w = accepted board w.1 >>= λ cmd. Ok (record { t0 = w.0; cm
 
 -- the line that a text says
 abbrev pub line_of : BoardText → SignalsText → LineText → Result ExpandLine Fault
-line_of board signals line = expand_words signals.horizon line >>= λ w. accepted_line board w
+line_of board signals line = expand_words (bounds_of board signals) line >>= λ w. accepted_line board w
 
 -- what a line calls, and when
 abbrev pub call_of : ExpandLine → calls.CallText

@@ -7,9 +7,11 @@ use Rattle.cm_base.specs.Reading.{◌>>=◌}
 use Rattle.cm_base.specs.Words.{Form, each_word, keyword, number_in}
 use Rattle.cm_base.specs.declared.faults.Fault.{Fault}
 use Rattle.cm_base.specs.declared.faults.Fault.TheVariants.{BadLine}
+use Rattle.cm_board.specs.Versions.{most_entries}
 use Rattle.cm_cmd.specs.Command.{CmdText}
 use Rattle.cm_cmd.specs.CommandText.{command_of}
 use Rattle.cm_cmd.specs.ListText.{is_byte}
+use Rattle.cm_signal.specs.declared.bounds.Bounds.{Bounds}
 use Rattle.cm_job.specs.Head.{before_commands, word_at}
 use Rattle.cm_job.specs.declared.asked.Asked.{Asked}
 use Rattle.cm_job.specs.declared.asked.Asked.TheVariants as asks
@@ -52,19 +54,22 @@ go_head horizon words =
     Ok (mode, access, t0, most)
 
 -- `go MODE READER CALL TAKE COMMAND`
-abbrev pub go_line : ℕ → LineText → Result Asked Fault
-go_line horizon line = go_head horizon (drop 1 line.words) >>= λ h. command_of (drop 5 line.words) >>= λ cmd. Ok (asks.Go h.0 h.1 h.2 h.3 cmd)
+abbrev pub go_line : Bounds → LineText → Result Asked Fault
+go_line bounds line =
+    go_head bounds.horizon (drop 1 line.words) >>= λ h.
+    command_of (most_entries bounds.version) (drop 5 line.words) >>= λ cmd.
+    Ok (asks.Go h.0 h.1 h.2 h.3 cmd)
 
 -- the time and the word of the values in `drive CALL VALUES COMMAND`
 abbrev pub drive_head : ℕ → Form (ℕ × List ℕ)
 drive_head horizon words = before_commands 2 8 words >>= λ w. number_in 0 horizon (word_at w 0) >>= λ t0. Ok (t0, word_at w 1)
 
 -- `drive CALL VALUES COMMAND`
-abbrev pub drive_line : ℕ → LineText → Result Asked Fault
-drive_line horizon line =
-    drive_head horizon (drop 1 line.words) >>= λ h.
+abbrev pub drive_line : Bounds → LineText → Result Asked Fault
+drive_line bounds line =
+    drive_head bounds.horizon (drop 1 line.words) >>= λ h.
     numbers_of h.1 >>= λ numbers.
-    command_of (drop 3 line.words) >>= λ cmd.
+    command_of (most_entries bounds.version) (drop 3 line.words) >>= λ cmd.
     Ok (asks.Drive h.0 numbers cmd)
 
 -- the form that a word names
@@ -81,10 +86,10 @@ abbrev pub line_key : LineText → Result Key Fault
 line_key line = if line.bad then Err BadLine else key_of line.words
 
 -- a line of this form
-abbrev pub keyed : ℕ → LineText → Key → Result Asked Fault
-keyed horizon line keys.Go = go_line horizon line
-keyed horizon line keys.Drive = drive_line horizon line
+abbrev pub keyed : Bounds → LineText → Key → Result Asked Fault
+keyed bounds line keys.Go = go_line bounds line
+keyed bounds line keys.Drive = drive_line bounds line
 
 -- what the words of a line ask
-abbrev pub asked_of : ℕ → LineText → Result Asked Fault
-asked_of horizon line = line_key line >>= λ key. keyed horizon line key
+abbrev pub asked_of : Bounds → LineText → Result Asked Fault
+asked_of bounds line = line_key line >>= λ key. keyed bounds line key

@@ -13,4 +13,4 @@ pub record FirstLineIsRefused : Type 0 where
       → RefusesFirst (runs.lines_of session board signals) (runs.line_after session board signals)
   pub expanded : (board : BoardText) (signals : SignalsText)
       → RefusesFirst (expands.expands_of board signals) (expands.line_after board signals)
-  pub tested : RefusesFirst tests.tests_of (λ before line. tests.test_line line)
+  pub tested : (board : BoardText) → RefusesFirst (tests.tests_of board) (λ before line. tests.test_line board line)

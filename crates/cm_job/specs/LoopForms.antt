@@ -4,7 +4,9 @@ use Rattle.cm_base.specs.Lines.{LineText}
 use Rattle.cm_base.specs.Reading.{◌>>=◌}
 use Rattle.cm_base.specs.Words.{number_in}
 use Rattle.cm_base.specs.declared.faults.Fault.{Fault}
+use Rattle.cm_board.specs.Versions.{most_entries}
 use Rattle.cm_cmd.specs.CommandText.{command_of}
+use Rattle.cm_signal.specs.declared.bounds.Bounds.{Bounds}
 use Rattle.cm_job.specs.Head.{before_commands, only_word, word_at}
 use Rattle.cm_job.specs.declared.loop_asked.Asked.{Asked}
 
@@ -23,7 +25,9 @@ loop_head horizon line =
     Ok (t_in, t_out, window)
 
 -- what the words of a line ask
-abbrev pub asked_of : ℕ → LineText → Result Asked Fault
-asked_of horizon line =
-    loop_head horizon line >>= λ h. command_of (take 8 (drop 4 line.words)) >>= λ input. command_of (drop 12 line.words) >>= λ output.
+abbrev pub asked_of : Bounds → LineText → Result Asked Fault
+asked_of bounds line =
+    loop_head bounds.horizon line >>= λ h.
+    command_of (most_entries bounds.version) (take 8 (drop 4 line.words)) >>= λ input.
+    command_of (most_entries bounds.version) (drop 12 line.words) >>= λ output.
     Ok (record { t_in = h.0; t_out = h.1; window = h.2; input = input; output = output })

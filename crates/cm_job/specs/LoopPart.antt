@@ -9,7 +9,9 @@ use Rattle.cm_board.specs.Board.{BoardText}
 use Rattle.cm_expand.specs.Items.{items_of}
 use Rattle.cm_expand.specs.Plan.{PlanText}
 use Rattle.cm_expand.specs.Rule.{is_raw}
+use Rattle.cm_signal.specs.Bounds.{bounds_of}
 use Rattle.cm_signal.specs.Signals.{SignalsText}
+use Rattle.cm_signal.specs.declared.bounds.Bounds.{Bounds}
 use Rattle.cm_expand.specs.Calls.{plan_at}
 use Rattle.cm_job.specs.RunPart.{accepted}
 use Rattle.cm_job.specs.LoopForms.{asked_of}
@@ -52,23 +54,23 @@ line_of board signals a = called_of board a >>= λ line. ruled board signals lin
 
 -- the line that a text says
 abbrev pub loop_line : BoardText → SignalsText → LineText → Result LoopLine Fault
-loop_line board signals line = asked_of signals.horizon line >>= λ a. line_of board signals a
+loop_line board signals line = asked_of (bounds_of board signals) line >>= λ a. line_of board signals a
 
 -- a further line, which is refused where its words aren't
-abbrev pub further_line : ℕ → LineText → Result (Unit {0}) Fault
-further_line horizon line = asked_of horizon line >>= λ a. Err Limit
+abbrev pub further_line : Bounds → LineText → Result (Unit {0}) Fault
+further_line bounds line = asked_of bounds line >>= λ a. Err Limit
 
 -- no further line
-abbrev pub no_more : ℕ → List LineText → Result (Unit {0}) Refused
-no_more horizon [] = Ok tt
-no_more horizon (line ∷ rest) = at_line line.number (further_line horizon line)
+abbrev pub no_more : Bounds → List LineText → Result (Unit {0}) Refused
+no_more bounds [] = Ok tt
+no_more bounds (line ∷ rest) = at_line line.number (further_line bounds line)
 
 -- the one line of these, or Missing at the end of the text
 abbrev pub only_line : BoardText → SignalsText → ℕ → List LineText → Result LoopLine Refused
 only_line board signals end [] = Err (record { line = end; cause = Missing })
 only_line board signals end (first ∷ rest) =
     at_line first.number (loop_line board signals first) >>= λ line.
-    no_more signals.horizon rest >>= λ none.
+    no_more (bounds_of board signals) rest >>= λ none.
     Ok line
 
 -- the job of a line over a board and signals

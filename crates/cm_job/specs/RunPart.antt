@@ -11,7 +11,9 @@ use Rattle.cm_board.specs.Board.{BoardText, SubText, is_output, maxdata_of}
 use Rattle.cm_cmd.specs.Command.{CmdText}
 use Rattle.cm_cmd.specs.Entry.{chan}
 use Rattle.cm_test.specs.Accepting.{numbered_sub, passed}
+use Rattle.cm_signal.specs.Bounds.{bounds_of}
 use Rattle.cm_signal.specs.Signals.{SignalsText}
+use Rattle.cm_signal.specs.declared.bounds.Bounds.{Bounds}
 use Rattle.cm_expand.specs.Totals.{has_room, length_of, length_of_all}
 use Rattle.cm_expand.specs.Rule.{entry_at}
 use Rattle.cm_job.specs.Forms.{asked_of}
@@ -73,16 +75,16 @@ abbrev pub taken_line : Session → BoardText → Asked → Result RunLine Fault
 taken_line session board asked = if takes session board asked then line_of board asked else Err Bad
 
 -- the line that a text says after so many others, of which there may be 16
-abbrev pub next_line : Session → BoardText → ℕ → ℕ → LineText → Result RunLine Fault
-next_line session board horizon count line =
-    asked_of horizon line >>= λ asked.
+abbrev pub next_line : Session → BoardText → Bounds → ℕ → LineText → Result RunLine Fault
+next_line session board bounds count line =
+    asked_of bounds line >>= λ asked.
     limited (nat_lt count 16) asked >>= λ asked.
     taken_line session board asked
 
 -- that line, where there is room for its conversions
 abbrev pub line_after : Session → BoardText → SignalsText → List RunLine → LineText → Result RunLine Fault
 line_after session board signals before line =
-    next_line session board signals.horizon (length before) line >>= λ next.
+    next_line session board (bounds_of board signals) (length before) line >>= λ next.
     limited (has_room (length_of_all (plan_of board signals) before) (length_of (plan_of board signals next))) next
 
 -- the lines of a session

@@ -36,7 +36,7 @@ pub(crate) fn take_line(
     number: u32,
     asked: Asked,
 ) -> Result<RunLine, ReadStop>
-    requires { length (asked_cmd asked).list ≤ 256 }
+    requires { length (asked_cmd asked).list ≤ 1024 }
     ensures { Gives (λ line. line) result (at_line number (spec.taken_line session board.now asked)) }
 {
     if takes(session, board, &asked) {
@@ -92,7 +92,7 @@ fn accept_line(
     number: u32,
     asked: Asked,
 ) -> Result<RunLine, ReadStop>
-    requires { length (asked_cmd asked).list ≤ 256 }
+    requires { length (asked_cmd asked).list ≤ 1024 }
     ensures { Gives (λ line. line) result (at_line number (spec.line_of board.now asked)) }
 {
     match asked {
@@ -127,7 +127,7 @@ fn accept_drive(
     numbers: &Times,
     cmd: Cmd,
 ) -> Result<RunLine, ReadStop>
-    requires { length cmd.list ≤ 256 }
+    requires { length cmd.list ≤ 1024 }
     ensures { Gives (λ line. line) result (at_line number (spec.drive_of board.now t0 numbers.now cmd)) }
 {
     let sub = at_line(number, directed_sub(board, true, cmd.sub))?;
@@ -139,7 +139,7 @@ fn accept_drive(
 /// A command that its subdevice accepts, which is an output or, where `out` is false, an input. It is
 /// Bad where there is no such subdevice, and where the command doesn't pass its test.
 pub fn accepted(board: &BoardDesc, out: bool, cmd: Cmd) -> Result<Accepted, Fault>
-    requires { length cmd.list ≤ 256 }
+    requires { length cmd.list ≤ 1024 }
     ensures { result ≡ spec.accepted board.now out cmd }
 {
     let sub = directed_sub(board, out, cmd.sub)?;

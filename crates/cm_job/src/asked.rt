@@ -7,7 +7,7 @@ ghost use Rattle.cm_base.specs.Reading.{at_line, seen};
 ghost use Rattle.cm_cmd.specs.ListText.{is_byte};
 ghost use Rattle.cm_job.specs.Forms as spec;
 
-use crate::head::{COMMAND, before_commands, word_at};
+use crate::head::{COMMAND, before_commands, read_command, word_at};
 use crate::line::{Access, Mode};
 use cm_base::faults::{Fault, ReadStop};
 use cm_base::lines::Line;
@@ -15,7 +15,7 @@ use cm_base::lists::Times;
 use cm_base::parts::after_key;
 use cm_base::words::{at_line, time_in, times_in};
 use cm_cmd::command::Cmd;
-use cm_cmd::reading::read_cmd;
+use cm_signal::bounds::Bounds;
 use std::alloc::{AllocError, Global};
 
 // The most samples that a client can ask for.
@@ -59,13 +59,13 @@ pub enum Key {
 }
 
 /// What the words of a line ask, or the first fault of them from left to right.
-pub(crate) fn read_asked(alloc: Global, horizon: u64, line: &Line<'_>) -> Result<Asked, ReadStop>
-    ensures value { Gives (λ asked. asked) result (at_line line.now.number (spec.asked_of horizon (line_view line.now))) }
-    ensures few { IfOk result (λ asked. length (spec.asked_cmd asked).list ≤ 256) }
+pub(crate) fn read_asked(alloc: Global, bounds: Bounds, line: &Line<'_>) -> Result<Asked, ReadStop>
+    ensures value { Gives (λ asked. asked) result (at_line line.now.number (spec.asked_of bounds (line_view line.now))) }
+    ensures few { IfOk result (λ asked. length (spec.asked_cmd asked).list ≤ 1024) }
 {
     match at_line(line.number, line_key(line))? {
-        Key::Go => read_go(alloc, horizon, line),
-        Key::Drive => read_drive(alloc, horizon, line),
+        Key::Go => read_go(alloc, bounds, line),
+        Key::Drive => read_drive(alloc, bounds, line),
     }
 }
 
@@ -96,15 +96,15 @@ fn key_of(word: &[u8]) -> Result<Key, Fault>
 }
 
 // What `go MODE READER CALL TAKE COMMAND` asks.
-fn read_go(alloc: Global, horizon: u64, line: &Line<'_>) -> Result<Asked, ReadStop>
-    ensures value { Gives (λ asked. asked) result (at_line line.now.number (spec.go_line horizon (line_view line.now))) }
-    ensures few { IfOk result (λ asked. length (spec.asked_cmd asked).list ≤ 256) }
+fn read_go(alloc: Global, bounds: Bounds, line: &Line<'_>) -> Result<Asked, ReadStop>
+    ensures value { Gives (λ asked. asked) result (at_line line.now.number (spec.go_line bounds (line_view line.now))) }
+    ensures few { IfOk result (λ asked. length (spec.asked_cmd asked).list ≤ 1024) }
 {
     let (mode, access, t0, take) = at_line(
         line.number,
-        go_head(horizon, after_key(line.words.as_slice())),
+        go_head(bounds.horizon, after_key(line.words.as_slice())),
     )?;
-    let cmd = read_cmd(alloc, line, 5)?;
+    let cmd = read_command(alloc, bounds.version, line, 5)?;
     Ok(Asked::Go {
         mode,
         access,
@@ -164,16 +164,16 @@ fn take_of(word: &[u8]) -> Result<Option<u64>, Fault>
 }
 
 // What `drive CALL VALUES COMMAND` asks.
-fn read_drive(alloc: Global, horizon: u64, line: &Line<'_>) -> Result<Asked, ReadStop>
-    ensures value { Gives (λ asked. asked) result (at_line line.now.number (spec.drive_line horizon (line_view line.now))) }
-    ensures few { IfOk result (λ asked. length (spec.asked_cmd asked).list ≤ 256) }
+fn read_drive(alloc: Global, bounds: Bounds, line: &Line<'_>) -> Result<Asked, ReadStop>
+    ensures value { Gives (λ asked. asked) result (at_line line.now.number (spec.drive_line bounds (line_view line.now))) }
+    ensures few { IfOk result (λ asked. length (spec.asked_cmd asked).list ≤ 1024) }
 {
     let (t0, values) = at_line(
         line.number,
-        drive_head(horizon, after_key(line.words.as_slice())),
+        drive_head(bounds.horizon, after_key(line.words.as_slice())),
     )?;
     let numbers = read_numbers(alloc, line.number, values)?;
-    let cmd = read_cmd(alloc, line, 3)?;
+    let cmd = read_command(alloc, bounds.version, line, 3)?;
     Ok(Asked::Drive { t0, numbers, cmd })
 }
 

@@ -7,15 +7,15 @@ ghost use Rattle.cm_base.specs.Reading.{at_line};
 ghost use Rattle.cm_expand.specs.Totals.{Reports, length_of, length_of_all};
 ghost use Rattle.cm_job.specs.ExpandLines as spec;
 
-use crate::head::{COMMAND, before_commands, only, word_at};
+use crate::head::{COMMAND, before_commands, only, read_command, word_at};
 use cm_base::faults::{Fault, ReadStop};
 use cm_base::lines::{Cursor, Line};
 use cm_base::words::{at_line, time_in};
 use cm_board::board::BoardDesc;
 use cm_cmd::command::Cmd;
-use cm_cmd::reading::read_cmd;
 use cm_expand::call::Call;
 use cm_expand::totals::{Total, total_with};
+use cm_signal::bounds::Bounds;
 use cm_signal::signals::Signals;
 use cm_test::accepting::accepted;
 use cm_test::test::Accepted;
@@ -100,18 +100,18 @@ fn read_line(
     ensures line { Gives (λ next. next) result (at_line line.now.number (spec.line_of board.now signals.now (line_view line.now))) }
     ensures can { IfOk result (spec.CanExpand board.now signals.now) }
 {
-    let (t0, cmd) = read_words(alloc, signals.horizon, line)?;
+    let (t0, cmd) = read_words(alloc, Bounds::of(board, signals), line)?;
     at_line(line.number, accepted_line(board, t0, cmd))
 }
 
 // The time and the command of a line.
-fn read_words(alloc: Global, horizon: u64, line: &Line<'_>) -> Result<(u64, Cmd), ReadStop>
-    ensures words { Gives (λ r. (r.0, r.1)) result (at_line line.now.number (spec.expand_words horizon (line_view line.now))) }
-    ensures time { IfOk result (λ r. r.0 ≤ horizon) }
-    ensures few { IfOk result (λ r. length r.1.list ≤ 256) }
+fn read_words(alloc: Global, bounds: Bounds, line: &Line<'_>) -> Result<(u64, Cmd), ReadStop>
+    ensures words { Gives (λ r. (r.0, r.1)) result (at_line line.now.number (spec.expand_words bounds (line_view line.now))) }
+    ensures time { IfOk result (λ r. r.0 ≤ bounds.horizon) }
+    ensures few { IfOk result (λ r. length r.1.list ≤ 1024) }
 {
-    let t0 = at_line(line.number, expand_time(horizon, line))?;
-    let cmd = read_cmd(alloc, line, 2)?;
+    let t0 = at_line(line.number, expand_time(bounds.horizon, line))?;
+    let cmd = read_command(alloc, bounds.version, line, 2)?;
     Ok((t0, cmd))
 }
 
@@ -127,7 +127,7 @@ fn expand_time(horizon: u64, line: &Line<'_>) -> Result<u64, Fault>
 
 // A line whose command its subdevice accepts.
 fn accepted_line(board: &BoardDesc, t0: u64, cmd: Cmd) -> Result<ExpandLine, Fault>
-    requires { length cmd.list ≤ 256 }
+    requires { length cmd.list ≤ 1024 }
     ensures { result ≡ spec.accepted_line board.now (t0, cmd) }
 {
     let cmd = accepted(board, cmd)?;

@@ -1,12 +1,19 @@
-// What stands in a line before its commands.
-ghost use Rattle.std.specs.Prelude.{◌≡◌, ◌<◌, ◌≤◌, length, map, IfOk};
+// What stands in a line before its commands, and the commands.
+ghost use Rattle.std.specs.Prelude.{◌≡◌, ◌<◌, ◌≤◌, drop, length, map, IfOk};
 ghost use Rattle.cm_base.specs.LineView.{line_view};
-ghost use Rattle.cm_base.specs.Reading.{seen};
+ghost use Rattle.cm_base.specs.ReadStop.{Gives};
+ghost use Rattle.cm_base.specs.Reading.{at_line, seen};
+ghost use Rattle.cm_board.specs.Versions as versions;
+ghost use Rattle.cm_cmd.specs.CommandText.{command_of};
 ghost use Rattle.cm_job.specs.Head as spec;
 
-use cm_base::faults::Fault;
+use cm_base::faults::{Fault, ReadStop};
 use cm_base::lines::Line;
 use cm_base::parts::begins;
+use cm_board::versions::most_entries;
+use cm_cmd::command::Cmd;
+use cm_cmd::reading::read_cmd_up_to;
+use std::alloc::Global;
 
 /// How many words a command has.
 pub(crate) const COMMAND: usize = 8;
@@ -48,4 +55,17 @@ pub(crate) fn word_at<'a>(words: &[&'a [u8]], index: usize) -> &'a [u8]
     ensures { result.now ≡ spec.word_at (map (λ word. word.now) words.now) index }
 {
     words[index]
+}
+
+/// The command that the words of a line say from a place on, on a board whose text has this version.
+pub(crate) fn read_command(
+    alloc: Global,
+    version: u32,
+    line: &Line<'_>,
+    from: usize,
+) -> Result<Cmd, ReadStop>
+    ensures value { Gives (λ cmd. cmd) result (at_line line.now.number (command_of (versions.most_entries version) (drop from (line_view line.now).words))) }
+    ensures few { IfOk result (λ cmd. length cmd.list ≤ 1024) }
+{
+    read_cmd_up_to(alloc, line, from, most_entries(version))
 }

@@ -26,8 +26,8 @@ pub(crate) fn accept_loop(
     signals: &Signals,
     asked: Asked,
 ) -> Result<LoopLine, Fault>
-    requires input { length asked.input.list ≤ 256 }
-    requires output { length asked.output.list ≤ 256 }
+    requires input { length asked.input.list ≤ 1024 }
+    requires output { length asked.output.list ≤ 1024 }
     requires t_in { asked.t_in ≤ signals.now.horizon }
     requires t_out { asked.t_out ≤ signals.now.horizon }
     ensures { result ≡ spec.line_of board.now signals.now asked }
@@ -39,8 +39,8 @@ pub(crate) fn accept_loop(
 
 // The line, where the subdevices accept both commands.
 fn accept_both(board: &BoardDesc, asked: Asked) -> Result<LoopLine, Fault>
-    requires input { length asked.input.list ≤ 256 }
-    requires output { length asked.output.list ≤ 256 }
+    requires input { length asked.input.list ≤ 1024 }
+    requires output { length asked.output.list ≤ 1024 }
     ensures { result ≡ spec.called_of board.now asked }
 {
     let Asked {

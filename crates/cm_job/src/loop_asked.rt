@@ -3,16 +3,19 @@ ghost use Rattle.std.specs.Prelude.{◌≡◌, ◌≤◌, drop, length, map, tak
 ghost use Rattle.cm_base.specs.LineView.{line_view};
 ghost use Rattle.cm_base.specs.ReadStop.{Gives};
 ghost use Rattle.cm_base.specs.Reading.{at_line, seen};
+ghost use Rattle.cm_board.specs.Versions.{most_entries};
 ghost use Rattle.cm_cmd.specs.CommandText.{command_of};
 ghost use Rattle.cm_job.specs.LoopForms as spec;
+ghost use Rattle.cm_signal.specs.Bounds.{bounds_of};
 
-use crate::head::{COMMAND, before_commands, only, word_at};
+use crate::head::{COMMAND, before_commands, only, read_command, word_at};
 use cm_base::faults::{Fault, ReadStop};
 use cm_base::lines::Line;
 use cm_base::parts::after_key;
 use cm_base::words::{at_line, number_in, time_in};
+use cm_board::board::BoardDesc;
 use cm_cmd::command::Cmd;
-use cm_cmd::reading::read_cmd;
+use cm_signal::bounds::Bounds;
 use cm_signal::signals::Signals;
 use std::alloc::{AllocError, Global};
 
@@ -34,35 +37,29 @@ pub struct Asked {
     pub output: Cmd,
 }
 
-/// What the words of a line ask over signals, or the first fault of them from left to right.
+/// What the words of a line ask over a board and its signals, or the first fault of them from left to right.
 pub(crate) fn read_asked(
     alloc: Global,
+    board: &BoardDesc,
     signals: &Signals,
     line: &Line<'_>,
 ) -> Result<Asked, ReadStop>
-    ensures value { Gives (λ asked. asked) result (at_line line.now.number (spec.asked_of signals.now.horizon (line_view line.now))) }
-    ensures input { IfOk result (λ asked. length asked.input.list ≤ 256) }
-    ensures output { IfOk result (λ asked. length asked.output.list ≤ 256) }
+    ensures value { Gives (λ asked. asked) result (at_line line.now.number (spec.asked_of (bounds_of board.now signals.now) (line_view line.now))) }
+    ensures input { IfOk result (λ asked. length asked.input.list ≤ 1024) }
+    ensures output { IfOk result (λ asked. length asked.output.list ≤ 1024) }
 {
-    read_words(alloc, horizon_of(signals), line)
+    read_words(alloc, Bounds::of(board, signals), line)
 }
 
-// The last nanosecond of signals.
-fn horizon_of(signals: &Signals) -> u64
-    ensures { result ≡ signals.now.horizon }
+// What the words of a line ask within these bounds.
+fn read_words(alloc: Global, bounds: Bounds, line: &Line<'_>) -> Result<Asked, ReadStop>
+    ensures value { Gives (λ asked. asked) result (at_line line.now.number (spec.asked_of bounds (line_view line.now))) }
+    ensures input { IfOk result (λ asked. length asked.input.list ≤ 1024) }
+    ensures output { IfOk result (λ asked. length asked.output.list ≤ 1024) }
 {
-    signals.horizon
-}
-
-// What the words of a line ask whose times are up to a horizon.
-fn read_words(alloc: Global, horizon: u64, line: &Line<'_>) -> Result<Asked, ReadStop>
-    ensures value { Gives (λ asked. asked) result (at_line line.now.number (spec.asked_of horizon (line_view line.now))) }
-    ensures input { IfOk result (λ asked. length asked.input.list ≤ 256) }
-    ensures output { IfOk result (λ asked. length asked.output.list ≤ 256) }
-{
-    let (t_in, t_out, window) = at_line(line.number, loop_head(horizon, line))?;
-    let input = read_input(alloc, line)?;
-    let output = read_cmd(alloc, line, OUTPUT_AT)?;
+    let (t_in, t_out, window) = at_line(line.number, loop_head(bounds.horizon, line))?;
+    let input = read_input(alloc, bounds.version, line)?;
+    let output = read_command(alloc, bounds.version, line, OUTPUT_AT)?;
     Ok(Asked {
         t_in,
         t_out,
@@ -93,12 +90,12 @@ fn after_loop<'a, 'b>(line: &'b Line<'a>) -> Result<&'b [&'a [u8]], Fault>
 }
 
 // The input's command, which stands before the output's.
-fn read_input(alloc: Global, line: &Line<'_>) -> Result<Cmd, ReadStop>
-    ensures value { Gives (λ cmd. cmd) result (at_line line.now.number (command_of (take 8 (drop 4 (line_view line.now).words)))) }
-    ensures few { IfOk result (λ cmd. length cmd.list ≤ 256) }
+fn read_input(alloc: Global, version: u32, line: &Line<'_>) -> Result<Cmd, ReadStop>
+    ensures value { Gives (λ cmd. cmd) result (at_line line.now.number (command_of (most_entries version) (take 8 (drop 4 (line_view line.now).words)))) }
+    ensures few { IfOk result (λ cmd. length cmd.list ≤ 1024) }
 {
     let words = words_of(alloc, line, INPUT_AT, COMMAND)?;
-    read_cmd(alloc, &words, 0)
+    read_command(alloc, version, &words, 0)
 }
 
 // So many words of a line from a place on, as a line of their own with the same number.

@@ -5,6 +5,7 @@ ghost use Rattle.cm_base.specs.ReadStop.{Gives};
 ghost use Rattle.cm_base.specs.Reading.{at_line};
 ghost use Rattle.cm_job.specs.LoopJob.{IsLoopJob};
 ghost use Rattle.cm_job.specs.LoopPart as spec;
+ghost use Rattle.cm_signal.specs.Bounds.{bounds_of};
 
 use crate::loop_accepting::accept_loop;
 use crate::loop_asked::read_asked;
@@ -75,7 +76,7 @@ fn read_only(
         return Err(refused(end, Fault::Missing));
     }
     let first = read_line(alloc, board, signals, &line)?;
-    read_no_more(alloc, signals, lines)?;
+    read_no_more(alloc, board, signals, lines)?;
     Ok(first)
 }
 
@@ -89,26 +90,36 @@ fn read_line(
     ensures value { Gives (λ next. next) result (at_line line.now.number (spec.loop_line board.now signals.now (line_view line.now))) }
     ensures line { IfOk result (λ line. IsLoopJob (spec.job_of board.now signals.now line)) }
 {
-    let asked = read_asked(alloc, signals, line)?;
+    let asked = read_asked(alloc, board, signals, line)?;
     at_line(line.number, accept_loop(board, signals, asked))
 }
 
 // No line, after the one of a loop.
-fn read_no_more(alloc: Global, signals: &Signals, lines: Cursor<'_>) -> Result<(), ReadStop>
-    ensures { Gives (λ u. tt) result (spec.no_more signals.now.horizon lines.entry) }
+fn read_no_more(
+    alloc: Global,
+    board: &BoardDesc,
+    signals: &Signals,
+    lines: Cursor<'_>,
+) -> Result<(), ReadStop>
+    ensures { Gives (λ u. tt) result (spec.no_more (bounds_of board.now signals.now) lines.entry) }
 {
     let mut lines = lines;
     let mut line = Line::empty(alloc);
     if !lines.next(alloc, &mut line)? {
         return Ok(());
     }
-    read_further(alloc, signals, &line)
+    read_further(alloc, board, signals, &line)
 }
 
 // A further line, which is refused where its words aren't.
-fn read_further(alloc: Global, signals: &Signals, line: &Line<'_>) -> Result<(), ReadStop>
-    ensures { Gives (λ u. tt) result (at_line line.now.number (spec.further_line signals.now.horizon (line_view line.now))) }
+fn read_further(
+    alloc: Global,
+    board: &BoardDesc,
+    signals: &Signals,
+    line: &Line<'_>,
+) -> Result<(), ReadStop>
+    ensures { Gives (λ u. tt) result (at_line line.now.number (spec.further_line (bounds_of board.now signals.now) (line_view line.now))) }
 {
-    read_asked(alloc, signals, line)?;
+    read_asked(alloc, board, signals, line)?;
     Err(refused(line.number, Fault::Limit))
 }

@@ -8,6 +8,7 @@ ghost use Rattle.cm_job.specs.Calls.{CanCall, plan_of};
 ghost use Rattle.cm_job.specs.RunLines.{AreRunLines};
 ghost use Rattle.cm_job.specs.RunPart as spec;
 ghost use Rattle.cm_job.specs.WatchLines.{AreWatchLines};
+ghost use Rattle.cm_signal.specs.Bounds.{bounds_of};
 
 use crate::accepting::take_line;
 use crate::asked::{Session, read_asked};
@@ -18,6 +19,7 @@ use cm_base::parts::refused;
 use cm_base::words::at_line;
 use cm_board::board::BoardDesc;
 use cm_expand::totals::{Total, total_with};
+use cm_signal::bounds::Bounds;
 use cm_signal::signals::Signals;
 use std::alloc::Global;
 
@@ -118,10 +120,10 @@ fn read_next(
     count: usize,
     line: &Line<'_>,
 ) -> Result<RunLine, ReadStop>
-    ensures value { Gives (λ next. next) result (at_line line.now.number (spec.next_line session board.now signals.now.horizon count (line_view line.now))) }
+    ensures value { Gives (λ next. next) result (at_line line.now.number (spec.next_line session board.now (bounds_of board.now signals.now) count (line_view line.now))) }
     ensures call { IfOk result (CanCall board.now signals.now) }
 {
-    let asked = read_asked(alloc, signals.horizon, line)?;
+    let asked = read_asked(alloc, Bounds::of(board, signals), line)?;
     if count >= MOST_LINES {
         return Err(refused(line.number, Fault::Limit));
     }

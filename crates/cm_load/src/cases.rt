@@ -54,7 +54,7 @@ fn run_size<R: Threads + Wait + Sync + Print + Clock>(
     size: u32,
     samples: u32,
 ) -> io::Result<bool>
-    requires { (0 < size) × (size ≤ 65536) }
+    requires { (0 < size) × (size ≤ 1048576) }
 {
     let mut whole = true;
     for base in BASES {

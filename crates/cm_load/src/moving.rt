@@ -57,7 +57,7 @@ pub fn move_words<R: Threads + Wait + Sync>(
     base: u32,
     maxdata: u32,
 ) -> Result<Came, NoMemory>
-    requires size { (0 < size) × (size ≤ 65536) }
+    requires size { (0 < size) × (size ≤ 1048576) }
     ensures { IfOk result (λ c. (c.done ≡ true) × (c.count ≡ length (take places.count (drop places.first words.now)))) }
 {
     let rule = offset_rule(alloc, maxdata)?;

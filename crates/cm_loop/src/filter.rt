@@ -22,7 +22,7 @@ pub(crate) fn filter_of(alloc: Global, job: &LoopJob) -> Result<LoopRule, NoMemo
     let from_sub = input.sub();
     let to_sub = output.sub();
     // These reads show what holds of each subdevice.
-    shows(&(from_sub.tick, to_sub.tick));
+    shows(&(from_sub.list_max, to_sub.list_max));
     let items = items_of(alloc, from_sub, to_sub, &from.list, &to.list)?;
     Ok(LoopRule {
         items,

@@ -1,8 +1,10 @@
 -- Sessions on the demo board and on one with a FIFO, worked by hand: what is put out and answered, as numbers in the order of the text.
-use Rattle.std.proofs.Common.{◌≡◌, ℕ, suc, ◌%◌, ℤ, pos, true, List, [], ◌∷◌, ◌++◌, length, replicate, codes, refl, Some}
+use Rattle.std.proofs.Common.{◌≡◌, ℕ, suc, ◌%◌, ℤ, pos, true, arith, List, [], ◌∷◌, ◌++◌, length, replicate, codes, refl, Some}
 use Rattle.std.specs.Prelude.{◌-ℤ◌, if◌then◌else◌}
 use Rattle.cm_base.specs.Source as source
-use Rattle.cm_board.specs.Board.{BoardText, SubText, idle_sub, maxdata_of, munge_of, no_sub, range_of, ranges_of}
+use Rattle.cm_board.specs.Board.{BoardText, SubText, each_nanosecond, idle_sub, maxdata_of, munge_of, no_sub, range_of, ranges_of}
+use Rattle.cm_board.specs.Times.{TimersText, down, up}
+use Rattle.cm_board.proofs.Made.{down_plain, up_plain}
 use Rattle.cm_board.specs.declared.board.Kind.TheVariants as kinds
 use Rattle.cm_board.specs.declared.board.Munge.TheVariants as munges
 use Rattle.cm_board.specs.declared.board.Range.{Range}
@@ -11,6 +13,7 @@ use Rattle.cm_cmd.specs.Entry.{chan, range}
 use Rattle.cm_cmd.specs.declared.command.Trig.{Trig}
 use Rattle.cm_sample.specs.Sample.{micro_of}
 use Rattle.cm_signal.specs.Signals.{SignalsText}
+use Rattle.cm_signal.specs.SignalsPart.{silent}
 use Rattle.cm_signal.specs.declared.wave.Wave.TheVariants as waves
 use Rattle.cm_sub.specs.Checks.{number_of}
 use Rattle.cm_signal.specs.Setting.{Setting}
@@ -126,11 +129,53 @@ answers s lines = answers_from s (at_start s) lines
 abbrev volts_10 : Range
 volts_10 = record { min = minus 10000000; max = pos 10000000; unit = 0 }
 
+-- timers that can make each multiple of 100 nanoseconds
+abbrev each_100 : TimersText
+each_100 = record { tick = 100; clock = [] }
+
+-- the times that the timers of the board make of the times in these sessions
+down_500 : down each_100 500 ≡ 500
+down_500 = down_plain 100 500 (omega arith)
+
+up_500 : up each_100 500 ≡ 500
+up_500 = up_plain 100 500 (omega arith) (omega arith)
+
+down_1000 : down each_100 1000 ≡ 1000
+down_1000 = down_plain 100 1000 (omega arith)
+
+up_1000 : up each_100 1000 ≡ 1000
+up_1000 = up_plain 100 1000 (omega arith) (omega arith)
+
+down_1050 : down each_100 1050 ≡ 1000
+down_1050 = down_plain 100 1050 (omega arith)
+
+up_1050 : up each_100 1050 ≡ 1100
+up_1050 = up_plain 100 1050 (omega arith) (omega arith)
+
+down_160000 : down each_100 160000 ≡ 160000
+down_160000 = down_plain 100 160000 (omega arith)
+
+down_1000000 : down each_100 1000000 ≡ 1000000
+down_1000000 = down_plain 100 1000000 (omega arith)
+
+-- and those of timers that can make each time
+down_scan : down each_nanosecond 1000 ≡ 1000
+down_scan = down_plain 1 1000 (omega arith)
+
+up_scan : up each_nanosecond 1000 ≡ 1000
+up_scan = up_plain 1 1000 (omega arith) (omega arith)
+
+down_long : down each_nanosecond 1000000 ≡ 1000000
+down_long = down_plain 1 1000000 (omega arith)
+
+up_short : up each_nanosecond 1 ≡ 1
+up_short = up_plain 1 1 (omega arith) (omega arith)
+
 abbrev inputs : SubText
 inputs = record (idle_sub kinds.Ai 4 65535 (volts_10 ∷ record { min = minus 5000001; max = pos 5000000; unit = 0 } ∷ [])) {
   munge = munges.Offset;
   masks = record { start = 194; scan_begin = 84; convert = 82; scan_end = 32; stop = 33 };
-  tick = 100;
+  timers = each_100;
   scan_min = 1000;
   scan_max = 160000;
   conv_min = 200;
@@ -145,7 +190,7 @@ abbrev outputs : SubText
 outputs = record (idle_sub kinds.Ao 2 4095 (volts_10 ∷ [])) {
   munge = munges.Offset;
   masks = record { start = 130; scan_begin = 16; convert = 2; scan_end = 32; stop = 33 };
-  tick = 100;
+  timers = each_100;
   scan_min = 1000;
   scan_max = 1000000;
   conv_min = 1000;
@@ -167,7 +212,7 @@ demo signals = record { board = board_of 1 inputs; signals = signals }
 
 -- signals up to a horizon: none, or a level at the first input that rises by 1 every 1,000 nanoseconds
 abbrev quiet : ℕ → SignalsText
-quiet horizon = record { horizon = horizon; waves = []; edges = replicate 16 []; falls = replicate 16 []; ints = [] }
+quiet horizon = silent horizon
 
 abbrev rising : ℕ → SignalsText
 rising horizon = record (quiet horizon) {
@@ -178,7 +223,7 @@ rising horizon = record (quiet horizon) {
 abbrev edged : Setting
 edged = record {
   board = board_of 2 (record inputs { masks = record inputs.masks { stop = 97 }; scan_min = 500; invert = true });
-  signals = record (quiet 10000) { edges = (3200 ∷ []) ∷ replicate 15 []; falls = (2200 ∷ []) ∷ replicate 15 [] };
+  signals = record (quiet 10000) { edges = (3200 ∷ []) ∷ replicate 63 []; falls = (2200 ∷ []) ∷ replicate 63 [] };
 }
 
 -- a line at a time and of a file
@@ -235,7 +280,7 @@ reads_until_an_overrun :
     ≡ ok ∷ ok ∷ ok ∷ pos 1 ∷ pos 0 ∷ minus 153 ∷ ok ∷ pos 4 ∷ pos 0 ∷ pos 999923 ∷ pos 0 ∷ pos 2000000 ∷ pos 0 ∷ pos 2999771 ∷ pos 0 ∷ pos 3999847 ∷ err ∷ pos 32 ∷ overrun
     ∷ pos 5 ∷ ok ∷ pos 0 ∷ idle ∷ []
 unfolding maxdata_of munge_of ranges_of
-reads_until_an_overrun = refl
+reads_until_an_overrun = rw (down_1000, up_1000, down_160000) refl
 
 -- no more is read than has come
 reads_what_has_come :
@@ -243,7 +288,7 @@ reads_what_has_come :
     line 0 1 ops.OpenFile ∷ line 0 1 (ops.Cmd (timed 0 0 (trig source.now 0) 1000 (trig source.count 6) 0)) ∷ line 1000 1 (ops.Read 0 10) ∷ [])
     ≡ ok ∷ ok ∷ ok ∷ pos 2 ∷ pos 0 ∷ minus 153 ∷ pos 0 ∷ pos 999923 ∷ []
 unfolding maxdata_of munge_of ranges_of
-reads_what_has_come = refl
+reads_what_has_come = rw (down_1000, up_1000, down_160000) refl
 
 -- what is mapped stays to be looked at until it is released, and nothing is read in between
 maps :
@@ -252,7 +297,7 @@ maps :
     ∷ line 4000 1 (ops.Look 0 0) ∷ line 4000 1 (ops.Look 0 1) ∷ line 4000 1 (ops.Release 0 3) ∷ line 4000 1 (ops.Read 0 1) ∷ [])
     ≡ ok ∷ ok ∷ ok ∷ pos 3 ∷ ok ∷ pos 1 ∷ ok ∷ pos 0 ∷ pos 999923 ∷ ok ∷ pos 0 ∷ pos 2000000 ∷ err ∷ pos 22 ∷ err ∷ pos 22 ∷ []
 unfolding maxdata_of munge_of ranges_of
-maps = refl
+maps = rw (down_1000, up_1000, down_160000) refl
 
 -- the fourth word isn't there in time
 puts_out_until_an_underrun :
@@ -262,7 +307,7 @@ puts_out_until_an_underrun :
     ≡ ok ∷ ok ∷ ok ∷ pos 3 ∷ ok ∷ pos 1 ∷ out ∷ pos 1 ∷ pos 1000 ∷ pos 0 ∷ pos 2048 ∷ out ∷ pos 1 ∷ pos 2000 ∷ pos 0 ∷ pos 0 ∷ out ∷ pos 1 ∷ pos 3000 ∷ pos 0 ∷ pos 2047 ∷ err
     ∷ pos 32 ∷ underrun ∷ pos 3 ∷ []
 unfolding maxdata_of munge_of ranges_of
-puts_out_until_an_underrun = refl
+puts_out_until_an_underrun = rw (down_1000, up_1000, down_1000000) refl
 
 -- who may use, lock and unlock
 owners :
@@ -280,7 +325,7 @@ raw_words :
     ∷ line 2000 1 (ops.Read 0 10) ∷ [])
     ≡ ok ∷ ok ∷ ok ∷ pos 3 ∷ pos 0 ∷ pos 8191 ∷ pos 0 ∷ pos 8191 ∷ pos 0 ∷ pos 8191 ∷ ok ∷ pos 0 ∷ done ∷ []
 unfolding maxdata_of munge_of ranges_of
-raw_words = refl
+raw_words = rw (down_1000, up_1000, down_160000) refl
 
 -- a command is cancelled, and the next one starts anew
 cancels :
@@ -290,7 +335,7 @@ cancels :
     ∷ line 2000 1 (ops.Read 0 5) ∷ [])
     ≡ ok ∷ ok ∷ ok ∷ pos 2 ∷ err ∷ pos 22 ∷ ok ∷ ok ∷ pos 0 ∷ idle ∷ ok ∷ ok ∷ pos 1 ∷ pos 0 ∷ pos 2000000 ∷ []
 unfolding maxdata_of munge_of ranges_of
-cancels = refl
+cancels = rw (down_1000, up_1000, down_160000) refl
 
 -- a command that fails a step of the test is answered as the test leaves it
 rejects :
@@ -298,7 +343,7 @@ rejects :
     line 0 1 ops.OpenFile ∷ line 0 1 (ops.Cmd (timed 0 0 (trig source.now 0) 1050 (trig source.count 1) 0)) ∷ [])
     ≡ ok ∷ err ∷ pos 11 ∷ pos 4 ∷ pos 0 ∷ pos 0 ∷ pos 2 ∷ pos 0 ∷ pos 16 ∷ pos 1100 ∷ pos 2 ∷ pos 0 ∷ pos 32 ∷ pos 1 ∷ pos 32 ∷ pos 1 ∷ pos 0 ∷ []
 unfolding maxdata_of munge_of ranges_of
-rejects = refl
+rejects = rw (down_1050, up_1050, up_1000, down_160000) refl
 
 -- a trigger with the right number, once
 triggers :
@@ -307,7 +352,7 @@ triggers :
     ∷ line 500 1 (ops.InsnIntTrig 0 0) ∷ line 500 1 (ops.InsnIntTrig 0 0) ∷ line 1500 1 (ops.Read 0 9) ∷ line 1500 1 (ops.Read 0 9) ∷ [])
     ≡ ok ∷ ok ∷ err ∷ pos 22 ∷ ok ∷ pos 1 ∷ err ∷ pos 11 ∷ ok ∷ pos 2 ∷ pos 0 ∷ minus 153 ∷ pos 0 ∷ pos 999923 ∷ ok ∷ pos 0 ∷ done ∷ []
 unfolding maxdata_of munge_of ranges_of
-triggers = refl
+triggers = rw (down_1000, up_1000, down_160000) refl
 
 -- what isn't marked stands in the way of a write, and the list index is that of the list
 fills_and_marks :
@@ -318,20 +363,34 @@ fills_and_marks :
     ≡ ok ∷ ok ∷ ok ∷ pos 3 ∷ err ∷ pos 22 ∷ err ∷ pos 22 ∷ ok ∷ pos 2 ∷ ok ∷ pos 2 ∷ ok ∷ pos 1 ∷ out ∷ pos 1 ∷ pos 0 ∷ pos 0 ∷ pos 2049 ∷ out ∷ pos 1 ∷ pos 1000 ∷ pos 0
     ∷ pos 2050 ∷ ok ∷ pos 0 ∷ ok ∷ pos 0 ∷ done ∷ []
 unfolding maxdata_of munge_of ranges_of
-fills_and_marks = refl
+fills_and_marks = rw (down_1000, up_1000, down_1000000) refl
 
 -- one refusal after the other
 refusals :
     answers (demo (rising 10000)) (
     line 0 1 (ops.Read 0 1) ∷ line 0 1 ops.OpenFile ∷ line 0 1 ops.OpenFile ∷ line 0 1 (ops.Read 9 1) ∷ line 0 1 (ops.Read 2 1) ∷ line 0 1 (ops.Lock 3)
-    ∷ line 0 1 (ops.Release 0 0) ∷ line 0 1 (ops.Cancel 0) ∷ line 0 1 (ops.Cmd (timed 0 0 (trig source.now 0) 1000 (trig source.count 2) 0))
-    ∷ line 0 1 (ops.Cmd (timed 0 0 (trig source.now 0) 1000 (trig source.count 2) 0)) ∷ line 0 1 (ops.InsnRead 0 0 1) ∷ line 1000 1 (ops.Map 0 5)
-    ∷ line 1000 1 (ops.Release 0 3) ∷ line 1000 1 (ops.Release 0 2) ∷ line 1000 1 (ops.Release 0 1) ∷ line 1000 1 (ops.Map 0 1) ∷ line 1000 1 (ops.Map 0 1)
-    ∷ line 1000 1 ops.CloseFile ∷ line 1000 1 (ops.Cancel 0) ∷ [])
-    ≡ err ∷ pos 22 ∷ ok ∷ err ∷ pos 22 ∷ err ∷ pos 19 ∷ err ∷ pos 5 ∷ err ∷ pos 5 ∷ ok ∷ pos 0 ∷ ok ∷ ok ∷ err ∷ pos 16 ∷ err ∷ pos 16 ∷ ok ∷ pos 2 ∷ err ∷ pos 22 ∷ ok ∷ pos 2
-    ∷ err ∷ pos 22 ∷ ok ∷ pos 0 ∷ done ∷ ok ∷ pos 0 ∷ idle ∷ ok ∷ err ∷ pos 22 ∷ []
+    ∷ line 0 1 (ops.Release 0 0) ∷ line 0 1 (ops.Cancel 0) ∷ line 1000 1 ops.CloseFile ∷ line 1000 1 (ops.Cancel 0) ∷ [])
+    ≡ err ∷ pos 22 ∷ ok ∷ err ∷ pos 22 ∷ err ∷ pos 19 ∷ err ∷ pos 5 ∷ err ∷ pos 5 ∷ ok ∷ pos 0 ∷ ok ∷ ok ∷ err ∷ pos 22 ∷ []
 unfolding maxdata_of munge_of ranges_of
 refusals = refl
+
+-- while a command runs there is no other one, and no instruction reads the inputs
+refused_while_one_runs :
+    answers (demo (rising 10000)) (
+    line 0 1 ops.OpenFile ∷ line 0 1 (ops.Cmd (timed 0 0 (trig source.now 0) 1000 (trig source.count 2) 0))
+    ∷ line 0 1 (ops.Cmd (timed 0 0 (trig source.now 0) 1000 (trig source.count 2) 0)) ∷ line 0 1 (ops.InsnRead 0 0 1) ∷ [])
+    ≡ ok ∷ ok ∷ err ∷ pos 16 ∷ err ∷ pos 16 ∷ []
+unfolding maxdata_of munge_of ranges_of
+refused_while_one_runs = rw (down_1000, up_1000, down_160000) refl
+
+-- no more samples are released than are mapped
+released_as_mapped :
+    answers (demo (rising 10000)) (
+    line 0 1 ops.OpenFile ∷ line 0 1 (ops.Cmd (timed 0 0 (trig source.now 0) 1000 (trig source.count 2) 0)) ∷ line 1000 1 (ops.Map 0 5) ∷ line 1000 1 (ops.Release 0 3)
+    ∷ line 1000 1 (ops.Release 0 2) ∷ line 1000 1 (ops.Release 0 1) ∷ line 1000 1 (ops.Map 0 1) ∷ line 1000 1 (ops.Map 0 1) ∷ [])
+    ≡ ok ∷ ok ∷ ok ∷ pos 2 ∷ err ∷ pos 22 ∷ ok ∷ pos 2 ∷ err ∷ pos 22 ∷ ok ∷ pos 0 ∷ done ∷ ok ∷ pos 0 ∷ idle ∷ []
+unfolding maxdata_of munge_of ranges_of
+released_as_mapped = rw down_1000 (rw up_1000 (rw down_160000 refl))
 
 -- an end is reported only once all that was mapped is released
 all_mapped :
@@ -340,7 +399,7 @@ all_mapped :
     ∷ line 1000 1 (ops.Read 0 1) ∷ line 1000 1 (ops.Release 0 2) ∷ line 1000 1 (ops.Map 0 0) ∷ [])
     ≡ ok ∷ ok ∷ ok ∷ pos 2 ∷ ok ∷ pos 0 ∷ err ∷ pos 22 ∷ ok ∷ pos 2 ∷ ok ∷ pos 0 ∷ done ∷ []
 unfolding maxdata_of munge_of ranges_of
-all_mapped = refl
+all_mapped = rw (down_1000, up_1000, down_160000) refl
 
 -- a command that the horizon ended takes triggers, and stays ended
 trigger_after_the_end :
@@ -349,7 +408,7 @@ trigger_after_the_end :
     ∷ line 1000 1 (ops.InsnIntTrig 0 0) ∷ line 1000 1 (ops.Read 0 1) ∷ [])
     ≡ ok ∷ ok ∷ ok ∷ pos 1 ∷ ok ∷ pos 1 ∷ ok ∷ pos 0 ∷ dry ∷ []
 unfolding maxdata_of munge_of ranges_of
-trigger_after_the_end = refl
+trigger_after_the_end = rw (down_1000, up_1000, down_160000) refl
 
 -- the checks come before the end
 fills_after_the_end :
@@ -358,7 +417,7 @@ fills_after_the_end :
     ∷ line 500 1 (ops.InsnIntTrig 1 0) ∷ line 1000 1 (ops.Write 1 (6 ∷ [])) ∷ line 1000 1 (ops.Mark 1 1) ∷ line 1000 1 (ops.Fill 1 (6 ∷ [])) ∷ [])
     ≡ ok ∷ ok ∷ ok ∷ pos 1 ∷ ok ∷ pos 1 ∷ err ∷ pos 22 ∷ ok ∷ pos 1 ∷ err ∷ pos 32 ∷ underrun ∷ pos 0 ∷ []
 unfolding maxdata_of munge_of ranges_of
-fills_after_the_end = refl
+fills_after_the_end = rw (down_1000, up_1000, down_1000000) refl
 
 -- a file that is closed gives up its command
 closes :
@@ -367,7 +426,7 @@ closes :
     ∷ line 0 2 (ops.Cmd (timed 0 0 (trig source.now 0) 1000 (trig source.count 2) 0)) ∷ [])
     ≡ ok ∷ ok ∷ ok ∷ ok ∷ ok ∷ []
 unfolding maxdata_of munge_of ranges_of
-closes = refl
+closes = rw (down_1000, up_1000, down_160000) refl
 
 -- the command of another file goes on, and what has to be put out by the closing is put out before it
 closes_its_own :
@@ -378,7 +437,7 @@ closes_its_own :
     ≡ ok ∷ ok ∷ ok ∷ ok ∷ ok ∷ pos 1 ∷ ok ∷ pos 1 ∷ out ∷ pos 1 ∷ pos 0 ∷ pos 0 ∷ pos 2057 ∷ ok ∷ ok ∷ pos 0 ∷ ok ∷ pos 2 ∷ pos 0 ∷ minus 153 ∷ pos 0 ∷ pos 999923 ∷ ok ∷ pos 0
     ∷ done ∷ []
 unfolding maxdata_of munge_of ranges_of
-closes_its_own = refl
+closes_its_own = rw down_1000 (rw up_1000 (rw down_160000 (rw down_1000000 refl)))
 
 -- an edge stops a command, whose end comes with the edge
 waits_for_the_edge :
@@ -387,7 +446,7 @@ waits_for_the_edge :
     ∷ line 3199 1 (ops.Read 0 9) ∷ line 3200 1 (ops.Read 0 9) ∷ [])
     ≡ ok ∷ ok ∷ ok ∷ pos 3 ∷ pos 0 ∷ minus 153 ∷ pos 0 ∷ minus 153 ∷ pos 0 ∷ minus 153 ∷ ok ∷ pos 0 ∷ ok ∷ pos 0 ∷ ok ∷ pos 0 ∷ done ∷ []
 unfolding maxdata_of munge_of ranges_of
-waits_for_the_edge = refl
+waits_for_the_edge = rw (down_1000, up_1000, up_500, down_160000) refl
 
 -- a loss comes before the edge
 overrun_before_the_edge :
@@ -396,7 +455,7 @@ overrun_before_the_edge :
     ∷ line 3200 1 (ops.Read 0 4) ∷ [])
     ≡ ok ∷ ok ∷ ok ∷ pos 4 ∷ ok ∷ pos 4 ∷ pos 0 ∷ minus 153 ∷ pos 0 ∷ minus 153 ∷ pos 0 ∷ minus 153 ∷ pos 0 ∷ minus 153 ∷ err ∷ pos 32 ∷ overrun ∷ pos 4 ∷ []
 unfolding maxdata_of munge_of ranges_of
-overrun_before_the_edge = refl
+overrun_before_the_edge = rw (down_500, up_500, down_160000) refl
 
 -- a falling edge stops a command likewise
 waits_for_a_fall :
@@ -405,7 +464,7 @@ waits_for_a_fall :
     ∷ line 2199 1 (ops.Read 0 9) ∷ line 2200 1 (ops.Read 0 9) ∷ [])
     ≡ ok ∷ ok ∷ ok ∷ pos 2 ∷ pos 0 ∷ minus 153 ∷ pos 0 ∷ minus 153 ∷ ok ∷ pos 0 ∷ ok ∷ pos 0 ∷ done ∷ []
 unfolding maxdata_of munge_of ranges_of
-waits_for_a_fall = refl
+waits_for_a_fall = rw (down_1000, up_1000, up_500, down_160000) refl
 
 -- nothing stops a command but the horizon
 runs_dry :
@@ -414,7 +473,7 @@ runs_dry :
     ∷ line 1500 1 (ops.Read 0 9) ∷ [])
     ≡ ok ∷ ok ∷ ok ∷ pos 2 ∷ pos 0 ∷ minus 153 ∷ pos 0 ∷ minus 153 ∷ ok ∷ pos 0 ∷ ok ∷ pos 0 ∷ dry ∷ []
 unfolding maxdata_of munge_of ranges_of
-runs_dry = refl
+runs_dry = rw (down_1000, up_1000, down_160000) refl
 
 -- a board of one input with a FIFO of 4 that is drained a while after it is half full, and a level of 100
 abbrev delayed : ℕ → Setting
@@ -441,7 +500,7 @@ waits_in_the_fifo :
     ≡ ok ∷ ok ∷ ok ∷ pos 0 ∷ ok ∷ pos 3 ∷ pos 0 ∷ pos 100 ∷ pos 0 ∷ pos 100 ∷ pos 0 ∷ pos 100 ∷ ok ∷ pos 0 ∷ ok ∷ pos 3 ∷ pos 0 ∷ pos 100 ∷ pos 0 ∷ pos 100 ∷ pos 0 ∷ pos 100
     ∷ ok ∷ pos 0 ∷ done ∷ []
 unfolding maxdata_of munge_of ranges_of
-waits_in_the_fifo = refl
+waits_in_the_fifo = rw down_scan (rw up_scan (rw down_long (rw up_short refl)))
 
 -- the sample at 4,000 comes before the drain at that time and finds the FIFO full
 lost_in_the_fifo :
@@ -450,4 +509,4 @@ lost_in_the_fifo :
     ∷ line 4000 1 (ops.Read 0 9) ∷ line 4000 1 (ops.Read 0 9) ∷ [])
     ≡ ok ∷ ok ∷ ok ∷ pos 0 ∷ ok ∷ pos 4 ∷ pos 0 ∷ pos 100 ∷ pos 0 ∷ pos 100 ∷ pos 0 ∷ pos 100 ∷ pos 0 ∷ pos 100 ∷ err ∷ pos 32 ∷ fifo ∷ pos 4 ∷ ok ∷ pos 0 ∷ idle ∷ []
 unfolding maxdata_of munge_of ranges_of
-lost_in_the_fifo = refl
+lost_in_the_fifo = rw (down_scan, up_scan, down_long, up_short) refl

@@ -13,6 +13,6 @@ pub record IsSchedule (s : Schedule) : Type 0 where
   pub few : length s.conversions ≤ 2 ^ 60
   pub soon : s.horizon < 2 ^ 62
   pub nonempty : 1 ≤ s.size
-  pub small : s.size ≤ 65536
+  pub small : s.size ≤ 2 ^ 20
   pub format : IsFormat s.format
   pub codes : is_out s ≡ false → (place : ℕ) → place < length s.conversions → IsSample s.format place (slice_index (samples s) place)

@@ -198,7 +198,7 @@ fn open(file: u32, files: &mut Files, text: &mut Vec<u8>) -> Result<(), NoMemory
 
 // Answers the time of day to an open file. Refused with Inval (`EINVAL`) where it isn't open.
 fn answer_time(time: u64, file: u32, files: &Files, text: &mut Vec<u8>) -> Result<(), NoMemory>
-    requires { time ≤ 10 ^ 12 }
+    requires { time ≤ 10 ^ 15 }
     ensures { (devices : List Device) → OnOk result (Leads (session.unless_refused (first_refusal (close_checks file files.now)) (record { files = files.now; devices = devices }) (record { answer = Data 2 (time_words time); state = record { files = files.now; devices = devices } })) (record { files = files.now; devices = devices }) text.old.items text.new.items) }
 {
     if files.is_open(file) {

@@ -75,7 +75,7 @@ fn start<'a>(
     let sub = at.sub;
     let signals = at.signals;
     // These reads show what holds of each subdevice, and that the horizon is within its limit.
-    shows(&sub.tick);
+    shows(&sub.list_max);
     shows(&signals.horizon);
     let rule = rule_of(alloc, sub, cmd)?;
     let plan = Plan::new(sub, signals, cmd, at.index, at.time, None);

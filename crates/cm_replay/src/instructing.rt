@@ -145,7 +145,7 @@ pub(crate) fn configure(
 
 /// `insn gtod`: the seconds and the microseconds of a time.
 pub(crate) fn time_of_day(time: u64, text: &mut Vec<u8>) -> Result<(), NoMemory>
-    requires { time ≤ 10 ^ 12 }
+    requires { time ≤ 10 ^ 15 }
     ensures { OnOk result (text.new.items ≡ text.old.items ++ answer_text (Data 2 (time_words time))) }
 {
     put_data(text, 2, &time_words(time))

@@ -19,7 +19,7 @@ pub fn put_answer(
     board: &BoardDesc,
     cmd: &Cmd,
 ) -> Result<(), NoMemory>
-    requires { length cmd.now.list ≤ 256 }
+    requires { length cmd.now.list ≤ 1024 }
     ensures { OnOk result (text.new.items ≡ text.old.items ++ test_answer board.now cmd.now) }
 {
     let index = cmd.sub as usize;
@@ -33,7 +33,7 @@ pub fn put_answer(
 
 // Appends the answer to a command on a subdevice.
 fn put_test(alloc: Global, text: &mut Vec<u8>, sub: &Sub, cmd: &Cmd) -> Result<(), NoMemory>
-    requires { length cmd.now.list ≤ 256 }
+    requires { length cmd.now.list ≤ 1024 }
     ensures { OnOk result (text.new.items ≡ text.old.items ++ test_on sub.now cmd.now) }
 {
     if sub.takes_commands() {
@@ -46,7 +46,7 @@ fn put_test(alloc: Global, text: &mut Vec<u8>, sub: &Sub, cmd: &Cmd) -> Result<(
 
 // Tests a copy of a command, and appends the step and what is left of the copy.
 fn put_tested(alloc: Global, text: &mut Vec<u8>, sub: &Sub, cmd: &Cmd) -> Result<(), NoMemory>
-    requires { length cmd.now.list ≤ 256 }
+    requires { length cmd.now.list ≤ 1024 }
     ensures { OnOk result (text.new.items ≡ text.old.items ++ test_text (tested sub.now cmd.now)) }
 {
     let mut cmd = cmd.copy(alloc)?;

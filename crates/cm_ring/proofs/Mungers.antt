@@ -51,7 +51,7 @@ module _ {X Q : Type 0} (samples : X → List ℕ) (t : Shared (Unit {0}) View (
       }
 
   pub looked : IsSoundMunger samples t seat rule base size munged avail cell → IsSameSeat seat seat' → (n : ℕ) → SeesWritten seat.me.0 n seat'.me.0 → (avail' : ℕ)
-      → ((ring : RingConstants) (k : ℕ) → ring.base ≡ base → n ≡ shown ring k → avail ≤ k → k ≤ avail + 65536 → avail' ≡ k) → IsSoundMunger samples t seat' rule base size munged avail' cell
+      → ((ring : RingConstants) (k : ℕ) → ring.base ≡ base → n ≡ shown ring k → avail ≤ k → k ≤ avail + 1048576 → avail' ≡ k) → IsSoundMunger samples t seat' rule base size munged avail' cell
   looked s same n gives avail' placed = let m : MungerPart = s.part in let k = gives m s.has in
       let a = s.munged_is in let b = s.avail_is in let c = s.munged_avail in let z = s.kept.size_is in let few = s.kept.few_cells in
       let low : m.avail ≤ k.0 = k.2 in let high : k.0 ≤ m.munged + seat.me.0.ring.size = k.3 in let last : k.0 ≤ length seat.me.0.ring.samples = k.4 in

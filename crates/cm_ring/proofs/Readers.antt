@@ -59,7 +59,7 @@ module _ {X Q : Type 0} (samples : X → List ℕ) (t : Shared (Unit {0}) View (
       subst IsReading view_is (record { mapped_known = omega arith; known_room = omega arith; known_end = omega arith; few_cells = omega arith; finite = s.kept.finite })
 
   pub looked : IsSoundReader samples t seat base size released known mapped cell → IsSameSeat seat seat' → (n : ℕ) → SeesMunged seat.me.0 n seat'.me.0 → (known' : ℕ)
-      → ((ring : RingConstants) (k : ℕ) → ring.base ≡ base → n ≡ shown ring k → known ≤ k → k ≤ known + 65536 → known' ≡ k) → IsSoundReader samples t seat' base size released known' mapped cell
+      → ((ring : RingConstants) (k : ℕ) → ring.base ≡ base → n ≡ shown ring k → known ≤ k → k ≤ known + 1048576 → known' ≡ k) → IsSoundReader samples t seat' base size released known' mapped cell
   looked s same n gives known' placed = let r : ReaderPart = s.part in let k = gives r s.has in
       let a = s.released_is in let b = s.known_is in let m = s.mapped_known in let z = s.kept.size_is in let few = s.kept.few_cells in
       let low : r.known ≤ k.0 = k.2 in let high : k.0 ≤ r.released + seat.me.0.ring.size = k.3 in let last : k.0 ≤ length seat.me.0.ring.samples = k.4 in

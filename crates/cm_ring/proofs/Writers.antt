@@ -56,7 +56,7 @@ module _ {X Q : Type 0} (samples : X → List ℕ) (t : Shared (Unit {0}) View (
       mine ∙ ap (λ (x : Writing). record x { part = f x.part }) view_is
 
   pub looked : IsSoundWriter samples t seat base size next freed cell → IsSameSeat seat seat' → (n : ℕ) → SeesRead seat.me.0 n seat'.me.0 → (freed' : ℕ)
-      → ((ring : RingConstants) (k : ℕ) → ring.base ≡ base → n ≡ shown ring k → freed ≤ k → k ≤ freed + 65536 → freed' ≡ k) → IsSoundWriter samples t seat' base size next freed' cell
+      → ((ring : RingConstants) (k : ℕ) → ring.base ≡ base → n ≡ shown ring k → freed ≤ k → k ≤ freed + 1048576 → freed' ≡ k) → IsSoundWriter samples t seat' base size next freed' cell
   looked s same n gives freed' placed = let w : WriterPart = s.part in let k = gives w s.has in let few = s.kept.few_cells in
       let a = s.freed_written in let b = s.written_next in let d = s.next_room in let f = s.freed_is in
       let low : w.freed ≤ k.0 = k.2 in let high : k.0 ≤ w.written = k.3 in

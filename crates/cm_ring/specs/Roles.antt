@@ -52,7 +52,7 @@ pub record IsReading (r : Reading) : Type 0 where
   pub mapped_known : r.part.released + r.mapped ≤ r.part.known
   pub known_room : r.part.known ≤ r.part.released + r.ring.size
   pub known_end : r.part.known ≤ length r.ring.samples
-  pub few_cells : r.ring.size ≤ 65536
+  pub few_cells : r.ring.size ≤ 1048576
   pub finite : length r.ring.samples ≤ 1099511627776
 
 -- the fields of a role
@@ -89,7 +89,7 @@ pub record AreKept (base size : ℕ) (ring : RingConstants) : Type 0 where
   pub base_is : ring.base ≡ base
   pub size_is : size ≡ ring.size
   pub some_cell : 0 < size
-  pub few_cells : size ≤ 65536
+  pub few_cells : size ≤ 1048576
   pub finite : length ring.samples ≤ 1099511627776
 
 -- the writer's own counts are its fields, and `cell` is the cell of the next place

@@ -51,7 +51,7 @@ fn munge_run<P: Planned>(
 )
     requires of { IsSeatOf P.samples table.now seat.old }
     requires may { MayRun rule.now from count seat.old.me.0 }
-    requires size { (size ≡ seat.old.me.0.ring.size) × (size ≤ 65536) × (count ≤ size) }
+    requires size { (size ≡ seat.old.me.0.ring.size) × (size ≤ 1048576) × (count ≤ size) }
     requires cell { (cell ≡ from % size) × (cell < size) }
     ensures same { IsSameSeat seat.old seat.new }
     ensures run { HasRun count seat.old.me.0 seat.new.me.0 }

@@ -22,7 +22,7 @@ use std::sync::Arc;
 
 // The words of a ring whose counts start at a number.
 fn first_words(alloc: Global, size: u64, first: u64) -> Result<Vec<u64>, NoMemory>
-    requires { size ≤ 65536 }
+    requires { size ≤ 1048576 }
     ensures { IfOk result (λ v. v.items ≡ slice_set (slice_set (slice_set (replicate (size + 5) 0) 0 first) 1 first) 2 first) }
 {
     let mut words = vec![in alloc; 0u64; size as usize + FIRST_CELL]?;
@@ -38,7 +38,7 @@ fn lay<P: Planned>(
     alloc: Global,
     with: &OpenedWith<P>,
 ) -> Result<(Arc<RingTable<P>, Global>, RingSeat), NoMemory>
-    requires size { (0 < with.now.size) × (with.now.size ≤ 65536) }
+    requires size { (0 < with.now.size) × (with.now.size ≤ 1048576) }
     requires plan { length (P.samples with.now.plan) ≤ 1099511627776 }
     ensures { IfOk result (λ t. IsSeatOf P.samples (arc_value t.0).shared t.1 × (t.1.me.0 ≡ opened (constants_of P.samples with.now))) }
 {
@@ -47,7 +47,7 @@ fn lay<P: Planned>(
     Ok((Arc::new(alloc, table)?, seat))
 }
 
-/// Opens a ring of `size` cells, from 1 to 65,536, for the samples of a plan of at most 2^40, which
+/// Opens a ring of `size` cells, from 1 to 1,048,576, for the samples of a plan of at most 2^40, which
 /// are munged by a rule. On a paced ring the writer never ends with an overrun. The shared counts
 /// start at `base`; places count from 0 whatever it is. The three ends may go to three threads.
 pub fn open<P: Planned + Drop>(
@@ -58,7 +58,7 @@ pub fn open<P: Planned + Drop>(
     base: u32,
     plan: P,
 ) -> Result<(Writer<P>, Munger<P>, Reader<P>), NoMemory>
-    requires size { (0 < size) × (size ≤ 65536) }
+    requires size { (0 < size) × (size ≤ 1048576) }
     requires rule { IsRule rule }
     requires plan { length (P.samples plan) ≤ 1099511627776 }
     ensures ring { IfOk result (λ t. t.0.ring ≡ record { size = size; rule = rule; samples = P.samples plan; paced = paced; base = base }) }

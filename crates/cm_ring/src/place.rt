@@ -14,10 +14,10 @@ pub(crate) fn word_of(base: u32, place: u64) -> u64
     (base as u64 + place) % 4294967296
 }
 
-/// The place that a word shows, which is that of an earlier look or at most 65,536 after it.
+/// The place that a word shows, which is that of an earlier look or at most 1,048,576 after it.
 pub(crate) fn place_from(base: u32, old: u64, word: u64) -> u64
     requires { old < 18014398509481984 }
-    ensures { (ring : RingConstants) (k : ℕ) → ring.base ≡ base → word ≡ shown ring k → old ≤ k → k ≤ old + 65536 → result ≡ k }
+    ensures { (ring : RingConstants) (k : ℕ) → ring.base ≡ base → word ≡ shown ring k → old ≤ k → k ≤ old + 1048576 → result ≡ k }
 {
     let there = (base as u64 + old) % 4294967296;
     old + (word % 4294967296 + (4294967296 - there)) % 4294967296

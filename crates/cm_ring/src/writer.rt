@@ -74,7 +74,7 @@ impl<P: Planned> Writer<P> {
     pub fn size(&self) -> usize
         ensures size { result ≡ self.now.ring.size }
         ensures some { 0 < result }
-        ensures few { result ≤ 65536 }
+        ensures few { result ≤ 1048576 }
     {
         self.size
     }

@@ -47,7 +47,7 @@ stop_bit true n e = (omega arith, sym (eq-eqb n 1 e))
 stop_bit false n e = (omega arith, sym (ne_eqb n 1 (λ one. omega arith)))
 
 -- two places less than a turn of the shared numbers apart are shown as two numbers
-pub shown_one : (ring : RingConstants) (low k j : ℕ) → low ≤ k → k ≤ low + 65536 → low ≤ j → j ≤ low + 65536 → shown ring k ≡ shown ring j → k ≡ j
+pub shown_one : (ring : RingConstants) (low k j : ℕ) → low ≤ k → k ≤ low + 1048576 → low ≤ j → j ≤ low + 1048576 → shown ring k ≡ shown ring j → k ≡ j
 unfolding shown
 shown_one ring low k j a b c d e = omega arith
 
@@ -439,7 +439,7 @@ pub laid_first : (ring : RingConstants) (n first : ℕ) → n ≡ ring.size → 
 laid_first ring n first e f = ap (λ (k : ℕ). set (set (set (replicate k 0) 0 first) 1 first) 2 first) (five_more n) ∙ λ i. f i ∷ f i ∷ f i ∷ 0 ∷ 0 ∷ replicate (e i) 0
 
 -- from an earlier look, a word tells its place
-pub told_place : (ring : RingConstants) (old word place : ℕ) → word ≡ shown ring place → old ≤ place → place ≤ old + 65536 → old + (word % 4294967296 + (4294967296 - (ring.base + old) % 4294967296)) % 4294967296 ≡ place
+pub told_place : (ring : RingConstants) (old word place : ℕ) → word ≡ shown ring place → old ≤ place → place ≤ old + 1048576 → old + (word % 4294967296 + (4294967296 - (ring.base + old) % 4294967296)) % 4294967296 ≡ place
 unfolding shown
 told_place ring old word place is low high = omega arith
 

@@ -72,7 +72,7 @@ Fits32 k word = word < 4294967296
 -- the constants that a ring may be opened with
 pub record AreConstants (ring : RingConstants) : Type 0 where
   pub some_cell : 0 < ring.size
-  pub few_cells : ring.size ≤ 65536
+  pub few_cells : ring.size ≤ 1048576
   pub finite : length ring.samples ≤ 1099511627776
 
 -- the three counts are those of the places

@@ -19,7 +19,7 @@ pub record Ring : Type 0 where
 -- the places are in order, and the cells hold the samples
 pub record IsRing (ring : Ring) : Type 0 where
   pub nonempty : 1 ≤ ring.size
-  pub small : ring.size ≤ 65536
+  pub small : ring.size ≤ 1048576
   pub rule : IsRule ring.rule
   pub its_cells : length ring.cells ≡ ring.size
   pub r_ra : ring.r ≤ ring.ra

@@ -23,7 +23,7 @@ ring_of l = record {
 pub record IsSoundRing (l : Inside) : Type 0 where
   pub rule : IsRule l.rule
   pub nonempty : 1 ≤ length l.cells.items
-  pub small : length l.cells.items ≤ 65536
+  pub small : length l.cells.items ≤ 1048576
   pub r_ra : l.r ≤ l.ra
   pub ra_m : l.ra ≤ l.m
   pub m_w : l.m ≤ l.w

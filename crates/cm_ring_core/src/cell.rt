@@ -5,7 +5,7 @@ ghost use Rattle.std.specs.Prelude.{◌≡◌, ◌+◌, ◌%◌, ◌<◌, ◌≤
 pub fn cell_after(first: usize, steps: usize, size: usize) -> usize
     requires first { first < size }
     requires steps { steps ≤ size }
-    requires small { size ≤ 65536 }
+    requires small { size ≤ 1048576 }
     ensures value { result ≡ (first + steps) % size }
     ensures within { result < size }
 {

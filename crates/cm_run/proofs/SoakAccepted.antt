@@ -3,12 +3,28 @@ use Rattle.std.proofs.Common.{◌≡◌, ℕ, ◌+◌, ◌-◌, ◌≤◌, Bool,
 use Rattle.std.specs.Prelude.{max, min, not, ◌&&◌, if◌then◌else◌}
 use Rattle.std.proofs.lemmas.Bool.{eq-eqb}
 use Rattle.std.proofs.lemmas.List.Elements.{All-nil, All-push}
-use Rattle.cm_board.specs.Board.{IsRange, IsSoundBoard, IsSoundChan, IsSoundSub, SubText, IsBlock, has_text, is_bits_ok, maxdata_of, munge_of, ranges_of}
+use Rattle.cm_board.specs.Board.{IsRange, IsSoundBoard, IsSoundChan, IsSoundSub, SubText, IsBlock, each_nanosecond, has_text, is_bits_ok, maxdata_of, munge_of, ranges_of}
+use Rattle.cm_board.specs.Times.{down, up}
+use Rattle.cm_board.proofs.Made.{down_plain, up_plain}
 use Rattle.cm_cmd.specs.Command.{CmdText}
 use Rattle.cm_test.specs.Questions.{is_compatible, is_narrow, is_rounded, is_within, tested}
 use Rattle.cm_test.specs.Steps.{narrowed, repaired, rounded}
 use Rattle.cm_test.specs.ValidList.{is_valid_list}
 use Rattle.cm_run.specs.SoakJob.{soak_board, soak_cmd, soak_range, soak_sub}
+
+-- a timer that can make each time makes the shortest scan and the longest
+least_scan : up each_nanosecond 1 ≡ 1
+least_scan = up_plain 1 1 (omega arith) (omega arith)
+
+most_scan : down each_nanosecond 1000000 ≡ 1000000
+most_scan = down_plain 1 1000000 (omega arith)
+
+-- and the scans of its commands
+down_scan : down each_nanosecond 1000 ≡ 1000
+down_scan = down_plain 1 1000 (omega arith)
+
+up_scan : up each_nanosecond 1000 ≡ 1000
+up_scan = up_plain 1 1000 (omega arith) (omega arith)
 
 pub sub_sound : IsSoundSub soak_sub
 unfolding IsBlock has_text is_bits_ok maxdata_of munge_of
@@ -19,11 +35,11 @@ sub_sound = record {
   few_channels = omega arith;
   few_ranges = omega arith;
   ranges = All-push IsRange [] soak_range (All-nil IsRange) (search rules);
-  tick = record { low = omega arith; high = omega arith };
-  scan = record { some = omega arith; order = omega arith; high = omega arith; possible = omega arith; ticks = λ old. record { least_ticks = refl; most_ticks = refl } };
-  convert = record { some = omega arith; order = omega arith; high = omega arith; possible = omega arith; ticks = λ old. record { least_ticks = refl; most_ticks = refl } };
+  timers = record { some = omega arith; short = omega arith; few = omega arith; said = refl; rising = refl };
+  scan = record { some = omega arith; order = omega arith; high = omega arith; possible = omega (arith, least_scan); ticks = λ old. record { least_ticks = refl; most_ticks = refl } };
+  convert = record { some = omega arith; order = omega arith; high = omega arith; possible = omega (arith, least_scan); ticks = λ old. record { least_ticks = refl; most_ticks = refl } };
   list = record { low = omega arith; high = omega arith };
-  list_fits = record { any = omega arith; timed = λ c s. omega arith };
+  list_fits = record { any = omega arith; timed = λ c s. omega (arith, least_scan, most_scan) };
   entries_fit = record { small = omega arith; any = omega arith; timed = λ s. omega arith };
   scans = record { low = omega arith; high = omega arith };
   few_lines = omega arith;
@@ -64,7 +80,7 @@ within_limits : (i count : ℕ) → 1 ≤ count → count ≤ 1000000 → is_wit
 within_limits i count some few = eq-eqb (max 1 (min 1000000 count) + (count - count)) count (omega arith)
 
 on_ticks : (i count : ℕ) → is_rounded soak_sub (soak_cmd i count) ≡ true
-on_ticks i count = eq-eqb count count refl
+on_ticks i count = rw (down_scan, up_scan, least_scan, most_scan) (eq-eqb count count refl)
 
 has_list : (i count : ℕ) → is_valid_list soak_sub (soak_cmd i count).list ≡ true
 unfolding ranges_of

@@ -1,7 +1,7 @@
 -- The job of a soak of n conversions.
 use Rattle.std.specs.Prelude.{ℕ, ◌+◌, ◌/◌, ◌%◌, ◌==◌, nat_lt, pos, neg_ℤ, false, List, [], ◌∷◌, ◌++◌, codes, map, replicate, None, if◌then◌else◌}
 use Rattle.cm_base.specs.Source as source
-use Rattle.cm_board.specs.Board.{BoardText, SubText, any_list, any_rounding, any_scan}
+use Rattle.cm_board.specs.Board.{BoardText, SubText, any_list, any_rounding, any_scan, each_nanosecond}
 use Rattle.cm_board.specs.Items.{ItemText}
 use Rattle.cm_board.specs.declared.lines.TheConstants as lines
 use Rattle.cm_board.specs.declared.table.Value.TheVariants as values_of
@@ -11,6 +11,7 @@ use Rattle.cm_board.specs.declared.board.Range.{Range}
 use Rattle.cm_cmd.specs.Command.{CmdText}
 use Rattle.cm_cmd.specs.Entry.{pack}
 use Rattle.cm_signal.specs.Signals.{SignalsText}
+use Rattle.cm_signal.specs.SignalsPart.{silent}
 use Rattle.cm_signal.specs.declared.wave.Wave.TheVariants as waves
 use Rattle.cm_signal.specs.declared.wave.WaveAt.{WaveAt}
 use Rattle.cm_job.specs.Job.{RunJobText}
@@ -72,7 +73,7 @@ soak_sub = record {
   munge = munges.Offset;
   ranges = soak_range ∷ [];
   masks = record { start = source.now; scan_begin = source.timer; convert = source.now; scan_end = source.count; stop = source.count };
-  tick = 1;
+  timers = each_nanosecond;
   scan_min = 1;
   scan_max = 1000000;
   conv_min = 1;
@@ -101,13 +102,7 @@ soak_wave i = record { sub = i; chan = 0; wave = waves.Saw (neg_ℤ (pos 1000000
 
 -- one at each channel, for a second
 abbrev pub soak_signals : SignalsText
-soak_signals = record {
-  horizon = 1000000000;
-  waves = soak_wave 0 ∷ soak_wave 1 ∷ soak_wave 2 ∷ soak_wave 3 ∷ [];
-  edges = replicate 16 [];
-  falls = replicate 16 [];
-  ints = [];
-}
+soak_signals = record (silent 1000000000) { waves = soak_wave 0 ∷ soak_wave 1 ∷ soak_wave 2 ∷ soak_wave 3 ∷ [] }
 
 -- so many scans of the one channel, a microsecond apart
 abbrev pub soak_cmd : ℕ → ℕ → CmdText

@@ -63,7 +63,7 @@ fn move_words<R: Threads + Wait + Sync, G: Gate + Sync>(
     gate: &G,
     who: u32,
 ) -> Result<Vec<u32>, NoMemory>
-    requires size { (1 ≤ size) × (size ≤ 65536) }
+    requires size { (1 ≤ size) × (size ≤ 1048576) }
     requires rule { IsRule rule }
     requires few { length words.now ≤ 1024 }
     ensures { IfOk result (λ v. v.items ≡ munged_plan (record { size = size; rule = rule; samples = words.now; paced = true; base = 4294967290 })) }

@@ -187,7 +187,7 @@ fn fed<'a>(
     plan: &'a [u32],
     n: u32,
 ) -> Result<(Feeder<'a>, ScanStream<&'a [u32]>), NoMemory>
-    requires size { (size ≤ 65536) × (1 ≤ n) × (n ≤ size) }
+    requires size { (size ≤ 1048576) × (1 ≤ n) × (n ≤ size) }
     requires plan { length plan.now ≤ 16 }
     ensures fresh { IfOk result (λ t. IsFresh t.1) }
 {

@@ -7,7 +7,7 @@ ghost use Rattle.cm_run.specs.SoakJob as spec;
 use cm_base::prover::shows;
 use cm_base::source::{COUNT, NOW, TIMER};
 use cm_base::transfer::NoMemory;
-use cm_board::board::{BoardDesc, Kind, LeastScan, ListRules, Munge, Range, Rounding, Sub};
+use cm_board::board::{BoardDesc, Kind, LeastScan, ListRules, Munge, Range, Rounding, Sub, Timers};
 use cm_board::items::Item;
 use cm_board::lines::{
     BITS, BITS_FORM, BUFFER, BUFFER_FORM, CONVERT, CONVERT_FORM, LINES, LINES_FORM, LIST,
@@ -128,7 +128,10 @@ fn soak_sub(alloc: Global) -> Result<Sub, AllocError>
         munge: Munge::Offset,
         ranges: ranges(alloc)?,
         sources: [NOW, TIMER, NOW, COUNT, COUNT],
-        tick: 1,
+        timers: Timers {
+            tick: 1,
+            clock: Vec::new(alloc),
+        },
         scan_min: 1,
         scan_max: 1_000_000,
         conv_min: 1,

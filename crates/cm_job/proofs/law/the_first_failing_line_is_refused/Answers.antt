@@ -9,5 +9,5 @@ pub returns : goal.returns
 returns c = record {
   streamed = λ session board signals. refuses_first (runs.line_after session board signals) [];
   expanded = λ board signals. refuses_first (expands.line_after board signals) [];
-  tested = refuses_first (λ before line. tests.test_line line) [];
+  tested = λ board. refuses_first (λ before line. tests.test_line board line) [];
 }

@@ -7,6 +7,7 @@ use Rattle.cm_base.specs.declared.faults.Fault.{Fault}
 use Rattle.cm_base.specs.declared.faults.Refused.{Refused}
 use Rattle.cm_job.proofs.Steps.{kept-by, then-reads, then-stops}
 use Rattle.cm_signal.proofs.Parts.{gives_err}
+use Rattle.cm_signal.specs.Bounds.{bounds_of}
 use Rattle.cm_job.proofs.LoopKept.{asked-from, loop-from}
 use Rattle.cm_job.specs.LoopForms.{asked_of}
 use Rattle.cm_job.specs.LoopJob.{IsLoopJob}
@@ -16,17 +17,17 @@ use Rattle.cm_job.proofs.loop_reading.read_line.Goals as goal
 
 pub accept_loop-requires-clause-t_in : goal.accept_loop-requires-clause-t_in
 accept_loop-requires-clause-t_in c =
-    let horizon = c.args.signals.now.horizon in
+    let bounds = bounds_of c.args.board.now c.args.signals.now in
     let line = line_view c.args.line.now in
     let asked = c.in_ok-asked.asked in
-    (asked-from horizon line asked (at_line_ok line.number (asked_of horizon line) asked c.in_ok-asked.ensures.value)).t_in
+    (asked-from bounds line asked (at_line_ok line.number (asked_of bounds line) asked c.in_ok-asked.ensures.value)).t_in
 
 pub accept_loop-requires-clause-t_out : goal.accept_loop-requires-clause-t_out
 accept_loop-requires-clause-t_out c =
-    let horizon = c.args.signals.now.horizon in
+    let bounds = bounds_of c.args.board.now c.args.signals.now in
     let line = line_view c.args.line.now in
     let asked = c.in_ok-asked.asked in
-    (asked-from horizon line asked (at_line_ok line.number (asked_of horizon line) asked c.in_ok-asked.ensures.value)).t_out
+    (asked-from bounds line asked (at_line_ok line.number (asked_of bounds line) asked c.in_ok-asked.ensures.value)).t_out
 
 pub returns-in_err-asked-clause-value : goal.returns-in_err-asked-clause-value
 returns-in_err-asked-clause-value c =
@@ -34,14 +35,14 @@ returns-in_err-asked-clause-value c =
     let signals = c.args.signals.now in
     let line = line_view c.args.line.now in
     let stop = c.in_err-asked.field-0.0 in
-    gives_err _ c.from_residual.result stop _ c.from_residual.ensures.1 (then-stops stop line.number (asked_of signals.horizon line) (λ a. spec.line_of board signals a) c.in_err-asked.ensures.value)
+    gives_err _ c.from_residual.result stop _ c.from_residual.ensures.1 (then-stops stop line.number (asked_of (bounds_of board signals) line) (λ a. spec.line_of board signals a) c.in_err-asked.ensures.value)
 
 pub returns-clause-value : goal.returns-clause-value
 returns-clause-value c =
     let board = c.args.board.now in
     let signals = c.args.signals.now in
     let line = line_view c.args.line.now in
-    let through = then-reads line.number (asked_of signals.horizon line) (λ a. spec.line_of board signals a) c.in_ok-asked.asked c.in_ok-asked.ensures.value in
+    let through = then-reads line.number (asked_of (bounds_of board signals) line) (λ a. spec.line_of board signals a) c.in_ok-asked.asked c.in_ok-asked.ensures.value in
     subst (λ (r : Result LoopLine Refused). Gives (λ next. next) c.at_line.result r) (ap (λ (r : Result LoopLine Fault). at_line line.number r) c.accept_loop.ensures ∙ sym through) c.at_line.ensures
 
 pub returns-clause-line : goal.returns-clause-line

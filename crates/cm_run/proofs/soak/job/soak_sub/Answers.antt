@@ -6,6 +6,18 @@ use Rattle.cm_run.proofs.soak.job.soak_sub.Goals as goal
 
 pub invariant_of-result : goal.invariant_of-result
 invariant_of-result c =
-    let same : ◌≡◌ {A = SubText} (record soak_sub { ranges = c.in_ok-ranges.field-0.items; forbidden = c.new.result.items; chans = c.new-2.result.items; block = c.in_ok-soak_block.field-0.items }) soak_sub =
-    λ i. record soak_sub { ranges = c.in_ok-ranges.ensures i; forbidden = c.new.ensures.items i; chans = c.new-2.ensures.items i; block = c.in_ok-soak_block.ensures i } in
+    let same : ◌≡◌ {A = SubText} (record soak_sub {
+      ranges = c.in_ok-ranges.field-0.items;
+      timers = record { tick = 1; clock = c.new.result.items };
+      forbidden = c.new-2.result.items;
+      chans = c.new-3.result.items;
+      block = c.in_ok-soak_block.field-0.items;
+    }) soak_sub =
+    λ i. record soak_sub {
+      ranges = c.in_ok-ranges.ensures i;
+      timers = record { tick = 1; clock = c.new.ensures.items i };
+      forbidden = c.new-2.ensures.items i;
+      chans = c.new-3.ensures.items i;
+      block = c.in_ok-soak_block.ensures i;
+    } in
     subst IsSoundSub (sym same) sub_sound
