@@ -1,10 +1,10 @@
 #!/usr/bin/env python3
 """Prints what board texts say, a line for each subdevice.
 
-    scripts/boards.py [-s] [FILE..]
+    scripts/boards.py [-s] [-f WORD] [-k KIND] [-c CHANNELS] [-b BITS] [-r RATE] [FILE..]
 
-FILE is a board text, or a job; without one it is each text in examples/boards. With -s the lines have
-the sources of the subdevices that take commands, and else their numbers:
+FILE is a board text, or a job; without one it is each text in examples/boards, and where something is looked for each in
+boards, too. With -s the lines have the sources of the subdevices that take commands, and else their numbers:
 
     bits     of its codes                  ns a scan, ns a conversion     the least times of a command
     tick     of its clock, in ns           samples a second               of one channel after another
@@ -13,10 +13,14 @@ the sources of the subdevices that take commands, and else their numbers:
 A `+` after the ranges says that some channels have ranges of their own. With -s and one FILE the pairs of
 sources that may not stand together follow the line of their subdevice.
 
+Looked for are boards whose name, vendor or model has WORD, in capitals or not, and subdevices of KIND (ai, ao, di, do,
+dio) with at least CHANNELS channels, BITS bits, and RATE samples a second. The lines then have the vendor and model.
+
 Ends with status 0; with 1 where a FILE is no board text; with 2 where the words are wrong, or a FILE can't be read.
 """
 import glob
 import os
+import re
 import sys
 
 import jobs
@@ -26,21 +30,41 @@ TOP = os.path.dirname(os.path.dirname(os.path.abspath(__file__)))
 UNITS = {"0": "V", "1": "mA", "2": ""}
 
 
-def subdevices(path):
-    """The blocks of a board text, each as its first line's words and its other lines by their first words."""
-    blocks = []
-    with open(path, encoding="ascii", errors="replace") as file:
-        for line in file:
-            words = line.split()
-            if not words or words[0].startswith("#"):
-                continue
-            if words[0] == "signals":
-                break
-            if words[0] == "subdevice":
-                blocks.append((words[1], words[2], {}))
-            elif blocks:
-                blocks[-1][2].setdefault(words[0], []).append(words[1:])
-    return blocks
+class Board:
+    """A board text: its name, the vendor and model of its first comment, and its blocks, each as its first line's words
+    and its other lines by their first words."""
+
+    def __init__(self, path):
+        self.name, self.model, self.blocks = os.path.basename(path).rsplit(".", 1)[0], "", []
+        with open(path, encoding="ascii", errors="replace") as file:
+            for number, line in enumerate(file):
+                words = line.split()
+                if words and words[0].startswith("#"):
+                    self.model = self.model if number else re.split(r"[.:,]\s|[.:]$", line[1:].strip())[0]
+                elif words and words[0] == "signals":
+                    break
+                elif words and words[0] == "subdevice":
+                    self.blocks.append((words[1], words[2], {}))
+                elif words and self.blocks:
+                    self.blocks[-1][2].setdefault(words[0], []).append(words[1:])
+        if not self.blocks:
+            raise ValueError
+
+
+class Search:
+    """What is looked for: a word, and the least numbers of a subdevice."""
+
+    def __init__(self, options):
+        least = {name: usage.number(options[name], 0, 10 ** 12) for name in ("-c", "-b", "-r") if name in options}
+        self.any = any(name in options for name in ("-f", "-k", "-c", "-b", "-r"))
+        self.word, self.kind, self.least = options.get("-f", "").lower(), options.get("-k"), least
+
+    def takes_board(self, board):
+        return self.word in (board.name + " " + board.model).lower()
+
+    def takes(self, kind, channels, lines):
+        numbers = {"-c": int(channels), "-b": int(one(lines, "bits", none="0")), "-r": int(rate(lines).replace("-", "0"))}
+        return self.kind in (None, kind) and all(numbers[name] >= least for name, least in self.least.items())
 
 
 def millionths(text):
@@ -70,7 +94,8 @@ def rate(lines):
     if "sources" not in lines:
         return "-"
     timed = "timer" in one(lines, "sources", 2).split("|")
-    return str(1000000000 // int(one(lines, "convert" if timed else "scan")))
+    least, tick = int(one(lines, "convert" if timed else "scan")), int(one(lines, "tick"))
+    return str(1000000000 // (-(-least // tick) * tick))
 
 
 def numbers(name, at, kind, channels, lines):
@@ -91,37 +116,43 @@ def pairs(lines):
     return made
 
 
-def table(asks, files):
-    """The rows of all files, and after which row the pairs of which subdevice stand."""
+def table(asks, search, boards):
+    """The rows of all boards, and after which row the pairs of which subdevice stand."""
     rows = [["board", "sub", "kind", "START", "SCAN_BEGIN", "CONVERT", "SCAN_END", "STOP", "forbidden"] if asks else
             ["board", "sub", "kind", "ch", "bits", "tick", "scan", "convert", "samples/s", "list", "lines", "ranges"]]
     under = {}
-    for path in files:
-        name = os.path.basename(path).rsplit(".", 1)[0]
-        blocks = subdevices(path)
-        if not blocks:
-            raise ValueError
-        for at, (kind, channels, lines) in enumerate(blocks):
-            if not asks:
-                rows.append(numbers(name, at, kind, channels, lines))
-            elif "sources" in lines:
-                rows.append(sources(name, at, kind, channels, lines))
-                under[len(rows) - 1] = pairs(lines) if len(files) == 1 else []
+    for board in filter(search.takes_board, boards):
+        for at, (kind, channels, lines) in enumerate(board.blocks):
+            if not search.takes(kind, channels, lines) or asks and "sources" not in lines:
+                continue
+            rows.append((sources if asks else numbers)(board.name, at, kind, channels, lines))
+            if search.any:
+                rows[-1].append(board.model)
+            if asks and len(boards) == 1:
+                under[len(rows) - 1] = pairs(lines)
+    if search.any:
+        rows[0].append("model")
     if any(len(row) != len(rows[0]) for row in rows):
         raise ValueError
     return rows, under
 
 
+def board_of(path, asks):
+    """The board of a text, whose rows can be made."""
+    try:
+        board = Board(path)
+        table(asks, Search({}), [board])
+        return board
+    except (ValueError, IndexError, KeyError, TypeError, ZeroDivisionError):
+        raise jobs.Fault("%s: this isn't a board text that the program takes" % path)
+
+
 def main(arguments):
-    words, options = usage.words_of(arguments, 0, len(arguments), "-s!")
-    asks = "-s" in options
-    files = words or sorted(glob.glob(os.path.join(TOP, "examples", "boards", "*.txt")))
-    for path in files:
-        try:
-            table(asks, [path])
-        except (ValueError, IndexError, KeyError, TypeError, ZeroDivisionError):
-            raise jobs.Fault("%s: this isn't a board text that the program takes" % path)
-    rows, under = table(asks, files)
+    words, options = usage.words_of(arguments, 0, len(arguments), "-s!", "-f", "-k", "-c", "-b", "-r")
+    asks, search = "-s" in options, Search(options)
+    folders = [os.path.join("examples", "boards")] + ["boards"] * search.any
+    files = words or [path for folder in folders for path in sorted(glob.glob(os.path.join(TOP, folder, "*.txt")))]
+    rows, under = table(asks, search, [board_of(path, asks) for path in files])
     wide = [max(len(row[at]) for row in rows) for at in range(len(rows[0]))]
     for at, row in enumerate(rows):
         print("  ".join(word.ljust(width) for word, width in zip(row, wide)).rstrip())

@@ -2,6 +2,7 @@
 
 The program itself is asked: a word is at fault where another one in its place changes the answer.
 """
+import bisect
 import re
 import subprocess
 import tempfile
@@ -187,35 +188,81 @@ def lacking(lines, kind):
     lacks = [word for word in ("bits", "range") if word not in lines and kind != "unused"]
     if lacks:
         return "a", "lacks " + " and ".join(lacks)
-    command = needed + ("scans", "lines", "samerange", "forbid", "invert", "fifo", "rounds", "halfdown", "perchan", "scanfits",
+    command = needed + ("scans", "lines", "samerange", "forbid", "invert", "fifo", "clock", "rounds", "halfdown", "perchan", "scanfits",
                         "channels", "samearef", "samepolarity")
     if any(word in lines for word in command):
         lacks = [word for word in needed if word not in lines]
     return ("b", "lacks " + " and ".join(lacks)) if lacks else None
 
 
-def off_tick(lines, tick, is_wide):
-    """Rule 3 where a block breaks it: a limit off the tick, or in a wider text two without a time on the tick between them."""
+class Timers:
+    """The times that a board can make: multiples of a tick, or the tick times a divisor of each counter of its clock."""
+
+    def __init__(self, tick, counters):
+        self.tick, self.counters = tick, [self.divisors(text) for text in counters]
+
+    @staticmethod
+    def divisors(text):
+        """The divisors of a counter, in rising order."""
+        ends = text.split("..")
+        return range(int(ends[0]), int(ends[1]) + 1) if len(ends) == 2 else [int(part) for part in text.split(",")]
+
+    def down(self, time):
+        """The greatest time not above another, or 0."""
+        return self.tick * product_to(self.counters, time // self.tick)
+
+    def up(self, time):
+        """The least time not below another, or more than any time."""
+        least = -(-time // self.tick)
+        found = [made for made in products_from(self.counters, least) if made >= least]
+        return self.tick * min(found, default=1 << 64)
+
+
+def product_to(counters, most):
+    """The greatest product of a divisor of each counter that isn't above `most`, or 0."""
+    if not counters:
+        return most
+    if len(counters) == 1:
+        at = bisect.bisect_right(counters[0], most)
+        return counters[0][at - 1] if at else 0
+    short, long = sorted(counters, key=len)
+    return max((one * product_to([long], most // one) for one in short), default=0)
+
+
+def products_from(counters, least):
+    """Products of a divisor of each counter, the least that isn't below `least` among them."""
+    if not counters:
+        return [least]
+    if len(counters) == 1:
+        return counters[0][bisect.bisect_left(counters[0], least):][:1]
+    short, long = sorted(counters, key=len)
+    return [one * other for one in short for other in products_from([long], -(-least // one))]
+
+
+def off_tick(lines, timers, is_wide):
+    """Rule 3 where a block breaks it: a limit off the tick, or in a wider text two without a possible time between them."""
+    tick = timers.tick
     for name in ("scan", "convert"):
         least, most = map(int, lines[name][0])
         line = " ".join([name] + lines[name][0])
-        if is_wide and (least + tick - 1) // tick * tick > most:
-            return "3", "no multiple of %d is within `%s`" % (tick, line)
+        if is_wide and timers.up(least) > most:
+            what = "time of the clock" if timers.counters else "multiple of %d" % tick
+            return "3", "no %s is within `%s`" % (what, line)
         for value in () if is_wide else (least, most):
             if value % tick:
                 return "3", "%d / %d leaves %d, in `%s`" % (value, tick, value % tick, line)
     return None
 
 
-def too_long(lines, tick):
+def too_long(lines, timers):
     """Rule 4 or 6 where a block breaks it: the longest list doesn't fit into the longest scan."""
     is_timed = ["timer" in words.split("|") for words in lines["sources"][0]]
     longest, most = int(lines["list"][0][0]), int(lines["scan"][0][1])
     least, entry = int(lines["convert"][0][0]), int(lines.get("perchan", [["0"]])[0][0])
     asked = [("4", least, most)]
     if is_timed[1] and is_timed[2]:
-        asked.append(("4", (least + tick - 1) // tick * tick, most // tick * tick))
-    asked.append(("6", entry, most // tick * tick if is_timed[1] else most))
+        asked.append(("4", timers.up(least), timers.down(most)))
+    asked.append(("6", entry, timers.down(most) if is_timed[1] else most))
     for number, time, scan in asked:
         if time * longest > scan:
             return number, "%d * %d = %d, above %d" % (time, longest, time * longest, scan)
@@ -237,6 +284,6 @@ def broken_rule(lines, kind, channels, is_wide):
             return "2", "channel %d has %d bits" % (channel, bits)
     if "tick" not in lines:
         return None, ""
-    tick = int(lines["tick"][0][0])
-    found = off_tick(lines, tick, is_wide) or too_long(lines, tick)
+    timers = Timers(int(lines["tick"][0][0]), lines.get("clock", [[]])[0])
+    found = off_tick(lines, timers, is_wide) or too_long(lines, timers)
     return found or ("5", "`sources %s` has ext, and there are no lines" % " ".join(lines["sources"][0]))
