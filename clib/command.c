@@ -20,8 +20,8 @@ struct trigger {
 	unsigned sources, argument;
 };
 
-/* room for the longest command: 256 entries */
-static char text[1 << 13];
+/* room for the longest command: 1,024 entries */
+static char text[1 << 15];
 static unsigned list[MOST_ENTRIES];
 
 static struct trigger *triggers_of(comedi_cmd *command)

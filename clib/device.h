@@ -17,11 +17,12 @@
 
 /* the limits of a board text and of a session */
 #define MOST_SUBDEVICES 16
-#define MOST_CHANNELS 64
-#define MOST_RANGES 16
+#define MOST_CHANNELS 256
+#define MOST_RANGES 32
 #define MOST_FILES 16
-#define MOST_ENTRIES 256
-#define MOST_BUFFER 65536
+#define MOST_ENTRIES 1024
+/* how many samples a question waits for */
+#define MOST_AWAITED 65536
 /* how many samples a line asks for at once, and how many values a line of a write has */
 #define SAMPLES_OF_A_LINE 4096
 #define VALUES_OF_A_LINE 1024

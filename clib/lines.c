@@ -11,7 +11,7 @@
 #include <string.h>
 
 /* room for the longest line: 1,024 values of ten digits */
-static char line[1 << 14];
+static char line[1 << 15];
 
 static void note_output(char *text)
 {

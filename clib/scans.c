@@ -83,7 +83,7 @@ static int ask_entries(int file, int number, uint64_t entries[2])
 
 static int await_entries(int file, int number, uint64_t entries, uint64_t *time)
 {
-	int result = question_await(file, number, entries < MOST_BUFFER ? entries : MOST_BUFFER);
+	int result = question_await(file, number, entries < MOST_AWAITED ? entries : MOST_AWAITED);
 	if (!result && answer_numbers(time, 1) != 1)
 		return -EIO;
 	return result;

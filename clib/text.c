@@ -16,9 +16,11 @@
 
 /* the longest text that the program takes */
 #define MOST_BYTES (1 << 20)
+/* the longest horizon, and that of wider texts; and the signals part of a board that has none, with each */
 #define LONGEST_HORIZON 1000000000000
-#define TEXT_OF(number) TEXT_OF_WORD(number)
-#define TEXT_OF_WORD(word) #word
+#define WIDE_HORIZON 1000000000000000
+#define SILENCE(horizon) SILENCE_TO(horizon)
+#define SILENCE_TO(horizon) "signals " #horizon "\nsession\n"
 /* how much of a line that is refused is shown */
 #define MOST_SHOWN 200
 
@@ -33,7 +35,7 @@ static int starts_with_word(const char *line, const char *word)
  * Notes the horizon. Answers what is to be put at the end. */
 static const char *cut(struct text *text)
 {
-	int has_signals = 0, has_session = 0;
+	int has_signals = 0, has_session = 0, is_wide = 0;
 	char *line = text->bytes, *end = text->bytes + text->length;
 	for (text->lines = 0; line < end && !has_session; text->lines++) {
 		char *feed = memchr(line, '\n', end - line);
@@ -41,6 +43,7 @@ static const char *cut(struct text *text)
 			has_signals = 1;
 			device->horizon = strtoull(strstr(line, "signals") + 7, NULL, 10);
 		}
+		is_wide |= starts_with_word(line, "zendrouz");
 		has_session = starts_with_word(line, "session");
 		if (has_session && !has_signals)
 			break;
@@ -49,8 +52,8 @@ static const char *cut(struct text *text)
 	text->length = line - text->bytes;
 	if (has_signals)
 		return has_session ? "" : "session\n";
-	device->horizon = LONGEST_HORIZON;
-	return "signals " TEXT_OF(LONGEST_HORIZON) "\nsession\n";
+	device->horizon = is_wide ? WIDE_HORIZON : LONGEST_HORIZON;
+	return is_wide ? SILENCE(WIDE_HORIZON) : SILENCE(LONGEST_HORIZON);
 }
 
 /* Puts the end of a text after what was kept of it. */

@@ -24,7 +24,7 @@ Range = Tuple[Number, Number, int]
 PathLike = Union[str, os.PathLike[str]]
 # The lines of a block with values, and those that are their first word alone.
 _VALUES = ("bits", "munge", "sources", "tick", "scan", "convert", "list", "scans", "lines", "buffer", "fifo",
-           "rounds", "perchan", "order")
+           "clock", "rounds", "perchan", "order")
 _FLAGS = ("samerange", "invert", "halfdown", "scanfits", "samearef", "samepolarity")
 # How many values the table of a wave holds, and the greatest horizon, in nanoseconds.
 TABLE, GREATEST_HORIZON = 64, 1_000_000_000_000
@@ -89,7 +89,7 @@ class Subdevice:
 
     `ranges` are (least, greatest, unit). `sources` are the five words of that line, `forbid` has lines without their
     first word. `tick`, `scan` and `convert` are in nanoseconds, and `buffer` in samples. `fifo` is (depth, latency),
-    and `chans` has the forms of channels that have their own. What stands from `rounds` on needs a board of version 3;
+    and `chans` has the forms of channels that have their own. What stands from `clock` on needs a board of version 3;
     `order` is what follows the word `channels` in its line.
     """
 
@@ -110,6 +110,7 @@ class Subdevice:
     forbid: Sequence[str] = ()
     invert: bool = False
     fifo: Optional[Tuple[int, Number]] = None
+    clock: Optional[str] = None
     rounds: Optional[str] = None
     halfdown: bool = False
     perchan: Optional[Number] = None
@@ -162,7 +163,7 @@ class _Block:
             self.fields["forbid"] = (*self.fields.get("forbid", ()), " ".join(rest))
         elif name in _FLAGS:
             self.fields[name] = True
-        elif name in ("munge", "sources", "rounds"):
+        elif name in ("munge", "sources", "clock", "rounds"):
             self.fields[name] = " ".join(rest)
         elif name == "channels":
             self.fields["order"] = " ".join(rest)
@@ -220,13 +221,13 @@ class Board:
 
     @classmethod
     def named(cls, name: str) -> "Board":
-        """A board of examples/boards, as `ni_pci_6221`; Missing where there is none of that name."""
+        """A board of examples/boards, as `ni_pci_6221`, or of boards, as `ni_pcimio.pci-6014`; Missing where there is none."""
         boards = folder("examples/boards")
-        path = boards / (name + ".txt")
-        if not path.is_file():
-            names = sorted(other.stem for other in boards.glob("*.txt"))
-            raise Missing("the board %s" % name, [str(boards)], "there are %s" % ", ".join(names))
-        return cls.read(path)
+        for place in (boards, boards.parent.parent / "boards"):
+            if (place / (name + ".txt")).is_file():
+                return cls.read(place / (name + ".txt"))
+        names = sorted(other.stem for other in boards.glob("*.txt"))
+        raise Missing("the board %s" % name, [str(boards)], "there are %s" % ", ".join(names))
 
     def changed(self, subdev: int, **lines: Any) -> "Board":
         """This board with other lines in one subdevice: `board.changed(0, buffer=64)`."""
