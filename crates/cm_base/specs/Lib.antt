@@ -14,3 +14,4 @@ pub mod Words
 pub mod Parts
 pub mod WrittenLines
 pub mod UpTo
+pub mod Stops

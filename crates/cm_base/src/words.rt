@@ -7,6 +7,7 @@ ghost use Rattle.cm_base.specs.ReadStop.{Gives};
 ghost use Rattle.cm_base.specs.Reading.{at_line, seen};
 
 use crate::faults::{Fault, ReadStop, Refused};
+use crate::lanes::first_byte;
 use crate::numbers::{read_i64, read_u64};
 use crate::source::{COUNT, EXT, FOLLOW, INT, NONE, NOW, OTHER, TIME, TIMER};
 use std::alloc::Global;
@@ -106,6 +107,17 @@ pub fn source_in(word: &[u8], mask: u32) -> Result<u32, Fault>
 pub fn source_of(word: &[u8]) -> Result<u32, Fault>
     ensures { result ≡ source_of word.now }
 {
+    match bit_of(word) {
+        Some(bit) => Ok(bit),
+        None => sources_of(word),
+    }
+}
+
+// The same, where the text mostly names several.
+#[inline(never)]
+fn sources_of(word: &[u8]) -> Result<u32, Fault>
+    ensures { result ≡ source_of word.now }
+{
     if word == b"invalid".as_slice() {
         Ok(0)
     } else {
@@ -140,7 +152,7 @@ fn first_bar(word: &[u8]) -> Option<usize>
     ensures place { result ≡ position is_bar word.now }
     ensures within { IfSome result (λ at. at < length word.now) }
 {
-    word.iter().position(|byte| *byte == b'|')
+    first_byte(word, b'|')
 }
 
 // The bit of the source with this name, if it is not below `least`.
@@ -306,7 +318,7 @@ pub fn at_line<T>(line: u32, read: Result<T, Fault>) -> Result<T, ReadStop>
 pub fn times_in(alloc: Global, line: u32, words: &[&[u8]], most: u64) -> Result<Vec<u64>, ReadStop>
     ensures { Gives (λ times. times.items) result (at_line line (each_word (number_in 0 most) [] (map (λ word. word.now) words.now))) }
 {
-    let mut times = Vec::new(alloc);
+    let mut times = Vec::with_capacity(alloc, words.len())?;
     for word in words {
         let time = at_line(line, time_in(word, 0, most))?;
         times.push(time)?;

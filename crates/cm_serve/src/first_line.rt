@@ -3,7 +3,7 @@ ghost use Rattle.std.specs.Prelude.{◌≡◌};
 ghost use Rattle.std.specs.List.{before_first, position};
 ghost use Rattle.cm_base.specs.Lines.{is_line_feed};
 
-use memchr::memchr;
+use cm_base::lanes::first_byte;
 
 /// The bytes before the first line feed, or all where there is none.
 pub(crate) fn first_line(bytes: &[u8]) -> &[u8]
@@ -19,5 +19,5 @@ pub(crate) fn first_line(bytes: &[u8]) -> &[u8]
 fn line_end(bytes: &[u8]) -> Option<usize>
     ensures { result ≡ position is_line_feed bytes.now }
 {
-    memchr(b'\n', bytes)
+    first_byte(bytes, b'\n')
 }
