@@ -4,3 +4,4 @@ pub mod Printed
 pub mod Readable
 pub mod Cuts
 pub mod Sources
+pub mod CutOnce

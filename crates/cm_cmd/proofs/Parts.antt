@@ -32,17 +32,16 @@ words_after now words all m from n same at size =
 pub further : (before after text more : List ℕ) → after ≡ before ++ text → after ++ more ≡ before ++ (text ++ more)
 further before after text more e = ap (λ (t : List ℕ). t ++ more) e ∙ append_assoc before text more
 
--- a command's words, written one after the other
-pub eight_written : (o0 o1 o2 o3 o4 o5 o6 o7 o8 o9 o10 a b t0 t1 t2 t3 t4 l : List ℕ) →
-    o1 ≡ o0 ++ a → o2 ≡ o1 ++ 32 ∷ [] → o3 ≡ o2 ++ b → o4 ≡ o3 ++ 32 ∷ t0 → o5 ≡ o4 ++ 32 ∷ t1 → o6 ≡ o5 ++ 32 ∷ t2 → o7 ≡ o6 ++ 32 ∷ t3 → o8 ≡ o7 ++ 32 ∷ t4 → o9 ≡ o8 ++ 32 ∷ [] → o10 ≡ o9 ++ l →
-    o10 ≡ o0 ++ join_with_byte 32 (a ∷ b ∷ t0 ∷ t1 ∷ t2 ∷ t3 ∷ t4 ∷ l ∷ [])
-eight_written o0 o1 o2 o3 o4 o5 o6 o7 o8 o9 o10 a b t0 t1 t2 t3 t4 l e1 e2 e3 e4 e5 e6 e7 e8 e9 e10 =
-    let y8 : List ℕ = 32 ∷ l in
-    let y7 : List ℕ = 32 ∷ (t4 ++ y8) in
-    let y6 : List ℕ = 32 ∷ (t3 ++ y7) in
-    let y5 : List ℕ = 32 ∷ (t2 ++ y6) in
-    let y4 : List ℕ = 32 ∷ (t1 ++ y5) in
-    let y3 : List ℕ = 32 ∷ (t0 ++ y4) in
-    let y2 : List ℕ = b ++ y3 in
-    e10 ∙ further o8 o9 (32 ∷ []) l e9 ∙ further o7 o8 (32 ∷ t4) y8 e8 ∙ further o6 o7 (32 ∷ t3) y7 e7 ∙ further o5 o6 (32 ∷ t2) y6 e6 ∙ further o4 o5 (32 ∷ t1) y5 e5
-    ∙ further o3 o4 (32 ∷ t0) y4 e4 ∙ further o2 o3 b y3 e3 ∙ further o1 o2 (32 ∷ []) y2 e2 ∙ further o0 o1 a (32 ∷ y2) e1
+-- a command's words, written one after the other: the first two at once, and each of the others after a space
+pub eight_written : (o0 o1 o2 o3 o4 o5 o6 o7 a b t0 t1 t2 t3 t4 l : List ℕ) →
+    o1 ≡ o0 ++ (a ++ 32 ∷ b) → o2 ≡ o1 ++ 32 ∷ t0 → o3 ≡ o2 ++ 32 ∷ t1 → o4 ≡ o3 ++ 32 ∷ t2 → o5 ≡ o4 ++ 32 ∷ t3 → o6 ≡ o5 ++ 32 ∷ t4 → o7 ≡ o6 ++ 32 ∷ l →
+    o7 ≡ o0 ++ join_with_byte 32 (a ∷ b ∷ t0 ∷ t1 ∷ t2 ∷ t3 ∷ t4 ∷ l ∷ [])
+eight_written o0 o1 o2 o3 o4 o5 o6 o7 a b t0 t1 t2 t3 t4 l e1 e2 e3 e4 e5 e6 e7 =
+    let y6 : List ℕ = 32 ∷ l in
+    let y5 : List ℕ = 32 ∷ (t4 ++ y6) in
+    let y4 : List ℕ = 32 ∷ (t3 ++ y5) in
+    let y3 : List ℕ = 32 ∷ (t2 ++ y4) in
+    let y2 : List ℕ = 32 ∷ (t1 ++ y3) in
+    let y1 : List ℕ = 32 ∷ (t0 ++ y2) in
+    e7 ∙ further o5 o6 (32 ∷ t4) y6 e6 ∙ further o4 o5 (32 ∷ t3) y5 e5 ∙ further o3 o4 (32 ∷ t2) y4 e4 ∙ further o2 o3 (32 ∷ t1) y3 e3 ∙ further o1 o2 (32 ∷ t0) y2 e2
+    ∙ further o0 o1 (a ++ 32 ∷ b) y1 e1 ∙ ap (λ (t : List ℕ). o0 ++ t) (append_assoc a (32 ∷ b) y1)

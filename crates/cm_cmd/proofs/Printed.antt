@@ -54,7 +54,7 @@ list_47 c h = grind (arith, nat_tests)
 list_44 : (c : ℕ) → is_list_byte c ≡ true → from 44 c ≡ true
 list_44 c h = grind (arith, nat_tests)
 
-no_colon_in_digits : (c : ℕ) → is_ascii_digit c ≡ true → not ((is_byte 58) c) ≡ true
+pub no_colon_in_digits : (c : ℕ) → is_ascii_digit c ≡ true → not ((is_byte 58) c) ≡ true
 no_colon_in_digits c h = grind (arith, nat_tests)
 
 no_colon_in_sources : (c : ℕ) → is_source_byte c ≡ true → not ((is_byte 58) c) ≡ true

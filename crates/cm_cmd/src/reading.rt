@@ -1,5 +1,5 @@
 // Commands, read from words.
-ghost use Rattle.std.specs.Prelude.{◌≡◌, [], drop, map, IfOk};
+ghost use Rattle.std.specs.Prelude.{◌≡◌, [], drop, map, Ok, IfOk, IfSome};
 ghost use Rattle.std.specs.List.{slice_split};
 ghost use Rattle.cm_base.specs.LineView.{line_view};
 ghost use Rattle.cm_base.specs.Reading.{at_line};
@@ -108,8 +108,36 @@ fn read_head(
 }
 
 // A source and its argument, with a colon between them.
-#[tactic(auto, unfolding(crate::specs::CommandText::trigger_of))]
 fn read_trigger(text: &[u8]) -> Result<Trig, Fault>
+    ensures { result ≡ spec.trigger_of text.now }
+{
+    match trigger_cut_once(text) {
+        Some(trigger) => Ok(trigger),
+        None => read_parts(text),
+    }
+}
+
+// The trigger that a text says, cut at its first colon: where what follows is a number, there is no
+// other one.
+fn trigger_cut_once(text: &[u8]) -> Option<Trig>
+    ensures { IfSome result (λ trigger. spec.trigger_of text.now ≡ Ok trigger) }
+{
+    let Some(at) = first_place(text, b':') else {
+        return None;
+    };
+    let Ok(src) = source_of(before(text, at)) else {
+        return None;
+    };
+    let Ok(arg) = number_in(after(text, at), 0, u32::MAX) else {
+        return None;
+    };
+    Some(Trig { src, arg })
+}
+
+// The trigger that a text says, or the first of its faults.
+#[tactic(auto, unfolding(crate::specs::CommandText::trigger_of))]
+#[inline(never)]
+fn read_parts(text: &[u8]) -> Result<Trig, Fault>
     ensures { result ≡ spec.trigger_of text.now }
 {
     let (source, argument) = two_parts(text, b':')?;
@@ -165,8 +193,42 @@ fn read_next_entry(before: usize, text: &[u8], most: usize) -> Result<u32, Fault
 }
 
 /// The list entry that a word says: a channel, a range and a reference, with slashes between them.
-#[tactic(auto, unfolding(crate::specs::ListText::entry_of))]
 pub fn read_entry(text: &[u8]) -> Result<u32, Fault>
+    ensures { result ≡ lists.entry_of text.now }
+{
+    match entry_cut_twice(text) {
+        Some(entry) => Ok(entry),
+        None => read_three(text),
+    }
+}
+
+// The list entry that a text says, cut at its first two slashes: a reference has none.
+fn entry_cut_twice(text: &[u8]) -> Option<u32>
+    ensures { IfSome result (λ entry. lists.entry_of text.now ≡ Ok entry) }
+{
+    let Some(first) = first_place(text, b'/') else {
+        return None;
+    };
+    let rest = after(text, first);
+    let Some(second) = first_place(rest, b'/') else {
+        return None;
+    };
+    let Ok(chan) = number_in(before(text, first), 0, 65535) else {
+        return None;
+    };
+    let Ok(range) = number_in(before(rest, second), 0, 255) else {
+        return None;
+    };
+    let Ok(aref) = read_aref(after(rest, second)) else {
+        return None;
+    };
+    Some(pack(chan, range, aref))
+}
+
+// The list entry that a text says, or the first of its faults.
+#[tactic(auto, unfolding(crate::specs::ListText::entry_of))]
+#[inline(never)]
+fn read_three(text: &[u8]) -> Result<u32, Fault>
     ensures { result ≡ lists.entry_of text.now }
 {
     let (chan, range, aref) = three_parts(text, b'/')?;

@@ -6,13 +6,14 @@ ghost use Rattle.cm_base.specs.Words.{two_words, three_words};
 ghost use Rattle.cm_cmd.specs.ListText.{is_byte};
 
 use cm_base::faults::Fault;
+use cm_base::lanes::first_byte;
 
 /// The place of the first separator.
 pub(crate) fn first_place(text: &[u8], separator: u8) -> Option<usize>
     ensures place { result ≡ position (is_byte separator) text.now }
     ensures within { IfSome result (λ at. at < length text.now) }
 {
-    text.iter().position(move |byte| *byte == separator)
+    first_byte(text, separator)
 }
 
 /// What stands before a place.
