@@ -4,6 +4,7 @@ pub mod Outputs
 pub mod Copied
 pub mod Entries
 pub mod Joined
+pub mod Repeats
 pub mod Outs
 pub mod Writing
 pub mod Counts

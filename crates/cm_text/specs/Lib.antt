@@ -10,3 +10,4 @@ pub mod Limits
 pub mod Blocks
 pub mod Ends
 pub mod SampleLines
+pub mod Repeated

@@ -46,6 +46,18 @@ impl<const N: usize> Bytes<N> {
         Some(Bytes { bytes, count })
     }
 
+    /// The same bytes once more.
+    #[inline(always)]
+    pub fn copy(&self) -> Bytes<N>
+        ensures same { result ≡ self.now }
+        ensures short { length result ≤ N }
+    {
+        Bytes {
+            bytes: self.bytes,
+            count: self.count,
+        }
+    }
+
     /// How many there are.
     #[inline(always)]
     pub fn len(&self) -> usize

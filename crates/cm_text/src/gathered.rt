@@ -1,4 +1,6 @@
 // Lines that are gathered before they are appended to a longer text.
+ghost use Rattle.std.specs.Prelude.{◌≡◌, ◌+◌, ◌*◌, ◌≤◌, ◌++◌, length};
+ghost use Rattle.cm_text.specs.Repeated.{repeated};
 
 use crate::bytes::Bytes;
 use cm_base::transfer::NoMemory;
@@ -28,7 +30,8 @@ impl Model for Gathered {
 }
 
 impl Gathered {
-    ghost use Rattle.std.specs.Prelude.{◌≡◌, ◌++◌, [], OnOk};
+    ghost use Rattle.std.specs.Prelude.{◌≡◌, ◌+◌, ◌≤◌, ◌++◌, [], length, OnOk};
+    ghost use Rattle.cm_text.specs.Repeated.{repeated};
 
     /// No lines.
     #[inline(always)]
@@ -50,15 +53,45 @@ impl Gathered {
         Ok(())
     }
 
+    // Makes room for a short line: where there is none, all lines are appended to their text.
+    #[inline(always)]
+    fn make_room(&mut self, text: &mut Vec<u8>) -> Result<(), NoMemory>
+        ensures text { OnOk result (text.new.items ++ self.new ≡ text.old.items ++ self.old) }
+        ensures room { OnOk result (length self.new + 32 ≤ 1024) }
+    {
+        if self.lines.len() > ROOM - SHORT {
+            self.append_to(text)?;
+        }
+        Ok(())
+    }
+
     /// Puts a short line after the others, which are appended to their text first where they are many.
     #[inline(always)]
     pub fn add(&mut self, text: &mut Vec<u8>, line: &ShortLine) -> Result<(), NoMemory>
         ensures { OnOk result (text.new.items ++ self.new ≡ (text.old.items ++ self.old) ++ line.now) }
     {
-        if self.lines.len() > ROOM - SHORT {
-            self.append_to(text)?;
-        }
+        self.make_room(text)?;
         self.lines.append(line);
+        Ok(())
+    }
+
+    /// Puts a short line after the others, so many times.
+    #[inline(always)]
+    pub fn add_times(
+        &mut self,
+        text: &mut Vec<u8>,
+        line: &ShortLine,
+        times: usize,
+    ) -> Result<(), NoMemory>
+        ensures { OnOk result (text.new.items ++ self.new ≡ (text.old.items ++ self.old) ++ repeated times line.now) }
+    {
+        let mut left = times;
+        while left > 0 {
+            self.make_room(text)?;
+            let count = left.min((ROOM - self.lines.len()) / SHORT);
+            append_times(&mut self.lines, line, count);
+            left -= count;
+        }
         Ok(())
     }
 
@@ -69,5 +102,18 @@ impl Gathered {
         self.append_to(text)?;
         text.extend_from_slice(line)?;
         Ok(())
+    }
+}
+
+// Puts a short line after others, so many times.
+#[inline(always)]
+fn append_times(lines: &mut Bytes<ROOM>, line: &ShortLine, times: usize)
+    requires room { length lines.old + times * 32 ≤ 1024 }
+    ensures { lines.new ≡ lines.old ++ repeated times line.now }
+{
+    // No write into the lines can change a copy, so it stays in registers.
+    let own = line.copy();
+    for _ in 0..times {
+        lines.append(&own);
     }
 }

@@ -1,10 +1,11 @@
 // Lines that are kept for the next samples of their list entries.
-ghost use Rattle.std.specs.Prelude.{◌≡◌, ℕ, ◌+◌, ◌<◌, ◌++◌, length, slice_index, IfOk, OnOk};
+ghost use Rattle.std.specs.Prelude.{◌≡◌, ℕ, ◌+◌, ◌<◌, ◌≤◌, ◌++◌, length, replicate, take, slice_index, IfOk, OnOk};
 ghost use Rattle.cm_text.specs.Kept.{AreKept, IsKept};
 ghost use Rattle.cm_text.specs.Format.{IsSample, sample_line, sample_lines};
 
 use crate::gathered::{Gathered, ShortLine};
 use crate::line_format::LineFormat;
+use cm_base::prover::shows;
 use cm_base::transfer::NoMemory;
 use cm_sample::rule::next_index;
 use std::alloc::Global;
@@ -103,10 +104,75 @@ fn put_kept_line(
     }
 }
 
-/// Appends the lines of a command's samples, the first of which is that of a place, by way of the lines
-/// that are kept.
-#[inline(never)]
-pub(crate) fn put_kept(
+// How many of the first words are this one.
+#[inline(always)]
+fn count_alike(words: &[u32], word: u32) -> usize
+    ensures within { result ≤ length words.now }
+    ensures alike { take result words.now ≡ replicate result word }
+{
+    let mut count = 0;
+    while count < words.len() && words[count] == word {
+        count += 1;
+    }
+    count
+}
+
+// Appends the line of a command's first word, which has one list entry, and that of as many words after
+// it as have the same line where it is kept. Reports how many.
+#[inline(always)]
+fn put_alike(
+    text: &mut Vec<u8>,
+    gathered: &mut Gathered,
+    kept: &mut [KeptLine],
+    format: &LineFormat<'_>,
+    words: &[u32],
+) -> Result<usize, NoMemory>
+    requires alone { length format.now.list ≡ 1 }
+    requires some { 1 ≤ length words.now }
+    requires code { IsSample format.now 0 (slice_index words.now 0) }
+    requires kept { AreKept format.now kept.old }
+    ensures kept { AreKept format.now kept.new }
+    ensures some { IfOk result (λ count. 1 ≤ count) }
+    ensures within { IfOk result (λ count. count ≤ length words.now) }
+    ensures lines { IfOk result (λ count. text.new.items ++ gathered.new ≡ (text.old.items ++ gathered.old) ++ sample_lines format.now 0 (take count words.now)) }
+{
+    put_kept_line(text, gathered, kept, format, 0, words[0])?;
+    let own = &kept[0];
+    let Some(word) = own.word else {
+        return Ok(1);
+    };
+    let more = count_alike(&words[1..], word);
+    gathered.add_times(text, &own.line, more)?;
+    Ok(1 + more)
+}
+
+// Appends the lines of the samples of a command that has one list entry. Those of words that are the same
+// one after another are made together.
+fn put_alone(
+    text: &mut Vec<u8>,
+    kept: &mut [KeptLine],
+    format: &LineFormat<'_>,
+    place: u64,
+    words: &[u32],
+) -> Result<(), NoMemory>
+    requires alone { length format.now.list ≡ 1 }
+    requires codes { (i : ℕ) → i < length words.now → IsSample format.now (place + i) (slice_index words.now i) }
+    requires kept { AreKept format.now kept.old }
+    ensures kept { AreKept format.now kept.new }
+    ensures lines { OnOk result (text.new.items ≡ text.old.items ++ sample_lines format.now place words.now) }
+{
+    // It is here for the contract alone: each place is of the same entry.
+    shows(&place);
+    let mut gathered = Gathered::new();
+    let mut i = 0;
+    while i < words.len() {
+        i += put_alike(text, &mut gathered, kept, format, &words[i..])?;
+    }
+    gathered.append_to(text)
+}
+
+// Appends the lines of a command's samples, the first of which is that of a place, one after another.
+fn put_in_turn(
     text: &mut Vec<u8>,
     kept: &mut [KeptLine],
     format: &LineFormat<'_>,
@@ -126,4 +192,29 @@ pub(crate) fn put_kept(
         index = next_index(index, entries);
     }
     gathered.append_to(text)
+}
+
+/// Appends the lines of a command's samples, the first of which is that of a place, by way of the lines
+/// that are kept.
+#[inline(never)]
+pub(crate) fn put_kept(
+    text: &mut Vec<u8>,
+    kept: &mut [KeptLine],
+    format: &LineFormat<'_>,
+    place: u64,
+    words: &[u32],
+) -> Result<(), NoMemory>
+    requires codes { (i : ℕ) → i < length words.now → IsSample format.now (place + i) (slice_index words.now i) }
+    requires kept { AreKept format.now kept.old }
+    ensures kept { AreKept format.now kept.new }
+    ensures lines { OnOk result (text.new.items ≡ text.old.items ++ sample_lines format.now place words.now) }
+{
+    if words.is_empty() {
+        return Ok(());
+    }
+    if format.entries() == 1 {
+        put_alone(text, kept, format, place, words)
+    } else {
+        put_in_turn(text, kept, format, place, words)
+    }
 }

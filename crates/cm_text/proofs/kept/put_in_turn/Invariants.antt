@@ -1,7 +1,7 @@
 use Rattle.std.proofs.Common.{◌≡◌, ◌+◌, ◌%◌, ◌<◌, ◌++◌, length, take}
 use Rattle.cm_text.specs.Format.{sample_lines}
 use Rattle.cm_text.specs.Kept.{AreKept}
-use Rattle.cm_text.proofs.kept.put_kept.Given as goal
+use Rattle.cm_text.proofs.kept.put_in_turn.Given as goal
 
 -- the lines of the samples so far, and the list index of the next
 abbrev pub invariant-loop-i : goal.invariant-loop-i

@@ -1,6 +1,6 @@
 use Rattle.std.proofs.Common.{◌≡◌, ◌+◌, ◌%◌, ◌<◌, ◌++◌, ℕ, length, get_or, ap, ◌∙◌, subst, arith}
 use Rattle.cm_text.proofs.Entries.{line_more, next_entry, same_sample}
-use Rattle.cm_text.proofs.kept.put_kept.Goals as goal
+use Rattle.cm_text.proofs.kept.put_in_turn.Goals as goal
 
 pub put_kept_line-requires-clause-code : goal.put_kept_line-requires-clause-code
 put_kept_line-requires-clause-code c =
