@@ -60,7 +60,7 @@ train_small c s t course is short =
     omega arith
 
 -- each conversion of a train is of the same list entry
-entry_at : (p : PlanText) (place : ℕ) (c : Course) (s : Spot) (t : Train) → IsBoard p place (Ok (record { course = c; spot = s })) → IsTrain (course_text c) s t →
+pub entry_at : (p : PlanText) (place : ℕ) (c : Course) (s : Spot) (t : Train) → IsBoard p place (Ok (record { course = c; spot = s })) → IsTrain (course_text c) s t →
     (k : ℕ) → k < t.count → s.index ≡ (place + k) % length p.cmd.list
 entry_at p place c s t is train k below =
     sym (train.entry k below)

@@ -1,12 +1,16 @@
-use Rattle.std.proofs.Common.{◌≡◌, ◌+◌, ◌++◌, ◌∷◌, [], length, drop, take, Some, List, refl, sym, ap, subst, ◌∙◌, arith, length-set}
+use Rattle.std.proofs.Common.{◌≡◌, ◌+◌, ◌-◌, ◌*◌, ◌%◌, ◌^◌, ◌<◌, ◌≤◌, ℕ, length, drop, take, Some, refl, sym, ap, subst, ◌∙◌, arith, drop-drop, length-drop}
+use Rattle.std.proofs.lemmas.List.{length-take-le}
+use Rattle.cm_sample.specs.Rule.{map_from}
+use Rattle.cm_signal.specs.SignalsPart.{progression}
 use Rattle.cm_expand.specs.Board.{IsBoard, progress_of}
-use Rattle.cm_expand.specs.Items.{items_of}
+use Rattle.cm_expand.specs.Items.{conv_at, items_of}
 use Rattle.cm_expand.specs.PlanView.{plan_text}
 use Rattle.cm_expand.specs.declared.conv.Conv.{Conv}
 use Rattle.cm_expand.specs.declared.course.Next.TheVariants.{At}
-use Rattle.cm_expand.specs.declared.progress.Progress.{Progress}
 use Rattle.cm_expand.proofs.Boards.{board_follows, board_room, runs_at}
-use Rattle.cm_expand.proofs.Taking.{left_first, more_put, none_left}
+use Rattle.cm_expand.proofs.Steps.{convs_and_more, convs_middle, given_first}
+use Rattle.cm_expand.proofs.Taken.{board_train, entry_at, train_small}
+use Rattle.cm_expand.proofs.Taking.{none_left}
 use Rattle.cm_expand.proofs.board.given.Goals as goal
 
 pub loop-count-init : goal.loop-count-init
@@ -24,24 +28,76 @@ loop-count-init c =
 pub loop-count-preserved : goal.loop-count-preserved
 loop-count-preserved c =
     let p = plan_text c.args.plan.now in
+    let place = c.args.place in
     let course = c.args.course.now in
     let count = c.loop-count.count in
-    let r : Progress = record { course = course; spot = c.in-At.now } in
-    let is = runs_at p (c.args.place + count) (Some course) c.loop-count.spot (At c.in-At.now) course refl c.in-At.is c.loop-count.invariant.board in
-    let one = ap (length {A = Conv}) (left_first p c.args.place count r is) in
-    let next = board_follows p (c.args.place + count) (Some course) course c.in-At.now c.following-spot.result refl is c.following-spot.ensures.rest c.following-spot.ensures.full c.following-spot.ensures.spot c.following-spot.ensures.index in
-    let there : c.args.place + count + 1 ≡ c.args.place + (count + 1) = omega arith in
-    let kept = length-set c.loop-count.out count c.conversion.result in
+    let out = c.loop-count.out in
+    let now = c.in-At.now in
+    let train = c.train-train.result in
+    let is_train = c.train-train.ensures.train in
+    let convs = c.put_convs.new.convs in
+    let is = runs_at p (place + count) (Some course) c.loop-count.spot (At now) course refl c.in-At.is c.loop-count.invariant.board in
+    let first = given_first p place count course now train is is_train in
+    let room = c.min-most.ensures in
+    let most = c.train-train.ensures.most in
+    let some = is_train.some in
     let size = c.loop-count.invariant.size in
+    let k : count + train.count - count ≡ train.count = omega arith in
+    let lent : length (take (count + train.count - count) (drop count out)) ≡ train.count = omega (arith, length-take-le (count + train.count - count) (drop count out), length-drop count out) in
+    let many : length convs ≡ train.count = c.put_convs.auto.convs ∙ lent in
+    let these = c.put_convs.ensures ∙ ap (λ n. map_from (conv_at p) (place + count) (progression now.time train.step n)) lent in
+    let follows = board_follows p (place + count + (train.count - 1)) (Some course) course train.last c.following-spot.result refl (board_train p (place + count) course now train is is_train)
+    c.following-spot.ensures.rest c.following-spot.ensures.full c.following-spot.ensures.spot c.following-spot.ensures.index in
+    let there : place + count + (train.count - 1) + 1 ≡ place + (count + train.count) = omega arith in
     let come = c.loop-count.invariant.come in
+    let sooner = first.come in
     record {
-      size = kept ∙ size;
-      within = omega arith;
-      conversions = more_put (λ (cs : List Conv). cs) c.conversion.result p c.args.place count r c.loop-count.out is (omega arith) c.loop-count.invariant.conversions
-          (ap (λ (conv : Conv). take count (drop c.args.place (items_of p)) ++ conv ∷ []) (sym c.conversion.ensures));
-      come = omega arith;
-      board = subst (λ place. IsBoard p place (progress_of (Some course) c.following-spot.result)) there next;
+      size = convs_middle count (count + train.count - count) out convs (omega arith) (omega arith) ∙ size;
+      within = omega (arith, convs_middle count (count + train.count - count) out convs (omega arith) (omega arith));
+      conversions = convs_and_more p place count (count + train.count - count) (count + train.count) now train out convs (omega arith) many refl c.loop-count.invariant.conversions these first;
+      come = omega (arith, length-drop (count + train.count) (drop place (items_of p)), length-drop count (drop place (items_of p)));
+      board = subst (λ place. IsBoard p place (progress_of (Some course) c.following-spot.result)) there follows;
     }
+
+pub put_convs-requires-clause-entry : goal.put_convs-requires-clause-entry
+put_convs-requires-clause-entry c = λ k below.
+    let p = plan_text c.args.plan.now in
+    let course = c.args.course.now in
+    let count = c.loop-count.count in
+    let out = c.loop-count.out in
+    let train = c.train-train.result in
+    let now = c.in-At.now in
+    let is = runs_at p (c.args.place + count) (Some course) c.loop-count.spot (At now) course refl c.in-At.is c.loop-count.invariant.board in
+    let room = c.min-most.ensures in
+    let most = c.train-train.ensures.most in
+    let lent : length (take (count + train.count - count) (drop count out)) ≡ train.count = omega (arith, length-take-le (count + train.count - count) (drop count out), length-drop count out) in
+    entry_at p (c.args.place + count) course now train is c.train-train.ensures.train k (omega (arith, below, lent))
+
+pub put_convs-requires-clause-small : goal.put_convs-requires-clause-small
+put_convs-requires-clause-small c =
+    let p = plan_text c.args.plan.now in
+    let course = c.args.course.now in
+    let count = c.loop-count.count in
+    let train = c.train-train.result in
+    let now = c.in-At.now in
+    let is = runs_at p (c.args.place + count) (Some course) c.loop-count.spot (At now) course refl c.in-At.is c.loop-count.invariant.board in
+    let room = c.min-most.ensures in
+    let most = c.train-train.ensures.most in
+    let lent : length (take (count + train.count - count) (drop count c.loop-count.out)) ≡ train.count = omega (arith, length-take-le (count + train.count - count) (drop count c.loop-count.out), length-drop count c.loop-count.out) in
+    subst (λ n. now.time + n * train.step < 2 ^ 64) (sym lent) (train_small course now train is.running.course c.train-train.ensures.train c.train-train.ensures.step)
+
+pub put_convs-requires-clause-place : goal.put_convs-requires-clause-place
+put_convs-requires-clause-place c =
+    let p = plan_text c.args.plan.now in
+    let course = c.args.course.now in
+    let count = c.loop-count.count in
+    let train = c.train-train.result in
+    let is = runs_at p (c.args.place + count) (Some course) c.loop-count.spot (At c.in-At.now) course refl c.in-At.is c.loop-count.invariant.board in
+    let place = board_room p (c.args.place + count) (record { course = course; spot = c.in-At.now }) is in
+    let room = c.min-most.ensures in
+    let most = c.train-train.ensures.most in
+    let lent : length (take (count + train.count - count) (drop count c.loop-count.out)) ≡ train.count = omega (arith, length-take-le (count + train.count - count) (drop count c.loop-count.out), length-drop count c.loop-count.out) in
+    omega arith
 
 pub returns-in_default-clause-count : goal.returns-in_default-clause-count
 returns-in_default-clause-count c =
