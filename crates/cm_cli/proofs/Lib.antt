@@ -1,5 +1,4 @@
 pub mod Ends
 pub mod Expansions
 pub mod Served
-pub mod Tails
 pub mod Tests

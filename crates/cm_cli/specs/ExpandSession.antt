@@ -14,10 +14,6 @@ use Rattle.cm_job.specs.declared.expand_lines.ExpandLine.{ExpandLine}
 abbrev pub conversion_line : Conv → List ℕ
 conversion_line c = decimal c.time ++ codes " " ++ decimal c.list_index ++ codes " " ++ decimal c.raw ++ codes "\n"
 
--- what stands after the time in the line of a conversion with this list index and raw word
-abbrev pub tail_text : ℕ → ℕ → List ℕ
-tail_text index raw = codes " " ++ decimal index ++ codes " " ++ decimal raw ++ codes "\n"
-
 -- the last line of an expansion: `done` where the command's stop is reached, and otherwise `dry`
 abbrev pub end_line : Bool → List ℕ
 end_line complete = if complete then codes "done\n" else codes "dry\n"
