@@ -1,7 +1,22 @@
 -- What contracts see of how a worker waits.
-use Rattle.std.specs.Prelude.{ℕ}
+use Rattle.std.specs.Prelude.{◌≡◌, ℕ, ◌+◌, ◌<◌, ◌≤◌, Bool, false, not}
 
 -- after how many samples a worker is woken, and how many came since it was woken last
 pub record AlarmText : Type 0 where
   pub every : ℕ
   pub count : ℕ
+
+-- a worker that sleeps goes on, and the next one was woken where so many more were enough
+pub record HasHandedOn (more : ℕ) (old : AlarmText) (announced : Bool) (new : AlarmText) : Type 0 where
+  pub awake : 0 < more → announced ≡ false
+  pub woken : 0 < more → old.every ≤ old.count + more → new ≡ record old { count = 0 }
+  pub kept : old.count + more < old.every → new ≡ record old { count = old.count + more }
+
+-- the next worker was woken for all, and this one is announced or has slept
+pub record HasWaited (before : Bool) (old : AlarmText) (announced : Bool) (new : AlarmText) : Type 0 where
+  pub alarm : new ≡ record old { count = 0 }
+  pub sleeper : announced ≡ not before
+
+-- the next worker was woken for all
+abbrev pub HasEnded : AlarmText → AlarmText → Type 0
+HasEnded old new = new ≡ record old { count = 0 }

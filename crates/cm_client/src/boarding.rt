@@ -85,10 +85,10 @@ pub fn put_words<R: Wait + Sync, P: Planned, W: Words, S: Waiting, G: Gate>(
 
 // Publishes what was put, and hands it on.
 fn publish<P: Planned, S: Waiting>(writer: &mut Writer<P>, handover: &mut Handover<S>, fresh: u32)
-    requires handed { handover.old ≡ in_64_bits writer.old.part.written }
+    requires handed { handover.old.handed ≡ in_64_bits writer.old.part.written }
     requires fresh { writer.old.part.written + fresh ≡ writer.old.part.next }
     ensures writer { writer.new ≡ record writer.old { part = record writer.old.part { written = writer.old.part.next } } }
-    ensures handed { handover.new ≡ in_64_bits writer.new.part.written }
+    ensures handed { handover.new.handed ≡ in_64_bits writer.new.part.written }
 {
     writer.publish();
     handover.hand_on(writer, fresh);

@@ -34,6 +34,7 @@ pub struct Streamed<P: Planned, C: Consumer> {
 #[derive(Drop)]
 pub struct GaveUp<P: Planned> {
     pub reader: Reader<P>,
+    ghost asked: { reader.part.asked ≡ true },
 }
 
 impl<P: Planned> From<GaveUp<P>> for NoMemory {
@@ -42,8 +43,8 @@ impl<P: Planned> From<GaveUp<P>> for NoMemory {
     }
 }
 
-// Asks for the stop, and gives up.
-fn give_up<P: Planned>(mut reader: Reader<P>) -> GaveUp<P>
+/// Asks for the stop, and gives up.
+pub fn give_up<P: Planned>(mut reader: Reader<P>) -> GaveUp<P>
     ensures { HasAsked reader result.reader }
 {
     reader.ask_stop();

@@ -6,7 +6,6 @@ use cm_ring::munger::Munger;
 use cm_ring::reader::Reader;
 use cm_ring::writer::{Closed, Writer};
 use cm_sample::planned::Planned;
-use std::marker::Model;
 use std::sync::Wait;
 
 /// An end of a ring, by what it has shown to the others.
@@ -63,20 +62,11 @@ impl<P: Planned> RingEnd for Reader<P> {
     ghost ended = { IsOver };
 }
 
-/// How a worker waits, with how many samples, or cells, it has handed on to the next one, which is what
-/// contracts see of it. The worker hands on what its end of the ring has shown, waits only where that is all,
-/// and has to end it: a `Handover` isn't let go.
+/// How a worker waits, with how many samples, or cells, it has handed on to the next one. The worker hands on
+/// what its end of the ring has shown, waits only where that is all, and has to end it: a `Handover` isn't let go.
 pub struct Handover<W: Waiting> {
     way: W,
     handed: u64,
-}
-
-impl<W: Waiting> Model for Handover<W> {
-    ghost use Rattle.std.specs.Prelude.{ℕ};
-
-    ghost Value = { ℕ };
-
-    ghost view = { λ h. h.handed };
 }
 
 impl<W: Waiting> Handover<W> {
@@ -85,15 +75,17 @@ impl<W: Waiting> Handover<W> {
 
     /// Of a worker whose end has shown so many.
     pub fn new(way: W, handed: u64) -> Handover<W>
-        ensures { result ≡ handed }
+        ensures way { result.way ≡ way }
+        ensures handed { result.handed ≡ handed }
     {
         Handover { way, handed }
     }
 
     /// Hands on so many more, which the end has shown.
     pub fn hand_on<E: RingEnd>(&mut self, by: &E, count: u32)
-        requires shown { in_64_bits (E.shown by.now) ≡ in_64_bits (self.old + count) }
-        ensures { self.new ≡ in_64_bits (E.shown by.now) }
+        requires shown { in_64_bits (E.shown by.now) ≡ in_64_bits (self.old.handed + count) }
+        ensures handed { self.new.handed ≡ in_64_bits (E.shown by.now) }
+        ensures way { W.has_handed_on self.old.way count self.new.way }
     {
         shows(by);
         self.handed = self.handed.saturating_add(u64::from(count));
@@ -103,19 +95,22 @@ impl<W: Waiting> Handover<W> {
     /// The worker has found nothing to do: it waits, or looks once more.
     pub fn wait<R: Wait, E: RingEnd>(&mut self, rt: &R, by: &E)
         requires shown { E.kept_back by.now ≡ 0 }
-        requires handed { self.old ≡ in_64_bits (E.shown by.now) }
-        ensures { self.new ≡ self.old }
+        requires handed { self.old.handed ≡ in_64_bits (E.shown by.now) }
+        ensures handed { self.new.handed ≡ self.old.handed }
+        ensures way { W.has_waited self.old.way self.new.way }
     {
         shows(by);
         self.way.wait(rt);
     }
 
-    /// The worker has ended, and its end of the ring has shown it.
-    pub fn end<E: RingEnd>(self, by: &E)
+    /// The worker has ended, and its end of the ring has shown it. Gives how it waited.
+    pub fn end<E: RingEnd>(self, by: &E) -> W
         requires { E.ended by.now }
+        ensures { W.has_ended self.way result }
     {
         shows(by);
         let Handover { mut way, handed: _ } = self;
         way.end();
+        way
     }
 }

@@ -70,6 +70,12 @@ impl<P: Planned> OwnMunger<P> {
 }
 
 impl<P: Planned> Waiting for OwnMunger<P> {
+    ghost has_handed_on = { λ _ _ _. Unit {0} };
+
+    ghost has_waited = { λ _ _. Unit {0} };
+
+    ghost has_ended = { λ _ _. Unit {0} };
+
     fn hand_on(&mut self, _count: u32) {}
 
     fn wait<R: Wait>(&mut self, _rt: &R) {

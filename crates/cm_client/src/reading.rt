@@ -189,8 +189,8 @@ fn after_piece<R: Wait, P: Planned, W: Waiting>(
     count: u32,
     piece: u32,
 )
-    requires { in_64_bits reader.now.part.released ≡ in_64_bits (handover.old + count) }
-    ensures { handover.new ≡ in_64_bits reader.now.part.released }
+    requires { in_64_bits reader.now.part.released ≡ in_64_bits (handover.old.handed + count) }
+    ensures { handover.new.handed ≡ in_64_bits reader.now.part.released }
 {
     handover.hand_on(reader, count);
     if count < piece {
@@ -211,7 +211,7 @@ fn read_up_to<R: Wait + Sync, P: Planned, C: Consumer, W: Waiting, G: Gate>(
     who: u32,
 ) -> Result<Option<End>, NoMemory>
     requires chunk { 1 ≤ chunk }
-    requires handed { handover.old ≡ in_64_bits reader.old.part.released }
+    requires handed { handover.old.handed ≡ in_64_bits reader.old.part.released }
     requires all { HasAll (C.count consumer.old) (C.made consumer.old) (C.makes consumer.old) (C.accepts consumer.old) reader.old }
     requires most { MatchOption most ⊤ (λ m. reader.old.part.released ≤ m) }
     ensures all { IfOk result (λ _. HasAll (C.count consumer.new) (C.made consumer.new) (C.makes consumer.new) (C.accepts consumer.new) reader.new) }

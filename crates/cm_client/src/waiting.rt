@@ -6,20 +6,41 @@ use std::marker::Model;
 use std::sync::Wait;
 
 /// How a worker of a ring waits for the others, and lets them know of what it has done. It decides when
-/// a worker runs, and nothing of what that reads or puts.
+/// a worker runs, and nothing of what that reads or puts. Contracts see what each call makes of it: code that
+/// knows no more of it has that from the call alone.
 pub trait Waiting: Drop {
+    ghost use Rattle.std.specs.Prelude.{ℕ};
+
+    /// What it was and is where it has let the next worker know of so many.
+    ghost has_handed_on: { Self → ℕ → Self → Type 0 };
+
+    /// What it was and is where it has waited.
+    ghost has_waited: { Self → Self → Type 0 };
+
+    /// What it was and is where it has let the next worker know of the end.
+    ghost has_ended: { Self → Self → Type 0 };
+
     /// So many samples, or cells that are free again, are there for the next worker.
-    fn hand_on(&mut self, count: u32);
+    fn hand_on(&mut self, count: u32)
+        ensures { has_handed_on self.old count self.new };
 
     /// The worker has found nothing to do: it waits, or looks once more.
-    fn wait<R: Wait>(&mut self, rt: &R);
+    fn wait<R: Wait>(&mut self, rt: &R)
+        ensures { has_waited self.old self.new };
 
     /// The worker has ended.
-    fn end(&mut self);
+    fn end(&mut self)
+        ensures { has_ended self.old self.new };
 }
 
 /// A worker that looks again and again, and gives its processor to others between two looks.
 impl Waiting for Backoff {
+    ghost has_handed_on = { λ _ _ _. Unit {0} };
+
+    ghost has_waited = { λ _ _. Unit {0} };
+
+    ghost has_ended = { λ _ _. Unit {0} };
+
     fn hand_on(&mut self, _count: u32) {}
 
     fn wait<R: Wait>(&mut self, _rt: &R) {
@@ -107,6 +128,7 @@ impl<'a> Alarm<'a> {
 
     /// There are so many samples more.
     pub fn add(&mut self, count: u32)
+        ensures every { self.old.every ≤ 4294967295 }
         ensures woken { self.old.every ≤ self.old.count + count → self.new ≡ record self.old { count = 0 } }
         ensures kept { self.old.count + count < self.old.every → self.new ≡ record self.old { count = self.old.count + count } }
     {
@@ -157,30 +179,27 @@ impl<'a> Relay<'a> {
 }
 
 impl Waiting for Relay<'_> {
-    ghost use Rattle.std.specs.Prelude.{◌≡◌, ◌+◌, ◌<◌, ◌≤◌, false, not};
+    ghost use Rattle.cm_client.specs.Waiting.{HasEnded, HasHandedOn, HasWaited};
 
-    fn hand_on(&mut self, count: u32)
-        ensures awake { 0 < count → self.new.sleeper ≡ false }
-        ensures woken { 0 < count → self.old.alarm.every ≤ self.old.alarm.count + count → self.new.alarm ≡ record self.old.alarm { count = 0 } }
-        ensures kept { self.old.alarm.count + count < self.old.alarm.every → self.new.alarm ≡ record self.old.alarm { count = self.old.alarm.count + count } }
-    {
+    ghost has_handed_on = { λ old count new. HasHandedOn count old.alarm new.sleeper new.alarm };
+
+    ghost has_waited = { λ old new. HasWaited old.sleeper old.alarm new.sleeper new.alarm };
+
+    ghost has_ended = { λ old new. HasEnded old.alarm new.alarm };
+
+    fn hand_on(&mut self, count: u32) {
         if count > 0 {
             self.sleeper.go_on();
             self.alarm.add(count);
         }
     }
 
-    fn wait<R: Wait>(&mut self, rt: &R)
-        ensures alarm { self.new.alarm ≡ record self.old.alarm { count = 0 } }
-        ensures sleeper { self.new.sleeper ≡ not self.old.sleeper }
-    {
+    fn wait<R: Wait>(&mut self, rt: &R) {
         self.alarm.wake_for_rest();
         self.sleeper.wait(rt);
     }
 
-    fn end(&mut self)
-        ensures { self.new.alarm ≡ record self.old.alarm { count = 0 } }
-    {
+    fn end(&mut self) {
         self.alarm.wake();
     }
 }

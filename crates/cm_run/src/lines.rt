@@ -8,6 +8,7 @@ use cm_base::transfer::NoMemory;
 use cm_client::claiming::{another_seat, claim_waiting};
 use cm_job::job::RunJob;
 use cm_sub::owners::{OwnerSeat, Owners};
+use cm_sub::state::SubState;
 use std::alloc::Global;
 use std::sync::Wait;
 use std::thread::{Threads, join};
@@ -21,8 +22,13 @@ fn sub_at(job: &RunJob, place: usize) -> u32
 }
 
 // The thread of the line at a place: it has its subdevice from before its ring is opened until its
-// workers have ended.
-fn line_work<R: Threads + Wait + Sync, D: Send + Drop, F: Fn(usize) -> Result<D, NoMemory> + Sync>(
+// workers have ended. Its stream borrows what the subdevice keeps, which the claim gave and which goes back
+// with it.
+fn line_work<
+    R: Threads + Wait + Sync,
+    D: Send + Drop,
+    F: Fn(usize, &SubState) -> Result<D, NoMemory> + Sync,
+>(
     rt: &R,
     owners: &Owners,
     mut seat: OwnerSeat,
@@ -33,23 +39,24 @@ fn line_work<R: Threads + Wait + Sync, D: Send + Drop, F: Fn(usize) -> Result<D,
     requires idle { IsIdle owners.now seat }
     requires places { HasPlaces job.now.board owners.now }
     requires place { place < length job.now.lines }
-    requires can { F.pre stream.now place }
-    ensures { F.post stream.now place result }
+    requires can { (held : _) → F.pre stream.now place held }
+    ensures { (held : _) × F.post stream.now place held result }
 {
     let sub = sub_at(job, place);
     let state = claim_waiting(rt, owners, &mut seat, sub);
-    let made = stream(place);
+    let made = stream(place, &state);
     owners.give_back(&mut seat, sub, state);
     made
 }
 
-/// Streams the first `count` lines of a job beside each other, each by a call of `stream` with its place,
-/// and answers after all have ended: what the calls have made, in the order of the lines.
+/// Streams the first `count` lines of a job beside each other, each by a call of `stream` with its place
+/// and what its subdevice keeps, and answers after all have ended: what the calls have made, in the order of
+/// the lines.
 #[tactic(auto, using(crate::proofs::Made::made_more))]
 pub(crate) fn lines_up_to<
     R: Threads + Wait + Sync,
     D: Send + Drop,
-    F: Fn(usize) -> Result<D, NoMemory> + Sync,
+    F: Fn(usize, &SubState) -> Result<D, NoMemory> + Sync,
 >(
     rt: &R,
     alloc: Global,
@@ -62,8 +69,8 @@ pub(crate) fn lines_up_to<
     requires idle { IsIdle owners.now seat }
     requires places { HasPlaces job.now.board owners.now }
     requires count { count ≤ length job.now.lines }
-    requires can { (place : ℕ) → place < count → F.pre stream.now place }
-    ensures { IfOk result (λ made. AreMade (λ place one. F.post stream.now place (Ok one)) count made.items) }
+    requires can { (place : ℕ) → place < count → (held : _) → F.pre stream.now place held }
+    ensures { IfOk result (λ made. AreMade (λ place one. (held : _) × F.post stream.now place held (Ok one)) count made.items) }
 {
     if count == 0 {
         return Ok(Vec::new(alloc));
@@ -73,12 +80,12 @@ pub(crate) fn lines_up_to<
     let (one, before) = join(
         rt,
         move || -> Result<D, NoMemory>
-            requires { IsIdle owners.now theirs × HasPlaces job.now.board owners.now × (last < length job.now.lines) × F.pre stream.now last }
-            ensures { F.post stream.entry.now last result }
+            requires { IsIdle owners.now theirs × HasPlaces job.now.board owners.now × (last < length job.now.lines) × ((held : _) → F.pre stream.now last held) }
+            ensures { (held : _) × F.post stream.entry.now last held result }
         { line_work(rt, owners, theirs, job, last, stream) },
         move || -> Result<Vec<D>, NoMemory>
-            requires { IsSync R.row × IsSync F.row × IsSend D.row × IsIdle owners.now seat × HasPlaces job.now.board owners.now × (last ≤ length job.now.lines) × ((place : ℕ) → place < last → F.pre stream.now place) }
-            ensures { IfOk result (λ made. AreMade (λ place one. F.post stream.entry.now place (Ok one)) last made.items) }
+            requires { IsSync R.row × IsSync F.row × IsSend D.row × IsIdle owners.now seat × HasPlaces job.now.board owners.now × (last ≤ length job.now.lines) × ((place : ℕ) → place < last → (held : _) → F.pre stream.now place held) }
+            ensures { IfOk result (λ made. AreMade (λ place one. (held : _) × F.post stream.entry.now place held (Ok one)) last made.items) }
         { lines_up_to(rt, alloc, owners, seat, job, last, stream) },
     );
     let mut made = before?;

@@ -19,6 +19,7 @@ use cm_job::job::RunJob;
 use cm_job::line::{Mode, RunLine};
 use cm_ring::reader::Reader;
 use cm_signal::signals::Signals;
+use cm_sub::state::SubState;
 use std::alloc::Global;
 use std::sync::Wait;
 use std::thread::Threads;
@@ -104,7 +105,7 @@ pub(crate) fn summed_lines<'a, R: Threads + Wait + Sync, G: Gate + Sync>(
     requires { All spec.IsSoakLine job.now.lines }
     ensures { IfOk result (λ made. AllZip (λ line d. spec.HasSummed (calls.plan_of job.now.board job.now.signals line) d.part d.reader) job.now.lines made.items) }
 {
-    let stream = move |place: usize| -> Result<Summed<'_>, NoMemory>
+    let stream = move |place: usize, _held: &SubState| -> Result<Summed<'_>, NoMemory>
         requires { (place < length job.now.lines) × All spec.IsSoakLine job.now.lines }
         ensures { IfSome (slice_get job.entry.now.lines place) (λ line. IfOk result (λ d. spec.HasSummed (calls.plan_of job.entry.now.board job.entry.now.signals line) d.part d.reader)) }
     { line_at(rt, alloc, job, place, gate) };

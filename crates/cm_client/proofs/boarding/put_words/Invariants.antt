@@ -15,7 +15,7 @@ invariant-loop g l = record {
   some_cell : 0 < l.size;
   looks : l.writer.part.read_looks ≤ l.writer.part.freed + l.writer.part.stop_looks;
   no_stop : l.writer.part.saw_stop ≡ false;
-  handed : l.handover ≡ in_64_bits l.writer.part.written;
+  handed : l.handover.handed ≡ in_64_bits l.writer.part.written;
   most : l.paced ≡ false → l.most ≡ 1;
   each : l.paced ≡ false → l.fresh ≡ 0;
 }

@@ -6,5 +6,5 @@ abbrev pub invariant-loop : goal.invariant-loop
 invariant-loop g l = record {
   table : l.munger.table ≡ l.initial.munger.table;
   ring : l.munger.ring ≡ l.initial.munger.ring;
-  handed : l.handover ≡ in_64_bits l.munger.part.munged;
+  handed : l.handover.handed ≡ in_64_bits l.munger.part.munged;
 }

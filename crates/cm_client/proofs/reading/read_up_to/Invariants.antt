@@ -11,5 +11,5 @@ invariant-loop g l = record {
   most : MatchOption l.most ⊤ (λ m. l.reader.part.released ≤ m);
   asked : l.reader.part.asked ≡ l.initial.reader.part.asked;
   of : IsSameRing l.initial.reader l.reader;
-  handed : l.handover ≡ in_64_bits l.reader.part.released;
+  handed : l.handover.handed ≡ in_64_bits l.reader.part.released;
 }
