@@ -35,6 +35,8 @@ def clients(check):
     # its commands are called at these times: each call takes 1,000 ns, and each sleep 100 ms
     starts = ((3000, 4096), (100006000, 4096), (200009000, 32768))
     check.compare_record("ends", "wide", run, [(start + k * 1000) // 1000000 % 255 for start, count in starts for k in range(count)])
+    run = check.client("full", "large")
+    check.compare_record("full", "large", run, [(3000 + k * 10000) // 1000000 % 255 for k in range(1 + 100000 + 131072)])
     check.client("locks", "wide")
     check.client("wild", "wide")
     check.client("paced", "wide", ZENDROUZ_PACE="10")

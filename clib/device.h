@@ -21,7 +21,7 @@
 #define MOST_RANGES 32
 #define MOST_FILES 16
 #define MOST_ENTRIES 1024
-/* how many samples a question waits for */
+/* how many samples a question waits for on any board */
 #define MOST_AWAITED 65536
 /* how many samples a line asks for at once, and how many values a line of a write has */
 #define SAMPLES_OF_A_LINE 4096

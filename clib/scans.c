@@ -81,9 +81,12 @@ static int ask_entries(int file, int number, uint64_t entries[2])
 	return result;
 }
 
+/* A question counts up to as many entries as the largest buffer of the board's version holds, which is this, or more where
+ * this buffer is larger. */
 static int await_entries(int file, int number, uint64_t entries, uint64_t *time)
 {
-	int result = question_await(file, number, entries < MOST_AWAITED ? entries : MOST_AWAITED);
+	unsigned buffer = device->subdevice[number].buffer, most = buffer > MOST_AWAITED ? buffer : MOST_AWAITED;
+	int result = question_await(file, number, entries < most ? entries : most);
 	if (!result && answer_numbers(time, 1) != 1)
 		return -EIO;
 	return result;

@@ -1,5 +1,5 @@
 -- What a client has still to say, one line after another.
-use Rattle.std.proofs.Common.{◌≡◌, Bool, true, false, List, [], ◌∷◌, ◌++◌, ℕ, Option, Some, None, Result, Ok, refl, ap, sym, ◌∙◌, subst, append_assoc}
+use Rattle.std.proofs.Common.{◌≡◌, Bool, true, false, List, [], ◌∷◌, ◌++◌, ℕ, Option, Some, None, Ok, refl, ap, sym, ◌∙◌, subst, append_assoc}
 use Rattle.cm_serve.specs.Ahead.{AreAhead, Came, HearsNext}
 
 -- none came

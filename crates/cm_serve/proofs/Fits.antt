@@ -19,7 +19,7 @@ use Rattle.cm_serve.specs.declared.asked.Asked.{Asked}
 use Rattle.cm_serve.specs.declared.asked.Fetch.{Fetch}
 use Rattle.cm_serve.specs.declared.asked.Question.{Question}
 use Rattle.cm_serve.specs.declared.asked.Question.TheVariants.{Await, Info, Codes, Peek}
-use Rattle.cm_serve.specs.Lines.{QuestionForm, asked_after, asked_by, counted, fetching, next_line, plain, questions, ranged, ranged_words, said_by, timed, worded}
+use Rattle.cm_serve.specs.Lines.{QuestionForm, asked_after, asked_by, counted, fetching, most_held, most_taken, next_line, plain, questions, ranged, ranged_words, said_by, timed, worded}
 use Rattle.cm_serve.specs.Reading.{IsFit}
 use Rattle.cm_serve.specs.declared.said.Said.TheVariants as says
 use Rattle.cm_serve.proofs.Limited.{Each, command_said, line_limited, listed_has, number_most, number_timed, place_timed, sub_timed, then_any, then_has}
@@ -47,15 +47,16 @@ module _ (before : ℕ) (bounds : Bounds) (time : List ℕ) (words : List (List 
       then_has (λ w. w.0.time ≤ bounds.horizon) _ (sub_words bounds time words) _ (sub_timed _ bounds time (number_most 0 bounds.horizon time) words)
       (λ w within. asked_fits (asked_by w.0 w.1 question) (within, limits w.1))
 
-  counted-fits : (make : ℕ → Question) → ((sub n : ℕ) → n ≤ 65536 → HasLimits (asked_op sub (make n))) → IfOk (counted make before bounds time words) (IsFit bounds.horizon before)
-  counted-fits make limits =
-      then_has (λ w. (w.0.time ≤ bounds.horizon) × (w.2 ≤ 65536)) _ (number_words 65536 bounds time words) _ (number_timed _ bounds time (number_most 0 bounds.horizon time) 65536 words)
+  counted-fits : (most : Bounds → ℕ) (make : ℕ → Question) → ((sub n : ℕ) → n ≤ most bounds → HasLimits (asked_op sub (make n))) →
+      IfOk (counted most make before bounds time words) (IsFit bounds.horizon before)
+  counted-fits most make limits =
+      then_has (λ w. (w.0.time ≤ bounds.horizon) × (w.2 ≤ most bounds)) _ (number_words (most bounds) bounds time words) _ (number_timed _ bounds time (number_most 0 bounds.horizon time) (most bounds) words)
       (λ w within. asked_fits (asked_by w.0 w.1 (make w.2)) (within.0, limits w.1 w.2 within.1))
 
   ranged_within : IfOk (ranged_words bounds time words) (λ w. (w.0.time ≤ bounds.horizon) × (w.3 ≤ 65536))
   ranged_within =
       then_any _ (four_words words) _ (λ w. then_has (λ at. at.0.time ≤ bounds.horizon) _ (place_of bounds time w.0 w.1) _ (place_timed _ bounds time (number_most 0 bounds.horizon time) w.0 w.1)
-      (λ at within. then_any _ (number_in 0 65536 w.2) _ (λ from. then_has (λ n. n ≤ 65536) _ (number_in 0 65536 w.3) _ (number_most 0 65536 w.3) (λ n few. (within, few)))))
+      (λ at within. then_any _ (number_in 0 (most_held bounds) w.2) _ (λ from. then_has (λ n. n ≤ 65536) _ (number_in 0 65536 w.3) _ (number_most 0 65536 w.3) (λ n few. (within, few)))))
 
   ranged-fits : (make : ℕ → ℕ → Question) → ((sub from n : ℕ) → HasLimits (asked_op sub (make from n))) → IfOk (ranged make before bounds time words) (IsFit bounds.horizon before)
   ranged-fits make limits =
@@ -69,8 +70,8 @@ module _ (before : ℕ) (bounds : Bounds) (time : List ℕ) (words : List (List 
 
   questions-fit : Each (λ (form : QuestionForm). IfOk (form before bounds time words) (IsFit bounds.horizon before)) questions
   questions-fit = (
-    counted-fits Await (λ sub n few. tt),
-    (plain-fits Info (λ sub. tt), (counted-fits Codes (λ sub n few. few), (ranged-fits Peek (λ sub from n. tt), (fetch-fits, tt)))),
+    counted-fits most_held Await (λ sub n few. tt),
+    (plain-fits Info (λ sub. tt), (counted-fits most_taken Codes (λ sub n few. few), (ranged-fits Peek (λ sub from n. tt), (fetch-fits, tt)))),
   )
 
 -- a line of the session

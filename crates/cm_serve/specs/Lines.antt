@@ -6,7 +6,7 @@ use Rattle.cm_base.specs.Reading.{◌>>=◌}
 use Rattle.cm_base.specs.Words.{Form, four_words, listed, no_words, number_in}
 use Rattle.cm_base.specs.declared.faults.Fault.{Fault}
 use Rattle.cm_base.specs.declared.faults.Fault.TheVariants.{Bad, BadLine}
-use Rattle.cm_board.specs.Versions.{most_entries}
+use Rattle.cm_board.specs.Versions.{most_entries, most_in}
 use Rattle.cm_cmd.specs.CommandText.{command_of}
 use Rattle.cm_signal.specs.declared.bounds.Bounds.{Bounds}
 use Rattle.cm_session.specs.Forms.{number_words, place_of, sub_words}
@@ -35,17 +35,25 @@ asked_after before asked = if nat_le before asked.time then Ok (says.Question as
 abbrev pub plain : Question → QuestionForm
 plain question before bounds time words = sub_words bounds time words >>= λ w. asked_after before (asked_by w.0 w.1 question)
 
--- `T KEY F SUB N`, with up to 65,536 samples
-abbrev pub counted : (ℕ → Question) → QuestionForm
-counted make before bounds time words = number_words 65536 bounds time words >>= λ w. asked_after before (asked_by w.0 w.1 (make w.2))
+-- how many samples a question takes at most
+abbrev pub most_taken : Bounds → ℕ
+most_taken bounds = 65536
 
--- `T KEY F SUB I N`, with two numbers up to 65,536
+-- and up to how many it counts: as many as a buffer may hold
+abbrev pub most_held : Bounds → ℕ
+most_held bounds = most_in bounds.version 65536 1048576
+
+-- `T KEY F SUB N`, with a number up to a limit
+abbrev pub counted : (Bounds → ℕ) → (ℕ → Question) → QuestionForm
+counted most make before bounds time words = number_words (most bounds) bounds time words >>= λ w. asked_after before (asked_by w.0 w.1 (make w.2))
+
+-- `T KEY F SUB I N`: samples are counted up to I, and N are taken
 abbrev pub ranged_words : Bounds → List ℕ → Form (Head × ℕ × ℕ × ℕ)
 ranged_words bounds time words =
     four_words words >>= λ w.
     place_of bounds time w.0 w.1 >>= λ at.
-    number_in 0 65536 w.2 >>= λ from.
-    number_in 0 65536 w.3 >>= λ n.
+    number_in 0 (most_held bounds) w.2 >>= λ from.
+    number_in 0 (most_taken bounds) w.3 >>= λ n.
     Ok (at.0, at.1, from, n)
 
 abbrev pub ranged : (ℕ → ℕ → Question) → QuestionForm
@@ -62,7 +70,7 @@ fetching before bounds time words =
 -- the questions by their keys
 abbrev pub questions : List (List ℕ × QuestionForm)
 questions =
-    (codes "await", counted Await) ∷ (codes "info", plain Info) ∷ (codes "codes", counted Codes) ∷ (codes "peek", ranged Peek)
+    (codes "await", counted most_held Await) ∷ (codes "info", plain Info) ∷ (codes "codes", counted most_taken Codes) ∷ (codes "peek", ranged Peek)
     ∷ (codes "fetch", fetching) ∷ []
 
 -- a line of the session

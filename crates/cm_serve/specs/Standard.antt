@@ -5,10 +5,11 @@ use Rattle.std.specs.Option.{option_map}
 use Rattle.std.specs.Io.KnownBytes.{Consumes, IsAtEnd, prepend_known}
 use Rattle.cm_base.specs.Lines.{is_line_feed, raw_lines}
 
--- what was read and not heard yet, what the reader has left, where it tells it, and the count of their faults
+-- what was read and not heard yet, what the reader has left and the writer has taken, where they tell it, and the count of their faults
 pub record Ends : Type 0 where
   pub waiting : List ℕ
   pub left : Option (List ℕ)
+  pub text : Option (List ℕ)
   pub faults : ℕ
 
 -- the bytes that weren't heard

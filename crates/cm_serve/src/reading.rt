@@ -13,7 +13,7 @@ use cm_base::faults::{Fault, ReadStop};
 use cm_base::lines::Line;
 use cm_base::parts::{begins, refused};
 use cm_base::words::{at_line, four, none, number_in};
-use cm_board::versions::most_entries;
+use cm_board::versions::{is_wide, most_entries};
 use cm_cmd::reading::read_cmd_up_to;
 use cm_session::forms::{Head, Start, number_words, place, sub_words};
 use cm_session::op::BoxedCmd;
@@ -21,8 +21,8 @@ use cm_session::reading::read_line;
 use cm_signal::bounds::Bounds;
 use std::alloc::Global;
 
-// The most samples that a question counts.
-const MOST_SAMPLES: u32 = 65_536;
+// The most samples that a question takes.
+const MOST_TAKEN: u32 = 65_536;
 
 /// What a line says, after a line of the time `before` and within these bounds: a line of a session,
 /// a question, a command to test, or that the board is to be described. It refuses a line as
@@ -83,7 +83,8 @@ fn read_timed(
     ensures fit { IfOk result (IsFit start.now.bounds.horizon before) }
 {
     if key == b"await".as_slice() {
-        let (head, sub, n) = at_line(start.number, number_words(start, words, MOST_SAMPLES))?;
+        let most = most_held(start.bounds);
+        let (head, sub, n) = at_line(start.number, number_words(start, words, most))?;
         at_line(
             start.number,
             asked_after(before, head, sub, Question::Await { n }),
@@ -92,7 +93,7 @@ fn read_timed(
         let (head, sub) = at_line(start.number, sub_words(start, words))?;
         at_line(start.number, asked_after(before, head, sub, Question::Info))
     } else if key == b"codes".as_slice() {
-        let (head, sub, n) = at_line(start.number, number_words(start, words, MOST_SAMPLES))?;
+        let (head, sub, n) = at_line(start.number, number_words(start, words, MOST_TAKEN))?;
         at_line(
             start.number,
             asked_after(before, head, sub, Question::Codes { n }),
@@ -119,9 +120,20 @@ fn ranged_words(start: &Start<'_>, words: &[&[u8]]) -> Result<(Head, u32, u32, u
 {
     let (file, sub, from, n) = four(words)?;
     let (head, sub) = place(start, file, sub)?;
-    let from = number_in(from, 0, MOST_SAMPLES)?;
-    let n = number_in(n, 0, MOST_SAMPLES)?;
+    let from = number_in(from, 0, most_held(start.bounds))?;
+    let n = number_in(n, 0, MOST_TAKEN)?;
     Ok((head, sub, from, n))
+}
+
+// Up to how many samples a question counts: as many as a buffer may hold.
+fn most_held(bounds: Bounds) -> u32
+    ensures { result ≡ spec.most_held bounds }
+{
+    if is_wide(bounds.version) {
+        1_048_576
+    } else {
+        65_536
+    }
 }
 
 // A line of the session.

@@ -1,8 +1,10 @@
 // Standard input and output as the client of a dialogue.
-ghost use Rattle.std.specs.Prelude.{◌≡◌, ◌+◌, ◌<◌, ◌≤◌, ◌++◌, ℕ, [], None, length, IfOk, IsErrOf};
+ghost use Rattle.std.specs.Prelude.{◌≡◌, ◌+◌, ◌<◌, ◌≤◌, ◌++◌, ℕ, [], None, length, IfOk, IsErrOf, OnOk, OnErr};
 ghost use Rattle.std.specs.List.{before_first};
+ghost use Rattle.std.specs.Io.KnownBytes.{Appends};
 ghost use Rattle.cm_base.specs.Causes.{Rose};
 ghost use Rattle.cm_base.specs.Lines.{is_line_feed};
+ghost use Rattle.cm_base.specs.Transfer.{AppendsPrefix};
 ghost use Rattle.cm_serve.specs.Standard.{Moved, Refilled, unheard_lines};
 
 use crate::client::{Client, LINE_LIMIT};
@@ -17,8 +19,9 @@ use std::marker::Model;
 // How many bytes are read at once.
 const PIECE: usize = 65536;
 
-/// Any reader and any writer as a client. What is said through them isn't reported. Contracts see the
-/// bytes that weren't heard yet, as far as the reader tells them, and the count of their faults.
+/// Any reader and any writer as a client. The turns through them aren't reported. Contracts see the
+/// bytes that weren't heard yet and those that were said, as far as the reader and the writer tell them,
+/// and the count of their faults.
 #[derive(Drop)]
 pub struct StdClient<R: Read, W: Write> {
     source: StdSource<R>,
@@ -35,7 +38,7 @@ impl<R: Read, W: Write> Model for StdClient<R, W> {
 
     ghost Value = { Ends };
 
-    ghost view = { λ c. record { waiting = slice_range c.piece.items c.from c.to; left = R.remaining c.source.inner; faults = c.source.faults + c.sink.faults } };
+    ghost view = { λ c. record { waiting = slice_range c.piece.items c.from c.to; left = R.remaining c.source.inner; text = W.contents c.sink.inner; faults = c.source.faults + c.sink.faults } };
 
     ghost invariant = { λ c. (c.from ≤ c.to) × (c.to ≤ length c.piece.items) × (length c.piece.items ≡ 65536) };
 }
@@ -113,7 +116,13 @@ impl<R: Read, W: Write> Client for StdClient<R, W> {
         Ok(true)
     }
 
-    fn say(&mut self, text: &[u8]) -> Result<(), WriteFault> {
+    fn say(&mut self, text: &[u8]) -> Result<(), WriteFault>
+        ensures whole { OnOk result (Appends self.old.text self.new.text text.now) }
+        ensures prefix { OnErr result (AppendsPrefix self.old.text self.new.text text.now) }
+        ensures still { (self.new.waiting ≡ self.old.waiting) × (self.new.left ≡ self.old.left) }
+        ensures fault { OnErr result (Rose self.old.faults self.new.faults) }
+        ensures later { self.old.faults ≤ self.new.faults }
+    {
         write_all(&mut self.sink, text)
     }
 }
