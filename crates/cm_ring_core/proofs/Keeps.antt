@@ -14,7 +14,7 @@ use Rattle.cm_ring_core.specs.declared.view.ReaderPart.{ReaderPart}
 use Rattle.cm_ring_core.specs.declared.view.View.{View}
 use Rattle.cm_ring_core.specs.Lawful.{Words, laid, shown, plan_at, end_word, stop_word, kind_code, AreConstants, Sits, Core, opened, first_writer, first_munger, first_reader, Lawful, writer_of, munger_of, reader_of}
 use Rattle.cm_ring_core.specs.Kinds as tell
-use Rattle.cm_ring_core.specs.Kinds.{cell_of, MayPut, MayPublish, MayMunge, MayShow, MayRelease, MayEnd}
+use Rattle.cm_ring_core.specs.Kinds.{MayPut, MayPublish, MayMunge, MayShow, MayRelease, MayEnd}
 use Rattle.cm_ring_core.proofs.Roles.{sits_is, sits_turn, sits_stay, sits_more, sits_move, all_set, all_snoc}
 use Rattle.cm_ring_core.proofs.Cores as core
 

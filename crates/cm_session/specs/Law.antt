@@ -1,5 +1,5 @@
 -- What holds of every session.
-use Rattle.std.specs.Prelude.{◌≡◌, ℕ, Bool, true, false, List, Ok}
+use Rattle.std.specs.Prelude.{◌≡◌, Bool, true, false, List, Ok}
 use Rattle.cm_base.specs.Lines.{LineText}
 use Rattle.cm_base.specs.Refusal.{RefusesFirst}
 use Rattle.cm_session.specs.SessionPart.{last_time, line_after, session_of}

@@ -1,4 +1,4 @@
-use Rattle.std.proofs.Common.{ℕ, ◌≡◌, ◌∙◌, ◌+◌, ◌-◌, ap, ap₂, sym, List, arith, max}
+use Rattle.std.proofs.Common.{ℕ, ◌≡◌, ◌∙◌, ◌+◌, ◌-◌, ap, ap₂, sym, List, max}
 use Rattle.std.specs.List.{range_with_len}
 use Rattle.cm_board.specs.Times.{are_multiples, greatest_to, is_one, numbers}
 use Rattle.cm_board.specs.declared.board.Divisors.{Divisors}
