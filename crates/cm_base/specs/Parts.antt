@@ -20,7 +20,8 @@ begins key line = not line.bad && begins_words key line.words
 abbrev pub fixed_words : ℕ → List ℕ → List LineText → Result (ℕ × List (List ℕ)) Refused
 fixed_words end key [] = Err (record { line = end; cause = Missing })
 fixed_words end key (line ∷ lines) =
-    at_line line.number (if line.bad then Err BadLine else if begins key line then Ok (line.number, drop 1 line.words) else Err Missing)
+    at_line line.number
+    (if line.bad then Err BadLine else if begins key line then Ok (line.number, drop 1 line.words) else Err Missing)
 
 -- what the line at such a place says
 abbrev pub fixed : {X : Type 0} → ℕ → List ℕ → Form X → List LineText → Result X Refused

@@ -21,9 +21,11 @@ at_line number (Ok x) = Ok x
 at_line number (Err cause) = Err (record { line = number; cause = cause })
 
 -- what the lines say, each read given what the lines before it say, or the first line that fails
-abbrev pub read_each : {X : Type 0} → (List X → LineText → Result X Fault) → List X → List LineText → Result (List X) Refused
+abbrev pub read_each :
+    {X : Type 0} → (List X → LineText → Result X Fault) → List X → List LineText → Result (List X) Refused
 read_each read before [] = Ok before
-read_each read before (line ∷ rest) = at_line line.number (read before line) >>= λ x. read_each read (before ++ x ∷ []) rest
+read_each read before (line ∷ rest) =
+    at_line line.number (read before line) >>= λ x. read_each read (before ++ x ∷ []) rest
 
 -- what the lines add, one after another, to what was said before them, or the first line that fails
 abbrev pub read_on : {X : Type 0} → (X → LineText → Result X Fault) → X → List LineText → Result X Refused

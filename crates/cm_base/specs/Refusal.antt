@@ -29,7 +29,8 @@ RefusesAt so_far next lines refused = (f : FirstFault so_far next lines refused)
     → so_far (f.good ++ f.line ∷ more) ≡ Err refused
 
 -- a reader of lines is refused at the first that fails, whatever stands after it
-abbrev pub RefusesFirst : {X Y : Type 0} → (List LineText → Result (List X) Refused) → (List X → LineText → Result Y Fault) → Type 0
+abbrev pub RefusesFirst :
+    {X Y : Type 0} → (List LineText → Result (List X) Refused) → (List X → LineText → Result Y Fault) → Type 0
 RefusesFirst so_far next = (lines : List LineText) (refused : Refused)
     → so_far lines ≡ Err refused
     → FirstFault so_far next lines refused × RefusesAt so_far next lines refused

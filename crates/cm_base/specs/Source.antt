@@ -41,8 +41,9 @@ other = 256
 -- the sources with their names, in rising order of their bits
 abbrev pub source_names : List (ℕ × List ℕ)
 source_names =
-    ((none, codes "none") ∷ (now, codes "now") ∷ (follow, codes "follow") ∷ (time, codes "time") ∷ (timer, codes "timer")
-    ∷ (count, codes "count") ∷ (ext, codes "ext") ∷ (int, codes "int") ∷ (other, codes "other") ∷ [])
+    ((none, codes "none") ∷ (now, codes "now") ∷ (follow, codes "follow") ∷ (time, codes "time")
+    ∷ (timer, codes "timer") ∷ (count, codes "count") ∷ (ext, codes "ext") ∷ (int, codes "int")
+    ∷ (other, codes "other") ∷ [])
 
 -- the bit that stands with a name in such a list
 abbrev pub bit_named : List (ℕ × List ℕ) → List ℕ → Option ℕ

@@ -21,4 +21,5 @@ Moves old new before after = (written : List ℕ) × Appends old new written × 
 
 -- of the whole text a prefix was written, the next part is gathered, and the rest is still to be made
 abbrev pub IsUnderWay : Option (List ℕ) → Option (List ℕ) → List ℕ → List ℕ → List ℕ → Type 0
-IsUnderWay old now gathered rest whole = (written : List ℕ) × Appends old now written × (written ++ (gathered ++ rest) ≡ whole)
+IsUnderWay old now gathered rest whole =
+    (written : List ℕ) × Appends old now written × (written ++ (gathered ++ rest) ≡ whole)

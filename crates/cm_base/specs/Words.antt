@@ -1,6 +1,7 @@
 -- What the words of a line say, each in its place.
-use Rattle.std.specs.Prelude.{ℕ, ℤ, pos, negsuc, ◌*◌, ◌-◌, Bool, ◌&&◌, ◌==◌, nat_le, nat_lt, int_lt}
-use Rattle.std.specs.Prelude.{List, [], ◌∷◌, ◌++◌, length, Option, Some, None, codes, Result, Ok, Err, if◌then◌else◌, not, bit_and, bit_or}
+use Rattle.std.specs.Prelude.{ℕ, ℤ, pos, negsuc, ◌*◌, ◌-◌, Bool, ◌&&◌, ◌==◌, nat_le, nat_lt, int_lt, List, [], ◌∷◌}
+use Rattle.std.specs.Prelude.{◌++◌, length, Option, Some, None, codes, Result, Ok, Err, if◌then◌else◌, not, bit_and}
+use Rattle.std.specs.Prelude.{bit_or}
 use Rattle.std.specs.List.{slice_split}
 use Rattle.std.specs.Str.{bytes_eq}
 use Rattle.cm_base.specs.Numbers.{number_of, signed_of}
@@ -111,20 +112,30 @@ abbrev pub two : {X A B : Type 0} → (A → B → X) → (List ℕ → Result A
 two make a b words = two_words words >>= λ w. a w.0 >>= λ x. b w.1 >>= λ y. Ok (make x y)
 
 -- the form of three words, each read by its own reader, the first one first
-abbrev pub three : {X A B C : Type 0} → (A → B → C → X) → (List ℕ → Result A Fault) → (List ℕ → Result B Fault) → (List ℕ → Result C Fault) → Form X
+abbrev pub three :
+    {X A B C : Type 0} → (A → B → C → X) → (List ℕ → Result A Fault) → (List ℕ → Result B Fault)
+    → (List ℕ → Result C Fault) → Form X
 three make a b c words = three_words words >>= λ w. a w.0 >>= λ x. b w.1 >>= λ y. c w.2 >>= λ z. Ok (make x y z)
 
 -- the form of four words, each read by its own reader, the first one first
 abbrev pub four : {X A B C D : Type 0} → (A → B → C → D → X) → (List ℕ → Result A Fault)
     → (List ℕ → Result B Fault) → (List ℕ → Result C Fault) → (List ℕ → Result D Fault)
     → Form X
-four make a b c d words = four_words words >>= λ w. a w.0 >>= λ x. b w.1 >>= λ y. c w.2 >>= λ z. d w.3 >>= λ u. Ok (make x y z u)
+four make a b c d words =
+    four_words words >>= λ w. a w.0 >>= λ x. b w.1 >>= λ y. c w.2 >>= λ z. d w.3 >>= λ u. Ok (make x y z u)
 
 -- the form of five words, each read by its own reader, the first one first
 abbrev pub five : {X A B C D E : Type 0} → (A → B → C → D → E → X) → (List ℕ → Result A Fault)
     → (List ℕ → Result B Fault) → (List ℕ → Result C Fault) → (List ℕ → Result D Fault) → (List ℕ → Result E Fault)
     → Form X
-five make a b c d e words = five_words words >>= λ w. a w.0 >>= λ x. b w.1 >>= λ y. c w.2 >>= λ z. d w.3 >>= λ u. e w.4 >>= λ v. Ok (make x y z u v)
+five make a b c d e words =
+    five_words words >>= λ w.
+    a w.0 >>= λ x.
+    b w.1 >>= λ y.
+    c w.2 >>= λ z.
+    d w.3 >>= λ u.
+    e w.4 >>= λ v.
+    Ok (make x y z u v)
 
 -- a further word that chooses the form
 abbrev pub chosen : {X : Type 0} → List (List ℕ × Form X) → Form X
@@ -142,7 +153,8 @@ up_to most read before word = if nat_lt before most then read word else Err Limi
 -- what each of at most `most` words says, after those before them
 abbrev pub values : {X : Type 0} → ℕ → (List ℕ → Result X Fault) → List X → List (List ℕ) → Result (List X) Fault
 values most read before [] = Ok before
-values most read before (word ∷ words) = up_to most read (length before) word >>= λ x. values most read (before ++ x ∷ []) words
+values most read before (word ∷ words) =
+    up_to most read (length before) word >>= λ x. values most read (before ++ x ∷ []) words
 
 -- what each word says, after those before them
 abbrev pub each_word : {X : Type 0} → (List ℕ → Result X Fault) → List X → List (List ℕ) → Result (List X) Fault
