@@ -19,7 +19,8 @@ trigger_text t = join_with_byte 58 (source_text t.src ∷ decimal t.arg ∷ [])
 abbrev pub command_words : CmdText → List (List ℕ)
 command_words cmd =
     decimal cmd.sub ∷ decimal cmd.flags
-    ∷ trigger_text cmd.start ∷ trigger_text cmd.scan_begin ∷ trigger_text cmd.convert ∷ trigger_text cmd.scan_end ∷ trigger_text cmd.stop
+    ∷ trigger_text cmd.start ∷ trigger_text cmd.scan_begin ∷ trigger_text cmd.convert ∷ trigger_text cmd.scan_end
+    ∷ trigger_text cmd.stop
     ∷ list_text cmd.list ∷ []
 
 -- a command as it is printed
@@ -44,7 +45,16 @@ head_of s f t0 t1 t2 t3 t4 = do
   convert ← trigger_of t2
   scan_end ← trigger_of t3
   stop ← trigger_of t4
-  Ok (record { sub = sub; flags = flags; start = start; scan_begin = scan_begin; convert = convert; scan_end = scan_end; stop = stop; list = [] })
+  Ok (record {
+    sub = sub;
+    flags = flags;
+    start = start;
+    scan_begin = scan_begin;
+    convert = convert;
+    scan_end = scan_end;
+    stop = stop;
+    list = [];
+  })
 
 -- a command with the list of at most so many entries that a word says
 abbrev pub with_list : ℕ → Result CmdText Fault → List ℕ → Result CmdText Fault

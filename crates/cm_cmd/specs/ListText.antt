@@ -14,7 +14,9 @@ is_byte separator c = c == separator
 
 -- the references by their numbers
 abbrev pub aref_text : ℕ → List ℕ
-aref_text a = if a == 0 then codes "ground" else (if a == 1 then codes "common" else (if a == 2 then codes "diff" else codes "other"))
+aref_text a =
+    if a == 0 then codes "ground"
+    else (if a == 1 then codes "common" else (if a == 2 then codes "diff" else codes "other"))
 
 -- channel, range and reference, with slashes between them
 abbrev pub entry_text : ℕ → List ℕ
