@@ -1,5 +1,6 @@
 -- Who has a subdevice, and when a file is refused it.
-use Rattle.std.specs.Prelude.{ℕ, Bool, false, not, ◌||◌, nat_eq, List, [], ◌∷◌, Option, Some, None, is_some, if◌then◌else◌}
+use Rattle.std.specs.Prelude.{ℕ, Bool, false, not, ◌||◌, nat_eq, List, [], ◌∷◌, Option, Some, None, is_some}
+use Rattle.std.specs.Prelude.{if◌then◌else◌}
 use Rattle.cm_sub.specs.Checks.{refuse}
 use Rattle.cm_sub.specs.declared.claim.Claim.{Claim}
 use Rattle.cm_sub.specs.declared.errno.Errno.{Errno}

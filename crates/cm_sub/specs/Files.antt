@@ -1,5 +1,6 @@
 -- Which files are open, and which of them has each subdevice.
-use Rattle.std.specs.Prelude.{◌≡◌, ◌≤◌, ℕ, Bool, true, false, not, ◌||◌, nat_le, List, [], ◌∷◌, length, map, get_or, set, replicate, Option}
+use Rattle.std.specs.Prelude.{◌≡◌, ◌≤◌, ℕ, Bool, true, false, not, ◌||◌, nat_le, List, [], ◌∷◌, length, map, get_or}
+use Rattle.std.specs.Prelude.{set, replicate, Option}
 use Rattle.cm_sub.specs.Checks.{refuse}
 use Rattle.cm_sub.specs.Claims.{nobody, claim_without}
 use Rattle.cm_sub.specs.declared.claim.Claim.{Claim}

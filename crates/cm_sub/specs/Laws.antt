@@ -27,5 +27,9 @@ OutWhereHeld =
 
 -- where a place's turn is at home, its slot has a state with the place's channels
 abbrev pub HomeHasState : Type 0
-HomeHasState = (channels : List ℕ) (s : TurnTable) → AreInTurn channels s → (place : ℕ) → place < length channels → slice_index s.words place ≡ 0
-    → (state : StateText) × (get_elem? s.homes place ≡ some (some (Some state))) × (channel_count state ≡ slice_index channels place)
+HomeHasState =
+    (channels : List ℕ) (s : TurnTable) → AreInTurn channels s → (place : ℕ) → place < length channels
+    → slice_index s.words place ≡ 0
+    → (state : StateText)
+    × (get_elem? s.homes place ≡ some (some (Some state)))
+    × (channel_count state ≡ slice_index channels place)

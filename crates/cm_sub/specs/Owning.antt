@@ -1,5 +1,6 @@
 -- Who holds the places of the subdevices that threads share, as contracts see it.
-use Rattle.std.specs.Prelude.{◌≡◌, ◌⊎◌, ◌+◌, ◌==◌, if◌then◌else◌, ℕ, List, [], ◌∷◌, length, replicate, slice_index, slice_set}
+use Rattle.std.specs.Prelude.{◌≡◌, ◌⊎◌, ◌+◌, ◌==◌, if◌then◌else◌, ℕ, List, [], ◌∷◌, length, replicate, slice_index}
+use Rattle.std.specs.Prelude.{slice_set}
 use Rattle.atomic_table.specs.Seated.{TableId}
 use Rattle.cm_sub.specs.State.{StateText}
 

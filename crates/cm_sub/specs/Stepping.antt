@@ -2,7 +2,8 @@
 use Rattle.std.specs.Prelude.{◌≡◌, ℕ, List, [], ◌∷◌, ◌++◌, length, map, replicate, slice_index, Option, Some}
 use mathlib.Core.Option.{some, none}
 use lib.ListN.{get_elem?}
-use Rattle.atomic_table.specs.Table.{Act, keeps, takes, gives, chain, Step, step, Valid, carried_after, stepped, Allows, Splits, opening}
+use Rattle.atomic_table.specs.Table.{Act, keeps, takes, gives, chain, Step, step, Valid, carried_after, stepped, Allows}
+use Rattle.atomic_table.specs.Table.{Splits, opening}
 use Rattle.cm_sub.specs.State.{StateText}
 use Rattle.cm_sub.specs.declared.turns.SeatView.{SeatView}
 use Rattle.cm_sub.specs.Owning.{channel_count}

@@ -19,9 +19,12 @@ Seated = Me (Option StateText) SeatView
 -- A place that a seat holds has its turn out, and its slot is empty, or with that seat.
 abbrev pub IsPlace : List ℕ → TurnTable → ℕ → Option ℕ → Type 0
 IsPlace channels s place None = (slice_index s.words place ≡ 0)
-    × ((state : StateText) × (get_elem? s.homes place ≡ some (some (Some state))) × (channel_count state ≡ slice_index channels place))
+    × ((state : StateText)
+    × (get_elem? s.homes place ≡ some (some (Some state)))
+    × (channel_count state ≡ slice_index channels place))
 IsPlace channels s place (Some seat) = (slice_index s.words place ≡ 1)
-    × ((view : SeatView) → get_elem? s.views seat ≡ some view → view.hand ≢ place + 1 → get_elem? s.homes place ≡ some (some None))
+    × ((view : SeatView) → get_elem? s.views seat ≡ some view → view.hand ≢ place + 1
+    → get_elem? s.homes place ≡ some (some None))
 
 -- Each place has one holder or none, which is the seat whose view has it, and all views have the same channels
 pub record AreInTurn (channels : List ℕ) (s : TurnTable) : Type 0 where
@@ -30,8 +33,10 @@ pub record AreInTurn (channels : List ℕ) (s : TurnTable) : Type 0 where
   pub slots : length s.homes ≡ length channels
   pub place : (k : ℕ) → k < length channels → IsPlace channels s k (holder k)
   pub same : (seat : ℕ) (view : SeatView) → get_elem? s.views seat ≡ some view → view.channels ≡ channels
-  pub holds : (seat : ℕ) (view : SeatView) → get_elem? s.views seat ≡ some view → (k : ℕ) → Holds k view.holds → holder k ≡ Some seat
-  pub held : (k seat : ℕ) → holder k ≡ Some seat → (view : SeatView) × (get_elem? s.views seat ≡ some view) × Holds k view.holds
+  pub holds : (seat : ℕ) (view : SeatView) → get_elem? s.views seat ≡ some view → (k : ℕ) → Holds k view.holds
+      → holder k ≡ Some seat
+  pub held : (k seat : ℕ) → holder k ≡ Some seat
+      → (view : SeatView) × (get_elem? s.views seat ≡ some view) × Holds k view.holds
 
 -- what a new seat knows
 abbrev pub first_view : List ℕ → SeatView
@@ -58,12 +63,16 @@ MayReturn place me = (state : StateText) × (me.1 ≡ (place, Some state) ∷ []
 
 -- the seat holds the place now, and its state is with the seat
 abbrev pub GetsPlace : ℕ → Seated → Seated → Type 0
-GetsPlace place old new = (state : StateText) × (channel_count state ≡ slice_index old.0.channels place) × (new.1 ≡ (place, Some state) ∷ old.1)
+GetsPlace place old new =
+    (state : StateText)
+    × (channel_count state ≡ slice_index old.0.channels place)
+    × (new.1 ≡ (place, Some state) ∷ old.1)
     × (new.0 ≡ record old.0 { holds = place ∷ old.0.holds; hand = place + 1 })
 
 -- another seat holds the place, which was refused to this one
 abbrev pub IsTurnedAway : ℕ → Seated → Seated → Type 0
-IsTurnedAway place old new = (¬ Holds place old.0.holds) × (new.1 ≡ old.1) × (new.0 ≡ record old.0 { refused = once_more place old.0.refused })
+IsTurnedAway place old new =
+    (¬ Holds place old.0.holds) × (new.1 ≡ old.1) × (new.0 ≡ record old.0 { refused = once_more place old.0.refused })
 
 -- The turn is made out. The seat gets the place where the turn was at home, and is turned away where it was out
 abbrev pub TakesTurn : Step (Option StateText) → Seated → ℕ → Seated → Type 0
@@ -79,4 +88,5 @@ FetchesSlot step old found new = (new.1 ≡ (step.word, None) ∷ old.1) × (new
 
 -- The turn is made home, with what is in the slot
 abbrev pub ReturnsTurn : Step (Option StateText) → Seated → ℕ → Seated → Type 0
-ReturnsTurn step old found new = (new.1 ≡ []) × (new.0 ≡ record old.0 { holds = without step.word old.0.holds; hand = 0 })
+ReturnsTurn step old found new =
+    (new.1 ≡ []) × (new.0 ≡ record old.0 { holds = without step.word old.0.holds; hand = 0 })
