@@ -54,7 +54,8 @@ pub record IsPassed (sub : SubText) (cmd : CmdText) : Type 0 where
   pub inside : AreInside sub cmd
   pub period : cmd.scan_begin.src ≡ source.timer → 1 ≤ cmd.scan_begin.arg
   pub gap : cmd.convert.src ≡ source.timer → 1 ≤ cmd.convert.arg
-  pub fits : cmd.scan_begin.src ≡ source.timer → cmd.convert.src ≡ source.timer → cmd.convert.arg * length cmd.list ≤ cmd.scan_begin.arg
+  pub fits : cmd.scan_begin.src ≡ source.timer → cmd.convert.src ≡ source.timer
+      → cmd.convert.arg * length cmd.list ≤ cmd.scan_begin.arg
   pub entries_fit : cmd.scan_begin.src ≡ source.timer → sub.least_scan.per_entry * length cmd.list ≤ cmd.scan_begin.arg
   pub scans : cmd.stop.src ≡ source.count → IsFrom1To sub.scans_max cmd.stop.arg
   pub list : IsFrom1To sub.list_max (length cmd.list)
