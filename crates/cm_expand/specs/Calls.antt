@@ -9,7 +9,14 @@ use Rattle.cm_expand.specs.Plan.{PlanText}
 
 -- the plan of a command that is called at a time
 abbrev pub plan_at : BoardText → SignalsText → ℕ → CmdText → PlanText
-plan_at board signals t0 cmd = record { sub = sub_at board cmd.sub; signals = signals; cmd = cmd; index = cmd.sub; t0 = t0; trig = None }
+plan_at board signals t0 cmd = record {
+  sub = sub_at board cmd.sub;
+  signals = signals;
+  cmd = cmd;
+  index = cmd.sub;
+  t0 = t0;
+  trig = None;
+}
 
 -- a command passes the test of its subdevice, and is called up to the horizon
 pub record CanCallAt (board : BoardText) (signals : SignalsText) (t0 : ℕ) (cmd : CmdText) : Type 0 where

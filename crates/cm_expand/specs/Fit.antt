@@ -10,7 +10,9 @@ use Rattle.cm_expand.specs.Plan.{PlanText, times_of}
 
 -- munging gives the code of an input back, and it is at most the greatest one
 pub record IsCodeAt (p : PlanText) (entry time : ℕ) : Type 0 where
-  pub back : munged (munge_of p.sub (chan entry)) (maxdata_of p.sub (chan entry)) (input_at p entry time) ≡ code_at p entry time
+  pub back :
+      munged (munge_of p.sub (chan entry)) (maxdata_of p.sub (chan entry)) (input_at p entry time)
+      ≡ code_at p entry time
   pub within : code_at p entry time ≤ maxdata_of p.sub (chan entry)
 
 -- an external source names one of the 64 lines
@@ -22,7 +24,8 @@ pub record IsFit (p : PlanText) : Type 0 where
   pub some : 1 ≤ length p.cmd.list
   pub few : length p.cmd.list ≤ 1024
   pub channels : (i : ℕ) → i < length p.cmd.list → chan (slice_index p.cmd.list i) < p.sub.channels
-  pub ranges : (i : ℕ) → i < length p.cmd.list → range (slice_index p.cmd.list i) < range_count p.sub (chan (slice_index p.cmd.list i))
+  pub ranges : (i : ℕ) → i < length p.cmd.list
+      → range (slice_index p.cmd.list i) < range_count p.sub (chan (slice_index p.cmd.list i))
   pub codes : (i time : ℕ) → i < length p.cmd.list → IsCodeAt p (slice_index p.cmd.list i) time
   pub start_line : NamesLine p.sub p.cmd.start.src p.cmd.start.arg
   pub begin_line : NamesLine p.sub p.cmd.scan_begin.src p.cmd.scan_begin.arg

@@ -10,7 +10,8 @@ use Rattle.cm_signal.specs.Signals.{SignalsText, times_at}
 use Rattle.cm_signal.specs.declared.signals.Slope.{Slope}
 use Rattle.cm_signal.specs.declared.signals.Slope.TheVariants as slopes
 use Rattle.cm_signal.specs.declared.signals.IntAt.{IntAt}
-use Rattle.cm_expand.specs.Course.{Course, Begins, Every, OnEdges, AnyTime, Converts, AtOnce, Spaced, PerEdge, least, begins, are_full, times}
+use Rattle.cm_expand.specs.Course.{Course, Begins, Every, OnEdges, AnyTime, Converts, AtOnce, Spaced, PerEdge, least}
+use Rattle.cm_expand.specs.Course.{begins, are_full, times}
 
 -- a command on the subdevice at a place of its board, which is called at `t0`, and maybe given a trigger
 pub record PlanText : Type 0 where
@@ -76,7 +77,8 @@ converts_of p =
     if p.cmd.convert.src == source.timer then Spaced p.cmd.convert.arg
     else (if p.cmd.convert.src == source.ext then PerEdge (edges_of p p.cmd.convert.arg) else AtOnce)
 
--- how many scans there are at most: the stop count, or as many as there are nanoseconds, since a scan takes one at least
+-- how many scans there are at most: the stop count,
+-- or as many as there are nanoseconds, since a scan takes one at least
 abbrev pub most_of : PlanText → ℕ
 most_of p = if p.cmd.stop.src == source.count then p.cmd.stop.arg else p.signals.horizon + 1
 

@@ -23,13 +23,15 @@ chan_at cmd place = chan (entry_at cmd.list place)
 abbrev pub munged_at : SubText → CmdText → ℕ → ℕ → ℕ
 munged_at sub cmd place word =
     if is_raw cmd.flags then word
-    else (if is_output sub.kind then unmunged (munge_of sub (chan_at cmd place)) (maxdata_of sub (chan_at cmd place)) word
+    else (if is_output sub.kind
+    then unmunged (munge_of sub (chan_at cmd place)) (maxdata_of sub (chan_at cmd place)) word
     else munged (munge_of sub (chan_at cmd place)) (maxdata_of sub (chan_at cmd place)) word)
 
--- the munge of a channel, and of an entry
+-- the munge of a channel, and its greatest code
 abbrev pub channel_item : SubText → ℕ → MungeItem
 channel_item sub channel = record { kind = munge_of sub channel; maxdata = maxdata_of sub channel }
 
+-- the same of the channel that a list entry names
 abbrev pub item_of : SubText → ℕ → MungeItem
 item_of sub entry = channel_item sub (chan entry)
 

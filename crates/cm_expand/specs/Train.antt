@@ -21,7 +21,8 @@ pub record IsEven (c : Course) (period : ℕ) : Type 0 where
   pub one : c.per_scan ≡ 1
   pub at_begin : (begin : ℕ) → conversion_time c.converts begin 0 ≡ Some begin
   pub no_edges : convert_edges c.converts ≡ []
-  pub next : (begin : ℕ) → c.start ≤ begin → (begin - c.start) % period ≡ 0 → begin + period < c.until → next_begin c begin ≡ Some (begin + period)
+  pub next : (begin : ℕ) → c.start ≤ begin → (begin - c.start) % period ≡ 0 → begin + period < c.until
+      → next_begin c begin ≡ Some (begin + period)
 
 -- a conversion and those after it up to another one: each a step after the one before, all of one list entry
 pub record IsTrain (c : Course) (spot : Spot) (t : Train) : Type 0 where
