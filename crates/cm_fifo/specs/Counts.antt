@@ -1,5 +1,6 @@
 -- How many conversions of a whole expansion were handed over by a time.
-use Rattle.std.specs.Prelude.{ℕ, zero, suc, ◌+◌, ◌-◌, ◌/◌, min, nat_le, nat_lt, length, slice_get, Option, Some, None, if◌then◌else◌}
+use Rattle.std.specs.Prelude.{ℕ, zero, suc, ◌+◌, ◌-◌, ◌/◌, min, nat_le, nat_lt, length, slice_get, Option, Some, None}
+use Rattle.std.specs.Prelude.{if◌then◌else◌}
 use Rattle.cm_board.specs.declared.board.Fifo.{Fifo}
 use Rattle.cm_expand.specs.Items.{items_of}
 use Rattle.cm_expand.specs.Plan.{PlanText}
@@ -18,7 +19,8 @@ drain_at f p q = min (request_at f p q + f.latency) p.signals.horizon
 -- so that so many were then handed over of the whole expansion, or an overflow
 abbrev pub next_at : Fifo → PlanText → ℕ → Coming
 next_at f p q =
-    if nat_lt q (length (items_of p)) then unless_lost (slice_get (items_of p) (q + f.depth)) (drain_at f p q) (come (drain_at f p q) (items_of p))
+    if nat_lt q (length (items_of p))
+    then unless_lost (slice_get (items_of p) (q + f.depth)) (drain_at f p q) (come (drain_at f p q) (items_of p))
     else Nothing
 
 -- how many were handed over by a time, where `later` says it of what follows a drain

@@ -1,6 +1,6 @@
 -- What a board with a FIFO of its own hands over, and when.
-use Rattle.std.specs.Prelude.{ℕ, zero, suc, ◌+◌, ◌-◌, ◌/◌, min, max, Bool, nat_le}
-use Rattle.std.specs.Prelude.{List, [], ◌∷◌, ◌++◌, length, map, take, drop, slice_get, Option, Some, None, if◌then◌else◌}
+use Rattle.std.specs.Prelude.{ℕ, zero, suc, ◌+◌, ◌-◌, ◌/◌, min, max, Bool, nat_le, List, [], ◌∷◌, ◌++◌, length, map}
+use Rattle.std.specs.Prelude.{take, drop, slice_get, Option, Some, None, if◌then◌else◌}
 use Rattle.cm_board.specs.declared.board.Fifo.{Fifo}
 use Rattle.cm_expand.specs.Items.{items_of}
 use Rattle.cm_expand.specs.Plan.{PlanText, is_complete, stop_edge_of}
@@ -45,7 +45,8 @@ unless_lost (Some c) time count = if nat_le c.time time then Overflows c.time el
 abbrev pub coming : Fifo → ℕ → ℕ → List Conv → Coming
 coming f last horizon [] = Nothing
 coming f last horizon (c ∷ left) =
-    unless_lost (slice_get (c ∷ left) f.depth) (drain_time f last horizon (c ∷ left)) (come (drain_time f last horizon (c ∷ left)) (c ∷ left))
+    unless_lost (slice_get (c ∷ left) f.depth) (drain_time f last horizon (c ∷ left))
+    (come (drain_time f last horizon (c ∷ left)) (c ∷ left))
 
 -- nothing is handed over, and nothing is lost
 abbrev pub nothing : Handed
@@ -53,13 +54,19 @@ nothing = record { arrivals = []; lost_at = None }
 
 -- some conversions are handed over at a time, and others later
 abbrev pub and_then : ℕ → List Conv → Handed → Handed
-and_then time conversions rest = record { arrivals = map (at_time time) conversions ++ rest.arrivals; lost_at = rest.lost_at }
+and_then time conversions rest = record {
+  arrivals = map (at_time time) conversions ++ rest.arrivals;
+  lost_at = rest.lost_at;
+}
 
 -- what is handed over by what comes next and by the drains after it
 abbrev pub handed_by : Coming → ℕ → List Conv → (List Conv → Handed) → Handed
 handed_by Nothing depth left later = nothing
 handed_by (Drains time count) depth left later = and_then time (take count left) (later (drop count left))
-handed_by (Overflows time) depth left later = record { arrivals = map (at_time time) (take depth left); lost_at = Some time }
+handed_by (Overflows time) depth left later = record {
+  arrivals = map (at_time time) (take depth left);
+  lost_at = Some time;
+}
 
 -- what is handed over of the conversions that are left, by so many drains at most
 abbrev pub handed : Fifo → ℕ → ℕ → ℕ → List Conv → Handed
@@ -75,7 +82,8 @@ abbrev pub later : ℕ → Option ℕ → ℕ
 later time None = time
 later time (Some edge) = max time edge
 
--- the last request: at the last conversion of a complete expansion, or the stop edge where that is later, and otherwise at the horizon
+-- the last request: at the last conversion of a complete expansion,
+-- or the stop edge where that is later, and otherwise at the horizon
 abbrev pub last_request : Bool → Option ℕ → ℕ → List Conv → ℕ
 last_request complete edge horizon conversions = if complete then later (last_time conversions) edge else horizon
 

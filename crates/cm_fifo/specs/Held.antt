@@ -1,5 +1,6 @@
 -- The conversions that a FIFO holds.
-use Rattle.std.specs.Prelude.{◌≡◌, ℕ, ◌+◌, ◌-◌, ◌/◌, ◌≤◌, ◌⊎◌, List, [], ◌∷◌, ◌++◌, length, drop, slice_get, Option, Some, None}
+use Rattle.std.specs.Prelude.{◌≡◌, ℕ, ◌+◌, ◌-◌, ◌/◌, ◌≤◌, ◌⊎◌, List, [], ◌∷◌, ◌++◌, length, drop, slice_get, Option}
+use Rattle.std.specs.Prelude.{Some, None}
 use Rattle.circular_buffer.specs.Buffer.{Buffer, buffer}
 use Rattle.cm_board.specs.declared.board.Fifo.{Fifo}
 use Rattle.cm_expand.specs.Board.{BoardState}
@@ -36,7 +37,8 @@ pub record IsSize (f : Fifo) : Type 0 where
   pub low : 2 ≤ f.depth
   pub high : f.depth ≤ 4096
 
--- a FIFO over a board holds conversions, as many as it has room for at most; the horizon and the stop edge are those of the plan
+-- a FIFO over a board holds conversions, as many as it has room for at most;
+-- the horizon and the stop edge are those of the plan
 pub record IsFilled (f : Fifo) (horizon : ℕ) (edge : Option ℕ) (board : BoardState) (cells : Buffer Conv) : Type 0 where
   pub held : IsHeld board cells.items
   pub size : IsSize f

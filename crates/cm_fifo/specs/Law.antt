@@ -32,7 +32,8 @@ pub record IsHanded (horizon : ℕ) (items : List Conv) (h : Handed) : Type 0 wh
   pub come_before : (t : ℕ) → come t h.arrivals ≤ come t items
   pub within : length h.arrivals ≤ length items
   pub whole : h.lost_at ≡ None → length h.arrivals ≡ length items
-  pub lost : (t : ℕ) → h.lost_at ≡ Some t → (t ≤ horizon) × (come t h.arrivals ≡ length h.arrivals) × (length h.arrivals < length items)
+  pub lost : (t : ℕ) → h.lost_at ≡ Some t
+      → (t ≤ horizon) × (come t h.arrivals ≡ length h.arrivals) × (length h.arrivals < length items)
 
 -- a fact of what is handed over of the expansion of each plan of a sound subdevice and sound signals
 abbrev pub OfEach : (PlanText → Handed → Type 0) → Type 0
@@ -65,7 +66,8 @@ IsAfterHanded p h t =
 abbrev pub LostAfterHanded : Type 0
 LostAfterHanded = OfEach (λ p h. (t : ℕ) → h.lost_at ≡ Some t → IsAfterHanded p h t)
 
--- the same by places of the whole expansion: each drain hands over all that has come by its time, unless one comes for which the FIFO has no room
+-- the same by places of the whole expansion: each drain hands over all that has come by its time,
+-- unless one comes for which the FIFO has no room
 abbrev pub HandedByCounts : Type 0
 HandedByCounts =
     (p : PlanText) (f : Fifo) (t : ℕ)
@@ -74,4 +76,6 @@ HandedByCounts =
 
 -- and when one is lost
 abbrev pub LostByCounts : Type 0
-LostByCounts = (p : PlanText) (f : Fifo) → IsSoundSub p.sub → IsSoundSignals p.signals → IsPlan p → (handed_of p f).lost_at ≡ loss_of f p
+LostByCounts =
+    (p : PlanText) (f : Fifo) → IsSoundSub p.sub → IsSoundSignals p.signals → IsPlan p
+    → (handed_of p f).lost_at ≡ loss_of f p

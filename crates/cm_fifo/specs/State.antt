@@ -1,5 +1,6 @@
 -- What contracts see of a board with a FIFO.
-use Rattle.std.specs.Prelude.{◌≡◌, ℕ, ◌+◌, ◌-◌, ◌<◌, ◌≤◌, Bool, true, false, List, length, drop, Option, Some, None, if◌then◌else◌}
+use Rattle.std.specs.Prelude.{◌≡◌, ℕ, ◌+◌, ◌-◌, ◌<◌, ◌≤◌, Bool, true, false, List, length, drop, Option, Some, None}
+use Rattle.std.specs.Prelude.{if◌then◌else◌}
 use Rattle.circular_buffer.specs.Buffer.{Buffer}
 use Rattle.cm_board.specs.declared.board.Fifo.{Fifo}
 use Rattle.cm_expand.specs.Board.{BoardState}
@@ -14,7 +15,8 @@ use Rattle.cm_fifo.specs.declared.board.FifoStep.TheVariants as steps
 use Rattle.cm_fifo.specs.declared.requests.Look.{Look}
 use Rattle.cm_fifo.specs.declared.requests.Look.TheVariants as looks
 
--- how many drains there were, how many conversions were taken, and how many more are ready, and whether a conversion was lost
+-- how many drains there were, how many conversions were taken,
+-- and how many more are ready, and whether a conversion was lost
 pub record FifoState : Type 0 where
   pub plan : PlanText
   pub fifo : Fifo
@@ -47,9 +49,15 @@ IsLater (Overflows time) to = to < time
 abbrev pub HasGone : FifoStep → ℕ → FifoState → FifoState → Type 0
 HasGone steps.Idle to old new = (new ≡ old) × IsLater (next_of old) to
 HasGone (steps.Drained time count) to old new =
-    (time ≤ to) × (1 ≤ count) × (next_of old ≡ Drains time count) × (new ≡ record old { drains = old.drains + 1; ready = count })
+    (time ≤ to)
+    × (1 ≤ count)
+    × (next_of old ≡ Drains time count)
+    × (new ≡ record old { drains = old.drains + 1; ready = count })
 HasGone (steps.Overflow time place) to old new =
-    (time ≤ to) × (next_of old ≡ Overflows time) × (place ≡ old.taken + old.fifo.depth) × (new ≡ record old { ready = old.fifo.depth; over = true })
+    (time ≤ to)
+    × (next_of old ≡ Overflows time)
+    × (place ≡ old.taken + old.fifo.depth)
+    × (new ≡ record old { ready = old.fifo.depth; over = true })
 
 -- what each board with a FIFO keeps
 pub record IsSoundFifo (b : FifoState) : Type 0 where
@@ -70,7 +78,9 @@ abbrev pub ready_of : Bool → List Conv → ℕ
 ready_of is_ready cells = if is_ready then length cells else 0
 
 -- what a board with a FIFO keeps of its parts: what is held and isn't ready comes by the next drain
-pub record IsFifo (f : Fifo) (horizon : ℕ) (edge : Option ℕ) (board : BoardState) (cells : Buffer Conv) (drains : ℕ) (is_ready : Bool) : Type 0 where
+pub record IsFifo
+    (f : Fifo) (horizon : ℕ) (edge : Option ℕ) (board : BoardState) (cells : Buffer Conv) (drains : ℕ) (is_ready : Bool)
+    : Type 0 where
   pub filled : IsFilled f horizon edge board cells
   pub early : is_ready ≡ false → IsEarly f board cells.items
   pub counted : drains ≤ board.place - length cells.items + ready_of is_ready cells.items
