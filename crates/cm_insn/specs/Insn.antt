@@ -1,6 +1,6 @@
 -- What each instruction does to a subdevice and to its data words.
-use Rattle.std.specs.Prelude.{ℕ, ◌-◌, ◌/◌, ◌%◌, Bool, not, ◌&&◌, ◌==◌, nat_le}
-use Rattle.std.specs.Prelude.{List, [], ◌∷◌, length, get_or, set, slice_index, replicate, Option, Some, None, Result, Ok, Err, if◌then◌else◌}
+use Rattle.std.specs.Prelude.{ℕ, ◌-◌, ◌/◌, ◌%◌, Bool, not, ◌&&◌, ◌==◌, nat_le, List, [], ◌∷◌, length, get_or, set}
+use Rattle.std.specs.Prelude.{slice_index, replicate, Option, Some, None, Result, Ok, Err, if◌then◌else◌}
 use Rattle.std.specs.List.{list_all}
 use Rattle.cm_board.specs.Board.{SubText, is_digital, is_dio, is_unused, maxdata_of}
 use Rattle.cm_cmd.specs.Entry.{chan, range}
@@ -29,7 +29,8 @@ can_read sub entry given = not (is_unused sub.kind) && (has_entry sub entry && n
 
 -- each word that is read is the channel's value
 abbrev pub read : SiteText → StateText → ℕ → List ℕ → Option Done
-read s state entry given = done_if (can_read s.sub entry given) state (replicate (length given) (value_at s state (chan entry) (range entry)))
+read s state entry given =
+    done_if (can_read s.sub entry given) state (replicate (length given) (value_at s state (chan entry) (range entry)))
 
 -- no word is above a greatest code
 abbrev pub are_codes : ℕ → List ℕ → Bool
@@ -38,7 +39,10 @@ are_codes maxdata words = list_all (λ word. nat_le word maxdata) words
 -- an output can be written, with one of its codes at least
 abbrev pub can_write : SubText → List Bool → ℕ → List ℕ → Bool
 can_write sub outs entry given =
-    has_entry sub entry && (is_out sub outs (chan entry) && (nat_le 1 (length given) && are_codes (maxdata_of sub (chan entry)) given))
+    has_entry sub entry
+    && (is_out sub outs (chan entry)
+    && (nat_le 1 (length given)
+    && are_codes (maxdata_of sub (chan entry)) given))
 
 -- the last of some words
 abbrev pub last_of : List ℕ → ℕ
@@ -47,7 +51,8 @@ last_of words = get_or words (length words - 1) 0
 -- the channel keeps the last word that is written
 abbrev pub write : SubText → StateText → ℕ → List ℕ → Option Done
 write sub state entry given =
-    done_if (can_write sub state.outs entry given) (record state { values = set state.values (chan entry) (last_of given) }) given
+    done_if (can_write sub state.outs entry given)
+    (record state { values = set state.values (chan entry) (last_of given) }) given
 
 -- bits are put to a digital subdevice by two words
 abbrev pub can_put : SubText → List ℕ → Bool
@@ -59,7 +64,8 @@ put sub state given = with_bits sub state (slice_index given 0) (slice_index giv
 
 -- bits are put, and then word 1 is that of the subdevice
 abbrev pub bits : SiteText → StateText → List ℕ → Option Done
-bits s state given = done_if (can_put s.sub given) (put s.sub state given) (set given 1 (bits_of s (put s.sub state given)))
+bits s state given =
+    done_if (can_put s.sub given) (put s.sub state given) (set given 1 (bits_of s (put s.sub state given)))
 
 -- a channel can become an input by the word 0, and an output by the word 1
 abbrev pub can_config : SubText → ℕ → ℕ → Bool

@@ -27,4 +27,5 @@ abbrev pub WrittenIsRead : Type 0
 WrittenIsRead =
     (s : SiteText) (state : StateText) (entry : ℕ) (given asked : List ℕ) → length state.values ≡ s.sub.channels
     → IsTrue (can_write s.sub state.outs entry given) → IsTrue (can_read s.sub entry asked)
-    → words_after (read s (state_after (write s.sub state entry given) state) entry asked) asked ≡ replicate (length asked) (last_of given)
+    → words_after (read s (state_after (write s.sub state entry given) state) entry asked) asked
+    ≡ replicate (length asked) (last_of given)
