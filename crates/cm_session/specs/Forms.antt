@@ -18,7 +18,8 @@ LineForm = Bounds → List ℕ → Form SessionLine
 
 -- the time of a line and its file, which is one of 16
 abbrev pub head_of : Bounds → List ℕ → List ℕ → Result Head Fault
-head_of bounds time file = number_in 0 bounds.horizon time >>= λ t. number_in 0 15 file >>= λ f. Ok (record { time = t; file = f })
+head_of bounds time file =
+    number_in 0 bounds.horizon time >>= λ t. number_in 0 15 file >>= λ f. Ok (record { time = t; file = f })
 
 -- a line with this time and file
 abbrev pub line_by : Head → Op → SessionLine

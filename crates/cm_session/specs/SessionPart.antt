@@ -15,21 +15,32 @@ use Rattle.cm_session.specs.declared.op.SessionLine.{SessionLine}
 -- the lines of files, locks and instructions by their keys
 abbrev pub insn_lines : List (List ℕ × LineForm)
 insn_lines =
-    (codes "open", on_file ops.OpenFile) ∷ (codes "close", on_file ops.CloseFile) ∷
-    (codes "lock", on_sub ops.Lock) ∷ (codes "unlock", on_sub ops.Unlock) ∷
-    (codes "insn", on_instruction) ∷ []
+    (codes "open", on_file ops.OpenFile)
+    ∷ (codes "close", on_file ops.CloseFile)
+    ∷ (codes "lock", on_sub ops.Lock)
+    ∷ (codes "unlock", on_sub ops.Unlock)
+    ∷ (codes "insn", on_instruction)
+    ∷ []
 
 -- the lines with a number after their subdevice, by their keys
 abbrev pub number_lines : List (List ℕ × LineForm)
 number_lines =
-    (codes "read", with_number 65536 ops.Read) ∷ (codes "map", with_number 65536 ops.Map) ∷ (codes "look", with_number 4294967295 ops.Look) ∷
-    (codes "release", with_number 4294967295 ops.Release) ∷ (codes "mark", with_number 4294967295 ops.Mark) ∷ []
+    (codes "read", with_number 65536 ops.Read)
+    ∷ (codes "map", with_number 65536 ops.Map)
+    ∷ (codes "look", with_number 4294967295 ops.Look)
+    ∷ (codes "release", with_number 4294967295 ops.Release)
+    ∷ (codes "mark", with_number 4294967295 ops.Mark)
+    ∷ []
 
 -- the lines of commands and their buffers by their keys
 abbrev pub command_lines : List (List ℕ × LineForm)
 command_lines =
-    (codes "cmd", with_command ops.Cmd) ∷ (codes "cancel", on_sub ops.Cancel) ∷ (codes "contents", on_sub ops.Contents) ∷
-    (codes "write", with_values ops.Write) ∷ (codes "fill", with_values ops.Fill) ∷ number_lines
+    (codes "cmd", with_command ops.Cmd)
+    ∷ (codes "cancel", on_sub ops.Cancel)
+    ∷ (codes "contents", on_sub ops.Contents)
+    ∷ (codes "write", with_values ops.Write)
+    ∷ (codes "fill", with_values ops.Fill)
+    ∷ number_lines
 
 -- the lines that a session may have: those of commands not in one of instructions alone
 abbrev pub lines_by : Bool → List (List ℕ × LineForm)
@@ -61,4 +72,5 @@ last_time (line ∷ next ∷ more) = last_time (next ∷ more)
 
 -- the lines of a session, of instructions alone or of all kinds, within these bounds
 abbrev pub session_of : Bool → Bounds → List LineText → Result (List SessionLine) Refused
-session_of only_insn bounds lines = read_each (λ before line. line_after only_insn bounds (last_time before) line) [] lines
+session_of only_insn bounds lines =
+    read_each (λ before line. line_after only_insn bounds (last_time before) line) [] lines
