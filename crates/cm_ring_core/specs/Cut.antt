@@ -1,4 +1,5 @@
--- A list of samples that is cut at places and kept in cells: what a ring of one thread and a shared ring have in common.
+-- A list of samples that is cut at places and kept in cells:
+-- what a ring of one thread and a shared ring have in common.
 use Rattle.std.specs.Prelude.{ℕ, zero, suc, ◌+◌, ◌%◌, List, slice_index, slice_set}
 use Rattle.cm_sample.specs.Rule.{RuleText, munged_word}
 use Rattle.cm_ring_core.specs.Local.{Ring}
@@ -10,6 +11,7 @@ use Rattle.cm_ring_core.specs.declared.view.ReaderPart.{ReaderPart}
 use Rattle.cm_ring_core.specs.declared.view.View.{View}
 use Rattle.atomic_table.specs.Table.{State}
 
+-- where the samples of a ring are cut: how many are released, munged, written and put, and the cells that hold them
 pub record Cut : Type 0 where
   pub size : ℕ
   pub released : ℕ
@@ -20,12 +22,27 @@ pub record Cut : Type 0 where
 
 -- the cut of a ring of one thread: what was allocated is put
 abbrev pub local_cut : Ring → Cut
-local_cut ring = record { size = ring.size; released = ring.r; munged = ring.m; written = ring.w; put = ring.a; cells = ring.cells }
+local_cut ring = record {
+  size = ring.size;
+  released = ring.r;
+  munged = ring.m;
+  written = ring.w;
+  put = ring.a;
+  cells = ring.cells;
+}
 
 -- the cut of a shared ring, by its words and by what its seats know
 abbrev pub parts_cut : RingConstants → Words → WriterPart → MungerPart → ReaderPart → Cut
-parts_cut ring x w m r = record { size = ring.size; released = r.released; munged = m.exchanged; written = w.written; put = w.next; cells = x.cells }
+parts_cut ring x w m r = record {
+  size = ring.size;
+  released = r.released;
+  munged = m.exchanged;
+  written = w.written;
+  put = w.next;
+  cells = x.cells;
+}
 
+-- the cut of a shared ring whose rule holds
 abbrev pub shared_cut : (ring : RingConstants) (s : State (Unit {0}) View) → Lawful ring s → Cut
 shared_cut ring s h = parts_cut ring h.x h.w h.m h.r
 

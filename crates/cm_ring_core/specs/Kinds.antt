@@ -10,6 +10,7 @@ use Rattle.cm_ring_core.specs.declared.view.ReaderPart.{ReaderPart}
 use Rattle.cm_ring_core.specs.declared.view.View.{View}
 use Rattle.cm_ring_core.specs.Lawful.{shown, plan_at, munged_at, end_word, IsRightEnd, IsFoundEnd, ring_view}
 
+-- a seat of a ring: what it knows, and what it holds
 abbrev Seat : Type 0
 Seat = Me (Unit {0}) View
 
@@ -26,10 +27,11 @@ SeesRead v n u = (w : WriterPart) → v.writer ≡ Some w
     × (k ≤ w.written)
     × (u ≡ record v { writer = Some (record w { freed = k; at = w.next; read_looks = w.read_looks + 1 }) })
 
+-- the step by which the writer learns how many samples are released
 abbrev pub sees_read : Step (Unit {0}) → Seat → ℕ → Seat → Type 0
 sees_read st me n me' = SeesRead me.0 n me'.0
 
--- the writer stores the plan's next word into its cell, where there is room
+-- the writer may store the plan's next word into its cell: there is room, and it has no end yet
 abbrev pub MayPut : View → ℕ → ℕ → Type 0
 MayPut v i word =
     (w : WriterPart)
@@ -41,23 +43,27 @@ MayPut v i word =
     × (word ≡ plan_at v.ring w.next)
     × (word < 4294967296)
 
+-- after it the writer's next place is one further
 abbrev pub Puts : View → View → Type 0
 Puts v u = (w : WriterPart) → v.writer ≡ Some w → u ≡ record v { writer = Some (record w { next = w.next + 1 }) }
 
+-- the step by which the writer puts a sample
 abbrev pub puts : Step (Unit {0}) → Seat → ℕ → Seat → Type 0
 puts st me n me' = Puts me.0 me'.0
 
--- the writer stores the written count: all that it put is published
+-- the writer may store the written count: that of all that it put
 abbrev pub MayPublish : View → ℕ → Type 0
 MayPublish v word = (w : WriterPart) × (v.writer ≡ Some w) × (w.closed ≡ None) × (word ≡ shown v.ring w.next)
 
+-- after it all that the writer put is written
 abbrev pub Publishes : View → View → Type 0
 Publishes v u = (w : WriterPart) → v.writer ≡ Some w → u ≡ record v { writer = Some (record w { written = w.next }) }
 
+-- the step by which the writer publishes what it put
 abbrev pub publishes : Step (Unit {0}) → Seat → ℕ → Seat → Type 0
 publishes st me n me' = Publishes me.0 me'.0
 
--- the munger exchanges the next raw word for its munged word
+-- the munger may exchange the next raw word that it knows for its munged word
 abbrev pub MayMunge : View → ℕ → ℕ → Type 0
 MayMunge v i word =
     (m : MungerPart)
@@ -67,21 +73,25 @@ MayMunge v i word =
     × (word ≡ munged_at v.ring m.exchanged)
     × (word < 4294967296)
 
+-- the exchange finds the plan's word, and one place more is exchanged after it
 abbrev pub Munges : View → ℕ → View → Type 0
 Munges v n u =
     (m : MungerPart) → v.munger ≡ Some m
     → (n ≡ plan_at v.ring m.exchanged) × (u ≡ record v { munger = Some (record m { exchanged = m.exchanged + 1 }) })
 
+-- the step by which the munger munges a sample
 abbrev pub munges : Step (Unit {0}) → Seat → ℕ → Seat → Type 0
 munges st me n me' = Munges me.0 n me'.0
 
--- the munger stores the munged count: all that it munged is shown to the reader
+-- the munger may store the munged count: that of all that it munged
 abbrev pub MayShow : View → ℕ → Type 0
 MayShow v word = (m : MungerPart) × (v.munger ≡ Some m) × (word ≡ shown v.ring m.exchanged)
 
+-- after it all that the munger exchanged is munged
 abbrev pub Shows : View → View → Type 0
 Shows v u = (m : MungerPart) → v.munger ≡ Some m → u ≡ record v { munger = Some (record m { munged = m.exchanged }) }
 
+-- the step by which the munger shows the reader what it munged
 abbrev pub shows : Step (Unit {0}) → Seat → ℕ → Seat → Type 0
 shows st me n me' = Shows me.0 me'.0
 
@@ -96,6 +106,7 @@ SeesMunged v n u = (r : ReaderPart) → v.reader ≡ Some r
     × ((e : End) → r.found ≡ Some e → k ≤ e.count)
     × (u ≡ record v { reader = Some (record r { known = k; munged_looks = r.munged_looks + 1 }) })
 
+-- the step by which the reader learns how many samples are munged
 abbrev pub sees_munged : Step (Unit {0}) → Seat → ℕ → Seat → Type 0
 sees_munged st me n me' = SeesMunged me.0 n me'.0
 
@@ -110,6 +121,7 @@ FindsMunged v i n =
 abbrev pub ReadsCell : View → ℕ → ℕ → View → Type 0
 ReadsCell v i n u = (u ≡ v) × FindsMunged v i n
 
+-- the step by which the reader takes a sample
 abbrev pub reads_cell : Step (Unit {0}) → Seat → ℕ → Seat → Type 0
 reads_cell st me n me' = ReadsCell me.0 st.word n me'.0
 
@@ -124,32 +136,42 @@ FindsRaw v i n =
 abbrev pub TakesCell : View → ℕ → ℕ → View → Type 0
 TakesCell v i n u = (u ≡ v) × FindsRaw v i n
 
+-- the step by which the munger looks at a raw word
 abbrev pub takes_cell : Step (Unit {0}) → Seat → ℕ → Seat → Type 0
 takes_cell st me n me' = TakesCell me.0 st.word n me'.0
 
--- the reader stores the released count, of a place that it knows
+-- the reader may store the released count: that of a place that it knows
 abbrev pub MayRelease : View → ℕ → Type 0
-MayRelease v word = (r : ReaderPart) × (v.reader ≡ Some r) × ((k : ℕ) × (r.released ≤ k) × (k ≤ r.known) × (word ≡ shown v.ring k))
+MayRelease v word =
+    (r : ReaderPart) × (v.reader ≡ Some r) × ((k : ℕ) × (r.released ≤ k) × (k ≤ r.known) × (word ≡ shown v.ring k))
 
+-- after it the reader has released all up to that place
 abbrev pub Releases : View → ℕ → View → Type 0
 Releases v n u =
     (r : ReaderPart) → v.reader ≡ Some r
     → (k : ℕ) → r.released ≤ k → k ≤ r.known → n ≡ shown v.ring k
     → u ≡ record v { reader = Some (record r { released = k }) }
 
+-- the step by which the reader releases samples
 abbrev pub releases : Step (Unit {0}) → Seat → ℕ → Seat → Type 0
 releases st me n me' = Releases me.0 n me'.0
 
--- the writer stores its end
+-- the writer may store an end that is right for where it stands, once
 abbrev pub MayEnd : View → ℕ → Type 0
-MayEnd v word = (w : WriterPart) × (v.writer ≡ Some w) × (w.closed ≡ None) × ((e : End) × (word ≡ end_word (Some e)) × IsRightEnd v.ring w e)
+MayEnd v word =
+    (w : WriterPart)
+    × (v.writer ≡ Some w)
+    × (w.closed ≡ None)
+    × ((e : End) × (word ≡ end_word (Some e)) × IsRightEnd v.ring w e)
 
+-- after it the writer has closed the ring with that end
 abbrev pub EndsWith : View → ℕ → View → Type 0
 EndsWith v n u =
     (w : WriterPart) → v.writer ≡ Some w
     → (e : End) → n ≡ end_word (Some e)
     → u ≡ record v { writer = Some (record w { closed = Some e }) }
 
+-- the step by which the writer ends
 abbrev pub ends_with : Step (Unit {0}) → Seat → ℕ → Seat → Type 0
 ends_with st me n me' = EndsWith me.0 n me'.0
 
@@ -162,6 +184,7 @@ Finds v n u = (r : ReaderPart) → v.reader ≡ Some r
     × ((e : End) → r.found ≡ Some e → found ≡ Some e)
     × ((e : End) → found ≡ Some e → (r.known ≤ e.count) × IsFoundEnd v.ring r e.kind e.count)
 
+-- the step by which the reader looks for the end
 abbrev pub finds : Step (Unit {0}) → Seat → ℕ → Seat → Type 0
 finds st me n me' = Finds me.0 n me'.0
 
@@ -174,13 +197,15 @@ MungerFinds v n u = (m : MungerPart) → v.munger ≡ Some m
     × ((e : End) → m.found ≡ Some e → found ≡ Some e)
     × ((e : End) → found ≡ Some e → m.avail ≤ e.count)
 
+-- the step by which the munger looks for the end
 abbrev pub munger_finds : Step (Unit {0}) → Seat → ℕ → Seat → Type 0
 munger_finds st me n me' = MungerFinds me.0 n me'.0
 
--- the reader stores the stop
+-- the reader stores the stop, and has asked for it after it
 abbrev pub Asks : View → View → Type 0
 Asks v u = (r : ReaderPart) → v.reader ≡ Some r → u ≡ record v { reader = Some (record r { asked = true }) }
 
+-- the step by which the reader asks for the stop
 abbrev pub asks : Step (Unit {0}) → Seat → ℕ → Seat → Type 0
 asks st me n me' = Asks me.0 me'.0
 
@@ -192,6 +217,7 @@ SeesStop v n u =
     × (w.saw_stop ≡ true → n ≡ 1)
     × (u ≡ record v { writer = Some (record w { saw_stop = eqb n 1; stop_looks = w.stop_looks + 1 }) })
 
+-- the step by which the writer looks at the stop
 abbrev pub sees_stop : Step (Unit {0}) → Seat → ℕ → Seat → Type 0
 sees_stop st me n me' = SeesStop me.0 n me'.0
 
@@ -206,18 +232,22 @@ SeesWritten v n u = (m : MungerPart) → v.munger ≡ Some m
     × ((e : End) → m.found ≡ Some e → k ≡ e.count)
     × (u ≡ record v { munger = Some (record m { avail = k; written_looks = m.written_looks + 1 }) })
 
+-- the step by which the munger learns how many samples are written
 abbrev pub sees_written : Step (Unit {0}) → Seat → ℕ → Seat → Type 0
 sees_written st me n me' = SeesWritten me.0 n me'.0
 
--- the split of a seat: the reader's role goes to a new seat, or the munger's
+-- what a seat knows after the reader's role went to a new seat
 abbrev pub without_reader : View → View
 without_reader v = record v { reader = None }
 
+-- what the new seat knows, which has the reader's role alone
 abbrev pub only_reader : View → View
 only_reader v = ring_view v.ring None None v.reader
 
+-- what a seat knows after the munger's role went to a new seat
 abbrev pub without_munger : View → View
 without_munger v = record v { munger = None }
 
+-- what the new seat knows, which has the munger's role alone
 abbrev pub only_munger : View → View
 only_munger v = ring_view v.ring None v.munger None

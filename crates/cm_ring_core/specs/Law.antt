@@ -1,13 +1,15 @@
 -- What every kind of step keeps, and that the two rings do the same with their places and cells.
-use Rattle.std.specs.Prelude.{◌≡◌, ℕ, ◌+◌, ◌-◌, ◌%◌, ◌<◌, ◌≤◌, List, [], length, slice_index, slice_set, drop, Some, None, replicate}
+use Rattle.std.specs.Prelude.{◌≡◌, ℕ, ◌+◌, ◌-◌, ◌%◌, ◌<◌, ◌≤◌, List, [], length, slice_index, slice_set, drop, Some}
+use Rattle.std.specs.Prelude.{None, replicate}
 use mathlib.Core.Option.{none, some}
 use lib.ListN.{get_elem?}
 use Rattle.atomic_table.specs.Table.{State, Me, Step, keeps, step, stepped, Allows, Splits, opening}
 use Rattle.cm_ring_core.specs.Local.{Ring, IsRing}
 use Rattle.cm_ring_core.specs.Lawful.{Words, Lawful, AreConstants, Each, laid, shown, opened}
-use Rattle.cm_ring_core.specs.Kinds.{sees_read, puts, publishes, ends_with, sees_stop, munges, shows, takes_cell, munger_finds, sees_written}
-use Rattle.cm_ring_core.specs.Kinds.{sees_munged, reads_cell, releases, finds, asks, without_reader, only_reader, without_munger, only_munger}
-use Rattle.cm_ring_core.specs.Kinds.{cell_of, MayPut, MayPublish, MayMunge, MayShow, MayRelease, MayEnd}
+use Rattle.cm_ring_core.specs.Kinds.{sees_read, puts, publishes, ends_with, sees_stop, munges, shows, takes_cell}
+use Rattle.cm_ring_core.specs.Kinds.{munger_finds, sees_written, sees_munged, reads_cell, releases, finds, asks}
+use Rattle.cm_ring_core.specs.Kinds.{without_reader, only_reader, without_munger, only_munger, cell_of, MayPut}
+use Rattle.cm_ring_core.specs.Kinds.{MayPublish, MayMunge, MayShow, MayRelease, MayEnd}
 use Rattle.cm_ring_core.specs.Cut.{Cut, local_cut, shared_cut, with_put, all_written, next_munged, released_to, word_at}
 use Rattle.cm_ring_core.specs.declared.view.RingConstants.{RingConstants}
 use Rattle.cm_ring_core.specs.declared.view.WriterPart.{WriterPart}
@@ -15,15 +17,24 @@ use Rattle.cm_ring_core.specs.declared.view.MungerPart.{MungerPart}
 use Rattle.cm_ring_core.specs.declared.view.ReaderPart.{ReaderPart}
 use Rattle.cm_ring_core.specs.declared.view.View.{View}
 
+-- the words of a ring, and what each of its seats knows
 abbrev pub RingState : Type 0
 RingState = State (Unit {0}) View
 
+-- a seat of a ring: what it knows, and what it holds
 abbrev pub RingMe : Type 0
 RingMe = Me (Unit {0}) View
 
 -- the words of a ring when it is opened
 abbrev pub first_words : RingConstants → Words
-first_words ring = record { read = shown ring 0; munged = shown ring 0; written = shown ring 0; end = 0; stop = 0; cells = replicate ring.size 0 }
+first_words ring = record {
+  read = shown ring 0;
+  munged = shown ring 0;
+  written = shown ring 0;
+  end = 0;
+  stop = 0;
+  cells = replicate ring.size 0;
+}
 
 -- a seat loads a word: the rule holds after it, and the seat knows what this kind of step says of the number found
 abbrev pub Loads : ℕ → ℕ → RingMe → ℕ → (Step (Unit {0}) → RingMe → ℕ → RingMe → Type 0) → Type 0
@@ -47,22 +58,29 @@ pub record StepLaw : Type 0 where
   pub load_read : (slots id : ℕ) (me : RingMe) (w : WriterPart) → me.0.writer ≡ Some w → w.closed ≡ None
       → Loads slots id me 0 sees_read
   pub store_sample : (slots id : ℕ) (me : RingMe) (i word : ℕ) → MayPut me.0 i word → Stores slots id me i word puts
-  pub publish_written : (slots id : ℕ) (me : RingMe) (word : ℕ) → MayPublish me.0 word → Stores slots id me 2 word publishes
-  pub munge_cell : (slots id : ℕ) (me : RingMe) (i word : ℕ) → MayMunge me.0 i word → Exchanges slots id me i word munges
+  pub publish_written : (slots id : ℕ) (me : RingMe) (word : ℕ) → MayPublish me.0 word
+      → Stores slots id me 2 word publishes
+  pub munge_cell : (slots id : ℕ) (me : RingMe) (i word : ℕ) → MayMunge me.0 i word
+      → Exchanges slots id me i word munges
   pub publish_munged : (slots id : ℕ) (me : RingMe) (word : ℕ) → MayShow me.0 word → Stores slots id me 1 word shows
-  pub load_munged : (slots id : ℕ) (me : RingMe) (r : ReaderPart) → me.0.reader ≡ Some r → Loads slots id me 1 sees_munged
+  pub load_munged : (slots id : ℕ) (me : RingMe) (r : ReaderPart) → me.0.reader ≡ Some r
+      → Loads slots id me 1 sees_munged
   pub load_cell : (slots id : ℕ) (me : RingMe) (i : ℕ) → Loads slots id me i reads_cell
   pub load_raw_cell : (slots id : ℕ) (me : RingMe) (i : ℕ) → Loads slots id me i takes_cell
   pub publish_read : (slots id : ℕ) (me : RingMe) (word : ℕ) → MayRelease me.0 word → Stores slots id me 0 word releases
   pub store_end : (slots id : ℕ) (me : RingMe) (word : ℕ) → MayEnd me.0 word → Stores slots id me 3 word ends_with
   pub load_end : (slots id : ℕ) (me : RingMe) (r : ReaderPart) → me.0.reader ≡ Some r → Loads slots id me 3 finds
-  pub munger_load_end : (slots id : ℕ) (me : RingMe) (m : MungerPart) → me.0.munger ≡ Some m → Loads slots id me 3 munger_finds
+  pub munger_load_end : (slots id : ℕ) (me : RingMe) (m : MungerPart) → me.0.munger ≡ Some m
+      → Loads slots id me 3 munger_finds
   pub ask_stop : (slots id : ℕ) (me : RingMe) (r : ReaderPart) → me.0.reader ≡ Some r → Stores slots id me 4 1 asks
   pub load_stop : (slots id : ℕ) (me : RingMe) (w : WriterPart) → me.0.writer ≡ Some w → w.closed ≡ None
       → Loads slots id me 4 sees_stop
-  pub load_written : (slots id : ℕ) (me : RingMe) (m : MungerPart) → me.0.munger ≡ Some m → Loads slots id me 2 sees_written
-  pub split_reader : (id : ℕ) (v : View) (r : ReaderPart) → v.reader ≡ Some r → Splits (Lawful v.ring) id v (without_reader v) (only_reader v)
-  pub split_munger : (id : ℕ) (v : View) (m : MungerPart) → v.munger ≡ Some m → Splits (Lawful v.ring) id v (without_munger v) (only_munger v)
+  pub load_written : (slots id : ℕ) (me : RingMe) (m : MungerPart) → me.0.munger ≡ Some m
+      → Loads slots id me 2 sees_written
+  pub split_reader : (id : ℕ) (v : View) (r : ReaderPart) → v.reader ≡ Some r
+      → Splits (Lawful v.ring) id v (without_reader v) (only_reader v)
+  pub split_munger : (id : ℕ) (v : View) (m : MungerPart) → v.munger ≡ Some m
+      → Splits (Lawful v.ring) id v (without_munger v) (only_munger v)
 
 -- a seat's step on a word keeps the rule, and its cut is that of before with a change
 abbrev pub Cuts : (v : View) (s : RingState) → Lawful v.ring s → ℕ → ℕ → ℕ → View → (Cut → Cut) → Type 0
@@ -81,7 +99,8 @@ pub record SharedCuts : Type 0 where
       → Cuts v s h 2 word id (record v { writer = Some (record w { written = w.next }) }) all_written
   pub munge_cell : (s : RingState) (id : ℕ) (v : View) (h : Lawful v.ring s) (i word : ℕ) (m : MungerPart)
       → get_elem? s.views id ≡ some v → v.munger ≡ Some m → MayMunge v i word
-      → Cuts v s h i word id (record v { munger = Some (record m { exchanged = m.exchanged + 1 }) }) (next_munged v.ring.rule)
+      → Cuts v s h i word id (record v { munger = Some (record m { exchanged = m.exchanged + 1 }) })
+      (next_munged v.ring.rule)
   pub publish_munged : (s : RingState) (id : ℕ) (v : View) (h : Lawful v.ring s) (word : ℕ) (m : MungerPart)
       → get_elem? s.views id ≡ some v → v.munger ≡ Some m → MayShow v word
       → Cuts v s h 1 word id (record v { munger = Some (record m { munged = m.exchanged }) }) (λ c. c)
@@ -98,13 +117,17 @@ pub record SharedCuts : Type 0 where
 -- as a shared ring's rule says it of its own, a granted sample is read, and samples are released.
 -- That all that is written is munged one word after another is a clause of its call
 pub record LocalCuts : Type 0 where
-  pub put : (old granted new : Ring) (i word : ℕ) → IsRing old → i ≡ old.a - old.w → granted ≡ record old { a = old.a + 1; held = granted.held }
+  pub put : (old granted new : Ring) (i word : ℕ) → IsRing old → i ≡ old.a - old.w
+      → granted ≡ record old { a = old.a + 1; held = granted.held }
       → new ≡ record granted { cells = slice_set granted.cells ((granted.w + i) % granted.size) word; held = new.held }
       → local_cut new ≡ with_put word (local_cut old)
-  pub write_free : (old new : Ring) → IsRing old → new ≡ record old { w = old.w + (old.a - old.w) } → local_cut new ≡ all_written (local_cut old)
+  pub write_free : (old new : Ring) → IsRing old → new ≡ record old { w = old.w + (old.a - old.w) }
+      → local_cut new ≡ all_written (local_cut old)
   pub held : (ring : Ring) → IsRing ring
-      → Each ring.cells ring.size ring.r (ring.r + length ring.held) (λ k word. word ≡ slice_index ring.held (k - ring.r))
-  pub word : (ring : Ring) (i : ℕ) → IsRing ring → i < length ring.held → slice_index ring.held i ≡ word_at (local_cut ring) i
+      → Each ring.cells ring.size ring.r (ring.r + length ring.held)
+      (λ k word. word ≡ slice_index ring.held (k - ring.r))
+  pub word : (ring : Ring) (i : ℕ) → IsRing ring → i < length ring.held
+      → slice_index ring.held i ≡ word_at (local_cut ring) i
   pub read_free : (old new : Ring) (count : ℕ)
       → new ≡ record old { r = old.r + count; held = drop count old.held }
       → local_cut new ≡ released_to (old.r + count) (local_cut old)

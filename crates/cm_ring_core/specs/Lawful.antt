@@ -1,5 +1,6 @@
 -- The rule of a shared ring: what holds of its words and of what all its seats know, between any two steps.
-use Rattle.std.specs.Prelude.{◌≡◌, ℕ, ◌+◌, ◌*◌, ◌%◌, ◌<◌, ◌≤◌, Bool, true, false, List, ◌∷◌, length, slice_index, Option, Some, None}
+use Rattle.std.specs.Prelude.{◌≡◌, ℕ, ◌+◌, ◌*◌, ◌%◌, ◌<◌, ◌≤◌, Bool, true, false, List, ◌∷◌, length, slice_index}
+use Rattle.std.specs.Prelude.{Option, Some, None}
 use mathlib.Core.Option.{some}
 use lib.ListN.{get_elem?}
 use Rattle.atomic_table.specs.Table.{State}
@@ -14,7 +15,8 @@ use Rattle.cm_ring_core.specs.declared.view.MungerPart.{MungerPart}
 use Rattle.cm_ring_core.specs.declared.view.ReaderPart.{ReaderPart}
 use Rattle.cm_ring_core.specs.declared.view.View.{View}
 
--- the shared words by name: the counts of the samples that were released, munged and written, the end, the stop, and the cells
+-- the shared words by name: the counts of the samples that were released,
+-- munged and written, the end, the stop, and the cells
 pub record Words : Type 0 where
   pub read : ℕ
   pub munged : ℕ
@@ -45,10 +47,12 @@ kind_code Done = 1
 kind_code Overrun = 2
 kind_code Cancelled = 3
 
+-- the word that tells an end, which is 0 before there is one
 abbrev pub end_word : Option End → ℕ
 end_word None = 0
 end_word (Some e) = 4 * e.count + kind_code e.kind
 
+-- the word that tells whether the stop was asked for
 abbrev pub stop_word : Bool → ℕ
 stop_word true = 1
 stop_word false = 0
@@ -104,21 +108,25 @@ pub record Cells (ring : RingConstants) (cells : List ℕ) (read h next : ℕ) :
 -- which end a writer may store, at its last look at READ and at the stop that it saw
 abbrev pub MayEndAs : RingConstants → ℕ → ℕ → Bool → EndKind → ℕ → Type 0
 MayEndAs ring at freed saw_stop Done count = count ≡ length ring.samples
-MayEndAs ring at freed saw_stop Overrun count = (count < length ring.samples) × (count ≡ at) × (count ≡ freed + ring.size) × (ring.paced ≡ false)
+MayEndAs ring at freed saw_stop Overrun count =
+    (count < length ring.samples) × (count ≡ at) × (count ≡ freed + ring.size) × (ring.paced ≡ false)
 MayEndAs ring at freed saw_stop Cancelled count = saw_stop ≡ true
 
 -- the end that a writer has stored
 abbrev pub IsRightEnd : RingConstants → WriterPart → End → Type 0
-IsRightEnd ring w e = (e.count ≡ w.written) × (w.next ≡ w.written) × MayEndAs ring w.at w.freed w.saw_stop e.kind e.count
+IsRightEnd ring w e =
+    (e.count ≡ w.written) × (w.next ≡ w.written) × MayEndAs ring w.at w.freed w.saw_stop e.kind e.count
 
 -- what an end that was found says to the reader
 abbrev pub IsFoundEnd : RingConstants → ReaderPart → EndKind → ℕ → Type 0
 IsFoundEnd ring r Done count = count ≡ length ring.samples
-IsFoundEnd ring r Overrun count = (ring.size ≤ count) × (count < length ring.samples) × (count ≤ r.released + ring.size) × (ring.paced ≡ false)
+IsFoundEnd ring r Overrun count =
+    (ring.size ≤ count) × (count < length ring.samples) × (count ≤ r.released + ring.size) × (ring.paced ≡ false)
 IsFoundEnd ring r Cancelled count = r.asked ≡ true
 
 -- the words of the end and of the stop, and what each seat knows of them
-pub record Ends (ring : RingConstants) (end stop : ℕ) (w : WriterPart) (m_found r_found : Option End) (asked : Bool) : Type 0 where
+pub record Ends
+    (ring : RingConstants) (end stop : ℕ) (w : WriterPart) (m_found r_found : Option End) (asked : Bool) : Type 0 where
   pub end_is : end ≡ end_word w.closed
   pub end_ok : (e : End) → w.closed ≡ Some e → IsRightEnd ring w e
   pub stop_is : stop ≡ stop_word asked
@@ -134,18 +142,21 @@ pub record Sits {F : Type 0} (part_of : View → Option F) (views : List View) (
   pub has : part_of view ≡ Some part
   pub only : (j : ℕ) (v : View) (f : F) → get_elem? views j ≡ some v → part_of v ≡ Some f → (j ≡ place) × (f ≡ part)
 
--- the fields of a role, where the seat has it
+-- the writer's fields, where the seat has this role
 abbrev pub writer_of : View → Option WriterPart
 writer_of v = v.writer
 
+-- the munger's fields in the same way
 abbrev pub munger_of : View → Option MungerPart
 munger_of v = v.munger
 
+-- the reader's fields in the same way
 abbrev pub reader_of : View → Option ReaderPart
 reader_of v = v.reader
 
 -- all seats know the same constants, and each role stands in one of them
-pub record Seats (ring : RingConstants) (views : List View) (w : WriterPart) (m : MungerPart) (r : ReaderPart) : Type 0 where
+pub record Seats
+    (ring : RingConstants) (views : List View) (w : WriterPart) (m : MungerPart) (r : ReaderPart) : Type 0 where
   pub rings : (j : ℕ) (v : View) → get_elem? views j ≡ some v → v.ring ≡ ring
   pub writer : Sits writer_of views w
   pub munger : Sits munger_of views m
@@ -171,15 +182,32 @@ pub record Lawful (ring : RingConstants) (s : State (Unit {0}) View) : Type 0 wh
 
 -- the constants that a ring is opened with
 abbrev pub constants_of : {X : Type 0} → (X → List ℕ) → OpenedWith X → RingConstants
-constants_of samples key = record { size = key.size; rule = key.rule; samples = samples key.plan; paced = key.paced; base = key.base }
+constants_of samples key = record {
+  size = key.size;
+  rule = key.rule;
+  samples = samples key.plan;
+  paced = key.paced;
+  base = key.base;
+}
 
 -- the fields of each role when the ring is opened
 abbrev pub first_writer : WriterPart
-first_writer = record { next = 0; written = 0; freed = 0; at = 0; read_looks = 0; stop_looks = 0; saw_stop = false; closed = None }
+first_writer = record {
+  next = 0;
+  written = 0;
+  freed = 0;
+  at = 0;
+  read_looks = 0;
+  stop_looks = 0;
+  saw_stop = false;
+  closed = None;
+}
 
+-- a munger that has seen and done nothing
 abbrev pub first_munger : MungerPart
 first_munger = record { munged = 0; exchanged = 0; avail = 0; written_looks = 0; end_looks = 0; found = None }
 
+-- a reader that has seen and done nothing
 abbrev pub first_reader : ReaderPart
 first_reader = record { released = 0; known = 0; asked = false; munged_looks = 0; end_looks = 0; found = None }
 
