@@ -55,32 +55,48 @@ pub record IsReading (r : Reading) : Type 0 where
   pub few_cells : r.ring.size ≤ 1048576
   pub finite : length r.ring.samples ≤ 1099511627776
 
--- the fields of a role
+-- the fields of a writer's role, and those of a fresh one where there is none
 abbrev pub writer_part : Option WriterPart → WriterPart
 writer_part None = first_writer
 writer_part (Some w) = w
 
+-- the fields of a munger's role in the same way
 abbrev pub munger_part : Option MungerPart → MungerPart
 munger_part None = first_munger
 munger_part (Some m) = m
 
+-- the fields of a reader's role in the same way
 abbrev pub reader_part : Option ReaderPart → ReaderPart
 reader_part None = first_reader
 reader_part (Some r) = r
 
--- how contracts see an end by its seat
+-- how contracts see a writer by its seat
 abbrev pub writing : Seat (Unit {0}) View → Writing
 writing seat = record { table = seat.table_id; ring = seat.me.0.ring; part = writer_part seat.me.0.writer }
 
+-- how they see a munger
 abbrev pub munging : Seat (Unit {0}) View → Munging
 munging seat = record { table = seat.table_id; ring = seat.me.0.ring; part = munger_part seat.me.0.munger }
 
+-- how they see a reader, which has mapped so many samples
 abbrev pub reading : Seat (Unit {0}) View → ℕ → Reading
-reading seat mapped = record { table = seat.table_id; ring = seat.me.0.ring; part = reader_part seat.me.0.reader; mapped = mapped }
+reading seat mapped = record {
+  table = seat.table_id;
+  ring = seat.me.0.ring;
+  part = reader_part seat.me.0.reader;
+  mapped = mapped;
+}
 
+-- how they see a writer that has stored this end
 abbrev pub closing : Seat (Unit {0}) View → End → Closing
-closing seat end = record { table = seat.table_id; ring = seat.me.0.ring; part = writer_part seat.me.0.writer; end = end }
+closing seat end = record {
+  table = seat.table_id;
+  ring = seat.me.0.ring;
+  part = writer_part seat.me.0.writer;
+  end = end;
+}
 
+-- the writer at a seat has stored this end
 abbrev pub IsClosed : Seat (Unit {0}) View → End → Type 0
 IsClosed seat end = (writer_part seat.me.0.writer).closed ≡ Some end
 
@@ -155,4 +171,5 @@ MayRun rule from count v =
 
 -- and has munged them
 abbrev pub HasRun : ℕ → View → View → Type 0
-HasRun count v u = (m : MungerPart) → v.munger ≡ Some m → u ≡ record v { munger = Some (record m { exchanged = m.exchanged + count }) }
+HasRun count v u =
+    (m : MungerPart) → v.munger ≡ Some m → u ≡ record v { munger = Some (record m { exchanged = m.exchanged + count }) }

@@ -7,7 +7,8 @@ use Rattle.cm_ring_core.specs.declared.view.View.{View}
 use Rattle.cm_ring_core.specs.Lawful.{constants_of, AreConstants}
 
 -- the seat is one of this table, and knows the constants of its ring
-abbrev pub IsSeatOf : {X Q : Type 0} → (X → List ℕ) → Shared (Unit {0}) View (OpenedWith X) Q → Seat (Unit {0}) View → Type 0
+abbrev pub IsSeatOf :
+    {X Q : Type 0} → (X → List ℕ) → Shared (Unit {0}) View (OpenedWith X) Q → Seat (Unit {0}) View → Type 0
 IsSeatOf samples t seat =
     (seat.table_id ≡ t.table_id)
     × (t.table_id.words ≡ t.key.size + 5)
