@@ -8,11 +8,12 @@ use Rattle.cm_signal.specs.Signals.{SignalsText}
 use Rattle.cm_job.specs.declared.line.RunLine.{RunLine}
 use Rattle.cm_job.specs.declared.line.RunLine.TheVariants.{Go, Drive}
 
--- the time of a line's call, and its command
+-- the time of a line's call
 abbrev pub t0_of : RunLine → ℕ
 t0_of (Go mode access t0 take cmd) = t0
 t0_of (Drive t0 values cmd) = t0
 
+-- the command that a line calls
 abbrev pub cmd_of : RunLine → CmdText
 cmd_of (Go mode access t0 take cmd) = cmd
 cmd_of (Drive t0 values cmd) = cmd

@@ -21,12 +21,15 @@ use Rattle.cm_job.specs.declared.expand_lines.ExpandLine.{ExpandLine}
 
 -- the time of an `expand` line, which stands before its command
 abbrev pub expand_time : ℕ → LineText → Result ℕ Fault
-expand_time horizon line = only_word (codes "expand") line >>= λ u. before_commands 2 8 line.words >>= λ w. number_in 0 horizon (word_at w 1)
+expand_time horizon line =
+    only_word (codes "expand") line >>= λ u. before_commands 2 8 line.words >>= λ w. number_in 0 horizon (word_at w 1)
 
 -- the time and the command of such a line
 abbrev pub expand_words : Bounds → LineText → Result (ℕ × CmdText) Fault
 expand_words bounds line =
-    expand_time bounds.horizon line >>= λ t. command_of (most_entries bounds.version) (drop 2 line.words) >>= λ cmd. Ok (t, cmd)
+    expand_time bounds.horizon line >>= λ t.
+    command_of (most_entries bounds.version) (drop 2 line.words) >>= λ cmd.
+    Ok (t, cmd)
 
 -- a line whose command is accepted
 abbrev pub accepted_line : BoardText → ℕ × CmdText → Result ExpandLine Fault

@@ -62,7 +62,8 @@ go_line bounds line =
 
 -- the time and the word of the values in `drive CALL VALUES COMMAND`
 abbrev pub drive_head : ℕ → Form (ℕ × List ℕ)
-drive_head horizon words = before_commands 2 8 words >>= λ w. number_in 0 horizon (word_at w 0) >>= λ t0. Ok (t0, word_at w 1)
+drive_head horizon words =
+    before_commands 2 8 words >>= λ w. number_in 0 horizon (word_at w 0) >>= λ t0. Ok (t0, word_at w 1)
 
 -- `drive CALL VALUES COMMAND`
 abbrev pub drive_line : Bounds → LineText → Result Asked Fault

@@ -14,7 +14,8 @@ use Rattle.cm_job.specs.declared.loop_asked.Asked.{Asked}
 abbrev pub after_loop : LineText → Result (List (List ℕ)) Fault
 after_loop line = only_word (codes "loop") line >>= λ u. Ok (drop 1 line.words)
 
--- what stands before the commands in `loop CALL_IN CALL_OUT WINDOW INPUT OUTPUT`: both times are up to the horizon, and the window is 1 to 16
+-- what stands before the commands in `loop CALL_IN CALL_OUT WINDOW INPUT OUTPUT`:
+-- both times are up to the horizon, and the window is 1 to 16
 abbrev pub loop_head : ℕ → LineText → Result (ℕ × ℕ × ℕ) Fault
 loop_head horizon line =
     after_loop line >>= λ words.

@@ -11,7 +11,8 @@ use Rattle.cm_test.specs.Questions.{tested}
 use Rattle.cm_expand.specs.Calls.{plan_at}
 use Rattle.cm_job.specs.Later.{are_later}
 
--- a loop job: the times of the calls are in nanoseconds, and the window is how many samples of a list entry stand in a mean
+-- a loop job: the times of the calls are in nanoseconds,
+-- and the window is how many samples of a list entry stand in a mean
 pub record LoopJobText : Type 0 where
   pub board : BoardText
   pub signals : SignalsText
@@ -21,10 +22,11 @@ pub record LoopJobText : Type 0 where
   pub input : CmdText
   pub output : CmdText
 
--- the plans of both commands
+-- the plan of the input command
 abbrev pub input_of : LoopJobText → PlanText
 input_of job = plan_at job.board job.signals job.t_in job.input
 
+-- the plan of the output command
 abbrev pub output_of : LoopJobText → PlanText
 output_of job = plan_at job.board job.signals job.t_out job.output
 

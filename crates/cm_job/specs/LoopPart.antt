@@ -1,5 +1,6 @@
 -- The session part of a loop job.
-use Rattle.std.specs.Prelude.{ℕ, Bool, true, false, not, ◌&&◌, ◌==◌, nat_le, List, [], ◌∷◌, length, Result, Ok, Err, if◌then◌else◌}
+use Rattle.std.specs.Prelude.{ℕ, Bool, true, false, not, ◌&&◌, ◌==◌, nat_le, List, [], ◌∷◌, length, Result, Ok, Err}
+use Rattle.std.specs.Prelude.{if◌then◌else◌}
 use Rattle.cm_base.specs.Lines.{LineText}
 use Rattle.cm_base.specs.Reading.{◌>>=◌, at_line}
 use Rattle.cm_base.specs.declared.faults.Fault.{Fault}
@@ -20,16 +21,18 @@ use Rattle.cm_job.specs.LoopJob.{LoopJobText}
 use Rattle.cm_job.specs.declared.loop_asked.Asked.{Asked}
 use Rattle.cm_job.specs.declared.loop_line.LoopLine.{LoopLine}
 
--- the plans of a line's commands
+-- the plan of a line's input command
 abbrev pub input_at : BoardText → SignalsText → LoopLine → PlanText
 input_at board signals line = plan_at board signals line.t_in line.input
 
+-- the plan of its output command
 abbrev pub output_at : BoardText → SignalsText → LoopLine → PlanText
 output_at board signals line = plan_at board signals line.t_out line.output
 
 -- neither command asks for raw words, and both lists have the same length
 abbrev pub is_matched : LoopLine → Bool
-is_matched line = not (is_raw line.input.flags) && not (is_raw line.output.flags) && length line.input.list == length line.output.list
+is_matched line =
+    not (is_raw line.input.flags) && not (is_raw line.output.flags) && length line.input.list == length line.output.list
 
 -- a command has up to a million conversions
 abbrev pub is_short : PlanText → Bool
@@ -40,7 +43,8 @@ abbrev pub ruled : BoardText → SignalsText → LoopLine → Result LoopLine Fa
 ruled board signals line =
     if not (is_matched line) then Err Bad
     else (if not (is_short (input_at board signals line) && is_short (output_at board signals line)) then Err Limit
-    else (if are_later (items_of (input_at board signals line)) (items_of (output_at board signals line)) then Ok line else Err Bad))
+    else (if are_later (items_of (input_at board signals line)) (items_of (output_at board signals line)) then Ok line
+    else Err Bad))
 
 -- the line that asks for two commands, of an input and of an output, which their subdevices accept
 abbrev pub called_of : BoardText → Asked → Result LoopLine Fault

@@ -54,7 +54,8 @@ code_in sub channel number = limited (is_code sub channel number) number
 -- each number, from this place on, is a code of the channel of its place's entry
 abbrev pub are_codes : SubText → List ℕ → ℕ → List ℕ → Bool
 are_codes sub list place [] = true
-are_codes sub list place (number ∷ numbers) = is_code sub (chan (entry_at list place)) number && are_codes sub list (suc place) numbers
+are_codes sub list place (number ∷ numbers) =
+    is_code sub (chan (entry_at list place)) number && are_codes sub list (suc place) numbers
 
 -- up to 1,024 values, each a code of its channel
 abbrev pub values_of : SubText → CmdText → List ℕ → Result (List ℕ) Fault
@@ -63,7 +64,10 @@ values_of sub cmd numbers = limited (nat_le (length numbers) 1024 && are_codes s
 -- a `drive` line: its command, and then its values
 abbrev pub drive_of : BoardText → ℕ → List ℕ → CmdText → Result RunLine Fault
 drive_of board t0 numbers cmd =
-    directed_sub board true cmd.sub >>= λ sub. passed sub cmd >>= λ cmd. values_of sub cmd numbers >>= λ values. Ok (Drive t0 values cmd)
+    directed_sub board true cmd.sub >>= λ sub.
+    passed sub cmd >>= λ cmd.
+    values_of sub cmd numbers >>= λ values.
+    Ok (Drive t0 values cmd)
 
 -- a line that asks for a command which its subdevice accepts: an input's for `go`, an output's for `drive`
 abbrev pub line_of : BoardText → Asked → Result RunLine Fault

@@ -12,7 +12,8 @@ use Rattle.cm_job.specs.Head.{only_word}
 
 -- the command of a `test` line, over a board
 abbrev pub test_line : BoardText → LineText → Result CmdText Fault
-test_line board line = only_word (codes "test") line >>= λ u. command_of (most_entries board.version) (drop 1 line.words)
+test_line board line =
+    only_word (codes "test") line >>= λ u. command_of (most_entries board.version) (drop 1 line.words)
 
 -- the commands of these lines
 abbrev pub tests_of : BoardText → List LineText → Result (List CmdText) Refused

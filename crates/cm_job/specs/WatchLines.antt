@@ -12,7 +12,8 @@ use Rattle.cm_job.specs.declared.line.RunLine.TheVariants.{Go, Drive}
 
 -- a line is paced, takes all samples of an input, and its scans have a sample at least and fit the subdevice's buffer
 abbrev pub WatchesSub : SubText → RunLine → Type 0
-WatchesSub sub (Go mode access t0 most cmd) = (mode ≡ Paced) × (most ≡ None) × (1 ≤ length cmd.list) × (length cmd.list ≤ sub.buffer)
+WatchesSub sub (Go mode access t0 most cmd) =
+    (mode ≡ Paced) × (most ≡ None) × (1 ≤ length cmd.list) × (length cmd.list ≤ sub.buffer)
 WatchesSub sub (Drive t0 values cmd) = ⊥
 
 -- the same of the line's own subdevice
