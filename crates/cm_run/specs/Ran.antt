@@ -35,7 +35,8 @@ LineRan board signals (Drive t0 values cmd) text [] = text ≡ drive_block (plan
 LineRan board signals (Drive t0 values cmd) text (r ∷ more) = ⊥
 
 -- the first line's block and readers, and then those of the others
-pub record StartsBy (first others : List ℕ → List Reading → Type 0) (text : List ℕ) (readers : List Reading) : Type 0 where
+pub record StartsBy
+    (first others : List ℕ → List Reading → Type 0) (text : List ℕ) (readers : List Reading) : Type 0 where
   pub block : List ℕ
   pub rest : List ℕ
   pub mine : List Reading
@@ -48,7 +49,8 @@ pub record StartsBy (first others : List ℕ → List Reading → Type 0) (text 
 -- the blocks of all lines, with their readers, in the order of the lines
 abbrev pub HaveRun : BoardText → SignalsText → List RunLine → List ℕ → List Reading → Type 0
 HaveRun board signals [] text readers = (text ≡ []) × (readers ≡ [])
-HaveRun board signals (line ∷ lines) text readers = StartsBy (LineRan board signals line) (HaveRun board signals lines) text readers
+HaveRun board signals (line ∷ lines) text readers =
+    StartsBy (LineRan board signals line) (HaveRun board signals lines) text readers
 
 -- a line's reader, where it has one
 abbrev pub as_list : Option Reading → List Reading

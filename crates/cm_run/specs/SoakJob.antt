@@ -1,5 +1,6 @@
 -- The job of a soak of n conversions.
-use Rattle.std.specs.Prelude.{ℕ, ◌+◌, ◌/◌, ◌%◌, ◌==◌, nat_lt, pos, neg_ℤ, false, List, [], ◌∷◌, ◌++◌, codes, map, replicate, None, if◌then◌else◌}
+use Rattle.std.specs.Prelude.{ℕ, ◌+◌, ◌/◌, ◌%◌, ◌==◌, nat_lt, pos, neg_ℤ, false, List, [], ◌∷◌, ◌++◌, codes, map}
+use Rattle.std.specs.Prelude.{replicate, None, if◌then◌else◌}
 use Rattle.cm_base.specs.Source as source
 use Rattle.cm_board.specs.Board.{BoardText, SubText, any_list, any_rounding, any_scan, each_nanosecond}
 use Rattle.cm_board.specs.Items.{ItemText}
@@ -72,7 +73,13 @@ soak_sub = record {
   maxdata = 65535;
   munge = munges.Offset;
   ranges = soak_range ∷ [];
-  masks = record { start = source.now; scan_begin = source.timer; convert = source.now; scan_end = source.count; stop = source.count };
+  masks = record {
+    start = source.now;
+    scan_begin = source.timer;
+    convert = source.now;
+    scan_end = source.count;
+    stop = source.count;
+  };
   timers = each_nanosecond;
   scan_min = 1;
   scan_max = 1000000;

@@ -4,6 +4,7 @@ use Rattle.std.specs.List.{sum}
 use Rattle.cm_run.specs.declared.soak.part.Part.{Part}
 use Rattle.cm_run.specs.declared.soak.sum.Sum.TheInside.{Inside}
 
+-- the part that was summed so far
 abbrev pub part_of_sum : Inside → Part
 part_of_sum s = record { count = s.count; sum = s.sum }
 
@@ -16,9 +17,10 @@ pub record IsSum (s : Inside) : Type 0 where
 abbrev pub CanSum : ℕ → ℕ → Type 0
 CanSum place word = place < 4000000
 
--- the number and the sum of samples, and those of a part
+-- the number and the sum of samples
 abbrev pub numbers_of : List ℕ → List ℕ
 numbers_of words = length words ∷ sum words ∷ []
 
+-- the number and the sum that a part has
 abbrev pub numbers : Part → List ℕ
 numbers part = part.count ∷ part.sum ∷ []

@@ -53,11 +53,12 @@ parts_of board signals lines =
     ∷ line_part board signals (slice_get lines 3)
     ∷ []
 
--- a part of some, and zeros where it is missing
+-- a part where there is one, and else zeros
 abbrev pub or_none : Option Part → Part
 or_none None = no_part
 or_none (Some part) = part
 
+-- the part with a number among some, and zeros where it is missing
 abbrev pub part_at : List Part → ℕ → Part
 part_at parts i = or_none (slice_get parts i)
 

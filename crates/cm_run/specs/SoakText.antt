@@ -5,7 +5,8 @@ use Rattle.cm_run.specs.declared.soak.part.Part.{Part}
 
 -- the line of a subdevice
 abbrev pub part_line : ℕ → Part → List ℕ
-part_line i part = codes "soak " ++ decimal i ++ codes " " ++ decimal part.count ++ codes " " ++ decimal part.sum ++ codes " done\n"
+part_line i part =
+    codes "soak " ++ decimal i ++ codes " " ++ decimal part.count ++ codes " " ++ decimal part.sum ++ codes " done\n"
 
 -- the lines of subdevices, which are counted from this one on
 abbrev pub part_lines : ℕ → List Part → List ℕ
