@@ -1,5 +1,6 @@
 -- What a call of the program does with its source and its sink.
-use Rattle.std.specs.Prelude.{◌≡◌, ◌≢◌, ℕ, ◌≤◌, true, false, List, [], Option, Some, None, IfSome, IsSome, Result, Ok, Err, OnOk, if◌then◌else◌}
+use Rattle.std.specs.Prelude.{◌≡◌, ◌≢◌, ℕ, ◌≤◌, true, false, List, [], Option, Some, None, IfSome, IsSome, Result, Ok}
+use Rattle.std.specs.Prelude.{Err, OnOk, if◌then◌else◌}
 use Rattle.std.specs.Io.KnownBytes.{Keeps, IsAtEnd}
 use Rattle.cm_base.specs.Causes.{Rose}
 use Rattle.cm_base.specs.Transfer.{ReadsPast}
@@ -29,7 +30,8 @@ input_of called left = if reads called then left else Some []
 
 -- how a call ends. Its status is that of the input's outcome, with its text, unless the run was cut short
 pub record Answers (called : Option Command) (result : Status) (left rest taken text : End) : Type 0 where
-  pub outcome : IfSome (input_of called left.bytes) (λ bytes. Concludes result (outcome_of called bytes) taken.bytes text.bytes)
+  pub outcome :
+      IfSome (input_of called left.bytes) (λ bytes. Concludes result (outcome_of called bytes) taken.bytes text.bytes)
   pub usage : result ≡ status.Usage → called ≡ None
   pub at_end : result ≡ status.Done → reads called ≡ true → IsAtEnd rest.bytes
   pub unread : reads called ≡ false → rest ≡ left
@@ -45,7 +47,8 @@ Ends done reported old new = Serves done reported old new
 
 -- what a command does before a refusal is reported
 pub record Does (command : Command) (done : Result (Unit {0}) Stop) (left rest taken text : End) : Type 0 where
-  pub outcome : IfSome (input_of (Some command) left.bytes) (λ bytes. Ends done (bytes_said command bytes) taken.bytes text.bytes)
+  pub outcome :
+      IfSome (input_of (Some command) left.bytes) (λ bytes. Ends done (bytes_said command bytes) taken.bytes text.bytes)
   pub at_end : reads (Some command) ≡ true → OnOk done (IsAtEnd rest.bytes)
   pub unread : reads (Some command) ≡ false → rest ≡ left
   pub silent : done ≡ Err stops.ReadFault → Keeps taken.bytes text.bytes

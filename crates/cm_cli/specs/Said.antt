@@ -33,7 +33,8 @@ pub data Work : Type 0 where
   Streams : ThreadJob → Work
   Soaks : ℕ → Work
 
--- the texts that a job with threads may have: a run one of those that its lines may have, and a watch and a loop one text
+-- the texts that a job with threads may have:
+-- a run one of those that its lines may have, and a watch and a loop one text
 abbrev pub MayGive : ThreadJob → List ℕ → Type 0
 MayGive (jobs.Run job) text = IsRunText job.board job.signals job.lines text
 MayGive (jobs.Watch job) text = text ≡ run_text job.board job.signals job.lines
@@ -62,11 +63,13 @@ expands_said s lines = expands_of s.board s.signals lines >>= λ all. Ok (Text (
 -- the job of a session, of instructions alone or of all kinds of lines
 abbrev pub job_of : Bool → Setting → List LineText → Result JobText Refused
 job_of only_insn s lines =
-    session_of only_insn (bounds_of s.board s.signals) lines >>= λ all. Ok (record { board = s.board; signals = s.signals; lines = all })
+    session_of only_insn (bounds_of s.board s.signals) lines >>= λ all.
+    Ok (record { board = s.board; signals = s.signals; lines = all })
 
 -- the answer to an `insn` job or a `replay` job
 abbrev pub session_answer : Bool → Setting → List LineText → Result Work Refused
-session_answer only_insn s lines = job_of only_insn s lines >>= λ job. Ok (Text (replay_text (setting_of job) job.lines))
+session_answer only_insn s lines =
+    job_of only_insn s lines >>= λ job. Ok (Text (replay_text (setting_of job) job.lines))
 
 -- a job of lines over a board and signals
 abbrev pub lines_job : Setting → List RunLine → RunJobText
@@ -78,8 +81,10 @@ session_said commands.Test s end lines = tests_said s.board lines
 session_said commands.Expand s end lines = expands_said s lines
 session_said commands.Insn s end lines = session_answer true s lines
 session_said commands.Replay s end lines = session_answer false s lines
-session_said commands.Run s end lines = run_of s.board s.signals lines >>= λ all. Ok (Streams (jobs.Run (lines_job s all)))
-session_said commands.Watch s end lines = watch_of s.board s.signals lines >>= λ all. Ok (Streams (jobs.Watch (lines_job s all)))
+session_said commands.Run s end lines =
+    run_of s.board s.signals lines >>= λ all. Ok (Streams (jobs.Run (lines_job s all)))
+session_said commands.Watch s end lines =
+    watch_of s.board s.signals lines >>= λ all. Ok (Streams (jobs.Watch (lines_job s all)))
 session_said commands.Loop s end lines = loop_of s.board s.signals end lines >>= λ job. Ok (Streams (jobs.Loop job))
 session_said (commands.Soak n) s end lines = Ok (Soaks n)
 
