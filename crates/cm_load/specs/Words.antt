@@ -1,5 +1,6 @@
 -- The words that are moved, and what is compared.
-use Rattle.std.specs.Prelude.{ℕ, zero, suc, ◌+◌, ◌*◌, ◌/◌, ◌%◌, ◌^◌, bit_and, nat_eq, List, [], ◌∷◌, ◌++◌, if◌then◌else◌}
+use Rattle.std.specs.Prelude.{ℕ, zero, suc, ◌+◌, ◌*◌, ◌/◌, ◌%◌, ◌^◌, bit_and, nat_eq, List, [], ◌∷◌, ◌++◌}
+use Rattle.std.specs.Prelude.{if◌then◌else◌}
 
 -- the word that is put at a place
 abbrev pub place_word : ℕ → ℕ → ℕ
