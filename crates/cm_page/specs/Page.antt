@@ -17,4 +17,5 @@ command_at n =
 
 -- the number is that of a status, which comes with this text for a command and a job, as in the program
 abbrev pub Answered : Option Command → ℕ → List ℕ → List ℕ → Type 0
-Answered called number job text = (status : Status) × (number ≡ number_of status) × Concludes status (outcome_of called job) (Some []) (Some text)
+Answered called number job text =
+    (status : Status) × (number ≡ number_of status) × Concludes status (outcome_of called job) (Some []) (Some text)
