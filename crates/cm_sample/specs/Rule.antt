@@ -1,5 +1,6 @@
 -- How the word at a place of a buffer is munged.
-use Rattle.std.specs.Prelude.{◌≡◌, ℕ, suc, ◌%◌, ◌≤◌, Bool, List, [], ◌∷◌, length, slice_get, Option, Some, None, if◌then◌else◌}
+use Rattle.std.specs.Prelude.{◌≡◌, ℕ, suc, ◌%◌, ◌≤◌, Bool, List, [], ◌∷◌, length, slice_get, Option, Some, None}
+use Rattle.std.specs.Prelude.{if◌then◌else◌}
 use Rattle.cm_sample.specs.Munging.{munged, unmunged, MayShift}
 use Rattle.cm_sample.specs.declared.rule.MungeItem.{MungeItem}
 
@@ -24,7 +25,8 @@ item_word_if out (Some item) word = item_word out item word
 
 -- the munged word of a place, by the item of the place modulo their number
 abbrev pub munged_word : RuleText → ℕ → ℕ → ℕ
-munged_word rule place word = if rule.raw then word else item_word_if rule.out (slice_get rule.items (place % length rule.items)) word
+munged_word rule place word =
+    if rule.raw then word else item_word_if rule.out (slice_get rule.items (place % length rule.items)) word
 
 -- a rule that can be applied
 pub record IsRule (rule : RuleText) : Type 0 where
