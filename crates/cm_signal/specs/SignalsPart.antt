@@ -1,6 +1,7 @@
 -- The signals part of a text.
-use Rattle.std.specs.Prelude.{ℕ, ℤ, zero, suc, ◌+◌, Bool, true, ◌&&◌, nat_le, nat_lt, int_le, List, [], ◌∷◌, ◌++◌, length}
-use Rattle.std.specs.Prelude.{drop, replicate, slice_get, slice_set, Option, Some, None, codes, Result, Ok, Err, if◌then◌else◌}
+use Rattle.std.specs.Prelude.{ℕ, ℤ, zero, suc, ◌+◌, Bool, true, ◌&&◌, nat_le, nat_lt, int_le, List, [], ◌∷◌, ◌++◌}
+use Rattle.std.specs.Prelude.{length, drop, replicate, slice_get, slice_set, Option, Some, None, codes, Result, Ok, Err}
+use Rattle.std.specs.Prelude.{if◌then◌else◌}
 use Rattle.std.specs.List.{before_first, list_all, list_any, position_or_len}
 use Rattle.cm_base.specs.Lines.{LineText}
 use Rattle.cm_base.specs.Numbers.{number_of}
@@ -29,11 +30,13 @@ level_channels (Some sub) = if has_levels sub.kind then sub.channels else 0
 
 -- the place of a subdevice with levels
 abbrev pub input_word : List SubText → List ℕ → Result ℕ Fault
-input_word subs word = number_below (length subs) word >>= λ sub. limited (nat_lt 0 (level_channels (slice_get subs sub))) sub
+input_word subs word =
+    number_below (length subs) word >>= λ sub. limited (nat_lt 0 (level_channels (slice_get subs sub))) sub
 
 -- a channel with levels, by the subdevice's place and its own number
 abbrev pub channel_words : List SubText → List ℕ → List ℕ → Result (ℕ × ℕ) Fault
-channel_words subs sub chan = input_word subs sub >>= λ s. number_below (level_channels (slice_get subs s)) chan >>= λ c. Ok (s, c)
+channel_words subs sub chan =
+    input_word subs sub >>= λ s. number_below (level_channels (slice_get subs s)) chan >>= λ c. Ok (s, c)
 
 -- a line that gives a channel its wave
 abbrev pub wave_said : ℕ × ℕ → Wave → Said
@@ -65,7 +68,8 @@ saw_words subs sub chan words =
     signed_number w.0 >>= λ low. signed_number w.1 >>= λ high. period_word w.2 >>= λ period.
     Ok (wave_said at (waves.Saw low high period))
 
--- the channel, the period and the levels of a wave whose levels each last one period, of which at most so many may stand
+-- the channel, the period and the levels of a wave whose levels each last one period,
+-- of which at most so many may stand
 abbrev pub levels_words : ℕ → List SubText → List ℕ → List ℕ → Form ((ℕ × ℕ) × ℕ × List ℤ)
 levels_words most subs sub chan words =
     one_and_more words >>= λ w. channel_words subs sub chan >>= λ at.
@@ -121,12 +125,16 @@ every_numbers version words =
 
 -- rises at equal distances
 abbrev pub every_words : ℕ → Form Said
-every_words version words = every_numbers version words >>= λ n. Ok (said.Edges slopes.Rise n.0 (progression n.1 n.2 n.3))
+every_words version words =
+    every_numbers version words >>= λ n. Ok (said.Edges slopes.Rise n.0 (progression n.1 n.2 n.3))
 
 -- `int SUB T ARG`
 abbrev pub int_words : List SubText → ℕ → Form Said
 int_words subs horizon words =
-    three_words words >>= λ w. number_below (length subs) w.0 >>= λ sub. number_in 0 horizon w.1 >>= λ time. number_in 0 4294967295 w.2 >>= λ arg.
+    three_words words >>= λ w.
+    number_below (length subs) w.0 >>= λ sub.
+    number_in 0 horizon w.1 >>= λ time.
+    number_in 0 4294967295 w.2 >>= λ arg.
     Ok (said.Int (record { sub = sub; time = time; arg = arg }))
 
 -- the lines of the part, by their first word
@@ -157,7 +165,9 @@ rises_from least (time ∷ times) = nat_le least time && rises_from (time + 1) t
 
 -- none of these edges is above the horizon, and all rises and falls together aren't too many
 abbrev pub has_room : SignalsText → List ℕ → Bool
-has_room s times = list_all (λ time. nat_le time s.horizon) times && nat_le (edge_count s.edges + edge_count s.falls + length times) 100000
+has_room s times =
+    list_all (λ time. nat_le time s.horizon) times
+    && nat_le (edge_count s.edges + edge_count s.falls + length times) 100000
 
 -- a record's levels and all recorded ones before it aren't too many together
 abbrev pub has_record_room : SignalsText → Wave → Bool
@@ -166,7 +176,8 @@ has_record_room s wave = true
 
 -- whether a channel may have this wave, where there is room for it
 abbrev pub checked_own : SignalsText → WaveAt → Result (Unit {0}) Fault
-checked_own s w = if list_any (is_at w.sub w.chan) s.waves then Err Double else (if is_fine w.wave then Ok tt else Err Bad)
+checked_own s w =
+    if list_any (is_at w.sub w.chan) s.waves then Err Double else (if is_fine w.wave then Ok tt else Err Bad)
 
 -- whether a line's wave may stand after those before it
 abbrev pub checked_wave : SignalsText → WaveAt → Result (Unit {0}) Fault
@@ -174,7 +185,8 @@ checked_wave s w = if has_record_room s w.wave then checked_own s w else Err Lim
 
 -- whether a line's edges may stand after those before them with the same slope
 abbrev pub checked_edges : SignalsText → Slope → ℕ → List ℕ → Result (Unit {0}) Fault
-checked_edges s slope line times = if has_room s times then (if rises_from 0 (times_at s slope line ++ times) then Ok tt else Err Bad) else Err Limit
+checked_edges s slope line times =
+    if has_room s times then (if rises_from 0 (times_at s slope line ++ times) then Ok tt else Err Bad) else Err Limit
 
 -- whether a line's trigger may stand after those before it
 abbrev pub checked_int : SignalsText → Result (Unit {0}) Fault
