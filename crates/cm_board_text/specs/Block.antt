@@ -14,12 +14,17 @@ use Rattle.cm_board_text.specs.Reading.{completed}
 -- the limits of times are multiples of the tick
 abbrev pub are_on_tick : SubText → Bool
 are_on_tick s =
-    s.scan_min % s.timers.tick == 0 && s.scan_max % s.timers.tick == 0 && s.conv_min % s.timers.tick == 0 && s.conv_max % s.timers.tick == 0
+    s.scan_min % s.timers.tick == 0
+    && s.scan_max % s.timers.tick == 0
+    && s.conv_min % s.timers.tick == 0
+    && s.conv_max % s.timers.tick == 0
 
 -- but in the wider texts; and the board can make a time between those of a scan, and one between those of a conversion
 abbrev pub are_times_ok : SubText → Bool
 are_times_ok s =
-    (is_wide s.version || are_on_tick s) && nat_le (up s.timers s.scan_min) s.scan_max && nat_le (up s.timers s.conv_min) s.conv_max
+    (is_wide s.version || are_on_tick s)
+    && nat_le (up s.timers s.scan_min) s.scan_max
+    && nat_le (up s.timers s.conv_min) s.conv_max
 
 -- where scans may be timed, the longest that the board can make holds so much
 abbrev pub fits_timed : SubText → ℕ → Bool
@@ -33,7 +38,8 @@ is_list_ok s =
 
 -- the longest scan has the time that the board needs for the entries of the longest list
 abbrev pub is_entries_ok : SubText → Bool
-is_entries_ok s = nat_le (s.least_scan.per_entry * s.list_max) s.scan_max && fits_timed s (s.least_scan.per_entry * s.list_max)
+is_entries_ok s =
+    nat_le (s.least_scan.per_entry * s.list_max) s.scan_max && fits_timed s (s.least_scan.per_entry * s.list_max)
 
 -- a trigger that may be external has a line
 abbrev pub has_line : ℕ → ℕ → Bool

@@ -41,7 +41,8 @@ block_lines = before_first ends_block
 abbrev pub lines_after : List LineText → List LineText
 lines_after lines = drop (position_or_len ends_block lines) lines
 
--- the subdevice that a head and the lines after it describe on a board of this version, with `count` blocks before and the line `stop` after
+-- the subdevice that a head and the lines after it describe on a board of this version,
+-- with `count` blocks before and the line `stop` after
 abbrev pub block_at : ℕ → ℕ → ℕ → LineText → List LineText → Result SubText Refused
 block_at version stop count line inside =
     at_line line.number (head_after version count line) >>= λ head.
@@ -50,7 +51,8 @@ block_at version stop count line inside =
 
 -- the subdevice that a head and the lines after it up to the block's end describe
 abbrev pub next_block : ℕ → ℕ → ℕ → LineText → List LineText → Result SubText Refused
-next_block version end count line rest = block_at version (next_number end (lines_after rest)) count line (block_lines rest)
+next_block version end count line rest =
+    block_at version (next_number end (lines_after rest)) count line (block_lines rest)
 
 -- the subdevices of the blocks up to the `signals` line, after `count` others
 abbrev pub blocks_from : ℕ → ℕ → ℕ → List LineText → Result (List SubText) Refused
@@ -88,7 +90,9 @@ begins_wide (line ∷ lines) = begins (codes "zendrouz") line
 
 -- the version that the first line says
 abbrev pub version_of : ℕ → List LineText → Result ℕ Refused
-version_of end lines = if begins_wide lines then fixed end (codes "zendrouz") wide_words lines else fixed end (codes "comedi") version_words lines
+version_of end lines =
+    if begins_wide lines then fixed end (codes "zendrouz") wide_words lines
+    else fixed end (codes "comedi") version_words lines
 
 -- the board's name, of at most 32 bytes
 abbrev pub name_words : Form (List ℕ)

@@ -22,7 +22,8 @@ points_from n (c ∷ text) = if starts_with nat_eq (c ∷ text) (codes "..") the
 -- all numbers from one to another
 abbrev pub span_of : List ℕ → List ℕ → Result Divisors Fault
 span_of first last =
-    if is_some (points_from 0 last) then Err BadLine else divisor_of first >>= λ a. divisor_of last >>= λ b. Ok (divisors_of.Span a b)
+    if is_some (points_from 0 last) then Err BadLine
+    else divisor_of first >>= λ a. divisor_of last >>= λ b. Ok (divisors_of.Span a b)
 
 -- at most 32 numbers with commas between them
 abbrev pub listed_of : List ℕ → Result Divisors Fault

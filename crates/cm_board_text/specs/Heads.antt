@@ -22,4 +22,7 @@ channels_word version kind = number_in 1 (most_in version 64 256)
 -- what the words after `subdevice` say on a board of this version
 abbrev pub head_words : ℕ → Form Head
 head_words version words =
-    two_words words >>= λ w. kind_word w.0 >>= λ k. channels_word version k w.1 >>= λ n. Ok (record { version = version; kind = k; channels = n })
+    two_words words >>= λ w.
+    kind_word w.0 >>= λ k.
+    channels_word version k w.1 >>= λ n.
+    Ok (record { version = version; kind = k; channels = n })

@@ -1,6 +1,6 @@
 -- What a table keeps.
-use Rattle.std.specs.Prelude.{ℕ, ◌+◌, Bool, true, false, not, ◌&&◌, ◌||◌, ◌==◌, nat_le, nat_lt, Option, Some, None, codes, if◌then◌else◌}
-use Rattle.std.specs.Prelude.{List, [], ◌∷◌, length}
+use Rattle.std.specs.Prelude.{ℕ, ◌+◌, Bool, true, false, not, ◌&&◌, ◌||◌, ◌==◌, nat_le, nat_lt, Option, Some, None}
+use Rattle.std.specs.Prelude.{codes, if◌then◌else◌, List, [], ◌∷◌, length}
 use Rattle.std.specs.List.{list_all}
 use Rattle.std.specs.Str.{bytes_eq}
 use Rattle.cm_base.specs.Lines.{is_comment, is_word}
@@ -35,7 +35,8 @@ is_proper other = true
 
 -- a word that begins no block, no `signals` part and no comment
 abbrev pub is_key : List ℕ → Bool
-is_key key = not (is_comment (key ∷ [])) && not (bytes_eq key (codes "subdevice")) && not (bytes_eq key (codes "signals"))
+is_key key =
+    not (is_comment (key ∷ [])) && not (bytes_eq key (codes "subdevice")) && not (bytes_eq key (codes "signals"))
 
 -- a form begins with such a word
 abbrev pub is_headed : List WordText → Bool
@@ -89,6 +90,7 @@ has_form t n form values =
     nat_lt form (length t.forms) && (form_at form t.forms).row == n && list_all is_constant (form_at form t.forms).words
     && keeps some_head (form_at form t.forms) values
 
+-- what holds without a line could stand as a line of the row: a fixed one, or one with that number
 abbrev pub keeps_default : TableText → ℕ → Absent → Bool
 keeps_default t n (absents.Stands form) = has_form t n form []
 keeps_default t n (absents.Says form k) = has_form t n form (values_of.Number k ∷ [])
@@ -99,12 +101,14 @@ abbrev pub is_nothing : Absent → Bool
 is_nothing absents.Nothing = true
 is_nothing other = false
 
--- rows of a table, counted from `n`: there may be a line of each, and as many in the wider texts; what holds without one is a line, and about
--- channels nothing does
+-- rows of a table, counted from `n`: there may be a line of each, and as many in the wider texts;
+-- what holds without one is a line, and about channels nothing does
 abbrev pub are_rows : TableText → ℕ → List Row → Bool
 are_rows t n [] = true
 are_rows t n (row ∷ rows) =
-    (if row.of_channel then is_nothing row.absent else keeps_default t n row.absent) && nat_le 1 row.most && nat_le row.most row.wide
+    (if row.of_channel then is_nothing row.absent else keeps_default t n row.absent)
+    && nat_le 1 row.most
+    && nat_le row.most row.wide
     && are_rows t (n + 1) rows
 
 -- a table

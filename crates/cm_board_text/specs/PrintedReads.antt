@@ -12,8 +12,11 @@ BeginsSignals text = IsTrue (is_signals (line_text (1, before_first is_line_feed
 
 -- with a `signals` line after it, the text is read as this board, up to that line
 abbrev pub ReadsAs : BoardText → List ℕ → Type 0
-ReadsAs board text = (more : List ℕ) (end : ℕ) → BeginsSignals more → board_of end (lines_of (text ++ more)) ≡ Ok (board, length (board_lines board))
+ReadsAs board text =
+    (more : List ℕ) (end : ℕ) → BeginsSignals more
+    → board_of end (lines_of (text ++ more)) ≡ Ok (board, length (board_lines board))
 
 -- what is printed of a board is read as the same board
 abbrev pub PrintedReads : Type 0
-PrintedReads = (board : BoardText) → IsSoundBoard board → All IsSoundSub board.subs → ReadsAs board (printed_board board)
+PrintedReads =
+    (board : BoardText) → IsSoundBoard board → All IsSoundSub board.subs → ReadsAs board (printed_board board)

@@ -1,6 +1,6 @@
 -- What the lines of a block say, by a table.
-use Rattle.std.specs.Prelude.{ℕ, ◌+◌, Bool, true, ◌&&◌, ◌==◌, nat_lt, Option, Some, None, option_to_list, Result, Ok, Err, if◌then◌else◌}
-use Rattle.std.specs.Prelude.{List, [], ◌∷◌, ◌++◌, length}
+use Rattle.std.specs.Prelude.{ℕ, ◌+◌, Bool, true, ◌&&◌, ◌==◌, nat_lt, Option, Some, None, option_to_list, Result, Ok}
+use Rattle.std.specs.Prelude.{Err, if◌then◌else◌, List, [], ◌∷◌, ◌++◌, length}
 use Rattle.std.specs.List.{list_any}
 use Rattle.std.specs.Str.{bytes_eq}
 use Rattle.cm_base.specs.Lines.{LineText}
@@ -13,8 +13,8 @@ use Rattle.cm_board.specs.Items.{ItemText}
 use Rattle.cm_board.specs.Kept.{set_in, slots}
 use Rattle.cm_board.specs.Rules.{keeps_rule}
 use Rattle.cm_board.specs.Slots.{Slot, lacks, of_row, takes, whole}
-use Rattle.cm_board.specs.Table.{FormText, TableText, WordText, Fixed, Number, Signed, Sources, Source, Name, Channel, Divisors}
-use Rattle.cm_board.specs.Table.{may_stand, place_of, row_at}
+use Rattle.cm_board.specs.Table.{FormText, TableText, WordText, Fixed, Number, Signed, Sources, Source, Name, Channel}
+use Rattle.cm_board.specs.Table.{Divisors, may_stand, place_of, row_at}
 use Rattle.cm_board.specs.Versions.{most_in}
 use Rattle.cm_board.specs.declared.table.Head.{Head}
 use Rattle.cm_board.specs.declared.table.Row.{Row}
@@ -56,7 +56,9 @@ is_begun rows head ws form = begins_form form.words ws && may_stand head (row_at
 
 -- the form of these words; where they only begin one, words are missing or too many
 abbrev pub form_of_words : TableText → Head → List (List ℕ) → Result Found Fault
-form_of_words t head ws = or_fault (if list_any (is_begun t.rows head ws) t.forms then BadLine else Unknown) (found_from t.rows head ws 0 t.forms)
+form_of_words t head ws =
+    or_fault (if list_any (is_begun t.rows head ws) t.forms then BadLine else Unknown)
+    (found_from t.rows head ws 0 t.forms)
 
 -- the form of a line
 abbrev pub form_of : TableText → Head → LineText → Result Found Fault
@@ -70,7 +72,8 @@ place_from n word (name ∷ names) = if bytes_eq word name then Some n else plac
 -- what a word says
 abbrev pub read_word : Head → WordText → List ℕ → Result (Option Value) Fault
 read_word head (Fixed key) w = Ok None
-read_word head (Number l) w = number_in l.least (most_in head.version l.most l.wide) w >>= λ n. Ok (Some (values_of.Number n))
+read_word head (Number l) w =
+    number_in l.least (most_in head.version l.most l.wide) w >>= λ n. Ok (Some (values_of.Number n))
 read_word head Signed w = signed_number w >>= λ z. Ok (Some (values_of.Signed z))
 read_word head (Sources sets) w = sources_in (set_in head.version sets) w >>= λ n. Ok (Some (values_of.Number n))
 read_word head Source w = source_in 511 w >>= λ n. Ok (Some (values_of.Number n))
@@ -82,7 +85,8 @@ read_word head Divisors w = divisors_word w >>= λ d. Ok (Some (values_of.Diviso
 abbrev pub values_after : Head → List Value → List WordText → List (List ℕ) → Result (List Value) Fault
 values_after head before [] ws = Ok before
 values_after head before (kind ∷ kinds) [] = Ok before
-values_after head before (kind ∷ kinds) (w ∷ ws) = read_word head kind w >>= λ v. values_after head (before ++ option_to_list v) kinds ws
+values_after head before (kind ∷ kinds) (w ∷ ws) =
+    read_word head kind w >>= λ v. values_after head (before ++ option_to_list v) kinds ws
 
 -- how many lines of a row there may be in texts of a version
 abbrev pub most_of : ℕ → Row → ℕ
@@ -92,13 +96,17 @@ most_of version row = most_in version row.most row.wide
 abbrev pub admitted : Head → List Row → List ItemText → Found → List Value → Result ItemText Fault
 admitted head rows before f values =
     if nat_lt (length (of_row (place_of rows f.form values) before)) (most_of head.version (row_at f.form.row rows))
-    then (if keeps_rule f.form.rule values then Ok (record { row = place_of rows f.form values; form = f.at; values = values }) else Err Bad)
+    then (if keeps_rule f.form.rule values
+    then Ok (record { row = place_of rows f.form values; form = f.at; values = values })
+    else Err Bad)
     else Err (if most_of head.version (row_at f.form.row rows) == 1 then Double else Limit)
 
 -- what a line says after the lines before it
 abbrev pub item_after : TableText → Head → List ItemText → LineText → Result ItemText Fault
 item_after t head before line =
-    form_of t head line >>= λ f. values_after head [] f.form.words line.words >>= λ values. admitted head t.rows before f values
+    form_of t head line >>= λ f.
+    values_after head [] f.form.words line.words >>= λ values.
+    admitted head t.rows before f values
 
 -- what the lines of a block say
 abbrev pub items_said : TableText → Head → List LineText → Result (List ItemText) Refused

@@ -22,4 +22,6 @@ pub record IsFirstFault (end : ℕ) (lines : List LineText) (refused : Refused) 
 
 -- each refusal of a board part is one of the first line that fails
 abbrev pub FirstIsRefused : Type 0
-FirstIsRefused = (end : ℕ) (lines : List LineText) (refused : Refused) → board_of end lines ≡ Err refused → IsFirstFault end lines refused
+FirstIsRefused =
+    (end : ℕ) (lines : List LineText) (refused : Refused) → board_of end lines ≡ Err refused
+    → IsFirstFault end lines refused
