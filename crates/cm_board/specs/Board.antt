@@ -1,6 +1,7 @@
 -- What a board's subdevices promise.
-use Rattle.std.specs.Prelude.{◌≡◌, ◌≤◌, ◌<◌, ◌*◌, ◌^◌, ◌%◌, ◌/◌, ◌-◌, ◌+◌, ℕ, Bool, true, false, not, ◌&&◌, ◌||◌, ◌==◌, nat_le, nat_lt, pos, ◌<ℤ◌}
-use Rattle.std.specs.Prelude.{List, [], ◌∷◌, length, slice_index_or, IsTrue, if◌then◌else◌, Option, Some, None, option_to_list}
+use Rattle.std.specs.Prelude.{◌≡◌, ◌≤◌, ◌<◌, ◌*◌, ◌^◌, ◌%◌, ◌/◌, ◌-◌, ◌+◌, ℕ, Bool, true, false, not, ◌&&◌, ◌||◌, ◌==◌}
+use Rattle.std.specs.Prelude.{nat_le, nat_lt, pos, ◌<ℤ◌, List, [], ◌∷◌, length, slice_index_or, IsTrue, if◌then◌else◌}
+use Rattle.std.specs.Prelude.{Option, Some, None, option_to_list}
 use Rattle.std.specs.Option.{is_some, unwrap_or}
 use Rattle.std.specs.List.{All, list_all, list_any, range_with_len}
 use Rattle.cm_base.specs.Lines.{is_printable}
@@ -29,7 +30,8 @@ pub use Rattle.cm_board.specs.Versions.{is_wide, most_in}
 abbrev pub each_nanosecond : TimersText
 each_nanosecond = record { tick = 1; clock = [] }
 
--- a subdevice of a kind that takes no commands, with this many channels, this greatest code and these ranges, and nothing else
+-- a subdevice of a kind that takes no commands, with this many channels,
+-- this greatest code and these ranges, and nothing else
 abbrev pub idle_sub : Kind → ℕ → ℕ → List Range → SubText
 idle_sub kind channels maxdata ranges = record {
   version = 1;
@@ -189,8 +191,19 @@ takes_any_scan l = l.per_entry == 0 && not l.holds
 -- the numbers of a subdevice that takes no commands
 abbrev pub is_idle : SubText → Bool
 is_idle s =
-    are_empty s.masks && s.timers.tick == 1 && length s.timers.clock == 0 && s.scan_min == 1 && s.scan_max == 1 && s.conv_min == 1 && s.conv_max == 1
-    && s.list_max == 1 && s.scans_max == 1 && s.lines == 0 && s.buffer == 1 && rounds_by_flags s.rounding && takes_any_scan s.least_scan
+    are_empty s.masks
+    && s.timers.tick == 1
+    && length s.timers.clock == 0
+    && s.scan_min == 1
+    && s.scan_max == 1
+    && s.conv_min == 1
+    && s.conv_max == 1
+    && s.list_max == 1
+    && s.scans_max == 1
+    && s.lines == 0
+    && s.buffer == 1
+    && rounds_by_flags s.rounding
+    && takes_any_scan s.least_scan
     && takes_any_list s.lists
     && length s.forbidden == 0 && not s.invert && not (is_some s.fifo)
 
@@ -212,7 +225,8 @@ pub record AreOnTick (tick least most : ℕ) : Type 0 where
   pub least_ticks : least % tick ≡ 0
   pub most_ticks : most % tick ≡ 0
 
--- two times in their order, with one between them that the board can make; both are multiples of the tick but in the wider texts
+-- two times in their order, with one between them that the board can make;
+-- both are multiples of the tick but in the wider texts
 pub record AreTimes (sub : SubText) (least most : ℕ) : Type 0 where
   pub some : 1 ≤ least
   pub order : least ≤ most
@@ -224,8 +238,8 @@ pub record AreTimes (sub : SubText) (least most : ℕ) : Type 0 where
 abbrev pub FitsTimed : SubText → ℕ → Type 0
 FitsTimed sub time = IsTrue (allows sub.masks.scan_begin timer) → time ≤ down sub.timers sub.scan_max
 
--- the longest scan holds the least conversions of the longest list, and where both are timed the longest that the board can make those that
--- it can make
+-- the longest scan holds the least conversions of the longest list,
+-- and where both are timed the longest that the board can make those that it can make
 pub record HoldsList (sub : SubText) : Type 0 where
   pub any : sub.conv_min * sub.list_max ≤ sub.scan_max
   pub timed : IsTrue (allows sub.masks.convert timer) → FitsTimed sub (up sub.timers sub.conv_min * sub.list_max)
@@ -243,7 +257,9 @@ HasLine lines mask = IsTrue (allows mask ext) → 1 ≤ lines
 -- what the kind asks: channels, ranges, commands and a FIFO, and nothing of an unused subdevice
 abbrev pub fits_kind : SubText → Bool
 fits_kind s =
-    has_channels s.version s.kind s.channels && (is_unused s.kind || nat_le 1 (length s.ranges)) && (not (is_some s.fifo) || may_fifo s.kind)
+    has_channels s.version s.kind s.channels
+    && (is_unused s.kind || nat_le 1 (length s.ranges))
+    && (not (is_some s.fifo) || may_fifo s.kind)
     && (not (is_unused s.kind) || is_bare s)
 
 -- a subdevice takes commands by its kind, and by all of its triggers or none
@@ -266,7 +282,8 @@ has_text s = fits_kind s && fits_commands s && fits_lines s
 -- a channel of a digital subdevice has one bit, and one whose words are swapped at most 16
 abbrev pub is_channel_ok : SubText → ℕ → Bool
 is_channel_ok s chan =
-    (not (is_digital s.kind) || maxdata_of s chan == 1) && (not (swaps (munge_of s chan)) || nat_le (maxdata_of s chan) 65535)
+    (not (is_digital s.kind) || maxdata_of s chan == 1)
+    && (not (swaps (munge_of s chan)) || nat_le (maxdata_of s chan) 65535)
 
 -- that holds of each channel
 unfoldable pub is_bits_ok : SubText → Bool

@@ -1,6 +1,7 @@
 -- The lines of a block: their rows and their forms.
 use Rattle.std.specs.Prelude.{ℕ, List, [], ◌∷◌, codes, true, false}
-use Rattle.cm_board.specs.Table.{FormText, TableText, WordText, Fixed, Number, Signed, Sources, Source, Name, Channel, Divisors}
+use Rattle.cm_board.specs.Table.{FormText, TableText, WordText, Fixed, Number, Signed, Sources, Source, Name, Channel}
+use Rattle.cm_board.specs.Table.{Divisors}
 use Rattle.cm_board.specs.declared.lines.TheConstants as lines
 use Rattle.cm_board.specs.declared.table.Absent.{Absent}
 use Rattle.cm_board.specs.declared.table.Absent.TheVariants as absents
@@ -36,20 +37,23 @@ by_version first second wide = record { first = first; second = second; wide = w
 abbrev pub in_each : ℕ → Sets
 in_each set = by_version set set set
 
--- start: now, ext or int; scan_begin: follow, timer or ext; convert: now, timer or ext, and follow; scan_end: count;
--- stop: none or count, and ext
+-- the sources that may start a command: now, ext or int
 abbrev pub start_sets : Sets
 start_sets = in_each 194
 
+-- those that may begin its scans: follow, timer or ext
 abbrev pub scan_begin_sets : Sets
 scan_begin_sets = in_each 84
 
+-- those that may start its conversions: now, timer or ext, and follow in the wider texts
 abbrev pub convert_sets : Sets
 convert_sets = by_version 82 82 86
 
+-- the one that ends its scans: count
 abbrev pub scan_end_sets : Sets
 scan_end_sets = in_each 32
 
+-- those that may stop it: none or count, and ext but in version 1
 abbrev pub stop_sets : Sets
 stop_sets = by_version 33 97 97
 
@@ -57,7 +61,8 @@ stop_sets = by_version 33 97 97
 abbrev pub source_words : List WordText
 source_words =
     Fixed (codes "sources")
-    ∷ Sources start_sets ∷ Sources scan_begin_sets ∷ Sources convert_sets ∷ Sources scan_end_sets ∷ Sources stop_sets ∷ []
+    ∷ Sources start_sets ∷ Sources scan_begin_sets ∷ Sources convert_sets
+    ∷ Sources scan_end_sets ∷ Sources stop_sets ∷ []
 
 -- a trigger of a command
 abbrev pub field : WordText
@@ -65,11 +70,25 @@ field = Name (codes "start" ∷ codes "scan_begin" ∷ codes "convert" ∷ codes
 
 -- a line about all channels: how many there may be, since which version, in which blocks, and what holds without one
 abbrev pub of_all : ℕ → ℕ → Place → Absent → Row
-of_all most since place absent = record { most = most; wide = most; since = since; place = place; absent = absent; of_channel = false }
+of_all most since place absent = record {
+  most = most;
+  wide = most;
+  since = since;
+  place = place;
+  absent = absent;
+  of_channel = false;
+}
 
 -- a line about one channel: how many there may be of each, before the wider texts and in them
 abbrev pub of_each : ℕ → ℕ → Row
-of_each most wide = record { most = most; wide = wide; since = 2; place = places.Any; absent = absents.Nothing; of_channel = true }
+of_each most wide = record {
+  most = most;
+  wide = wide;
+  since = 2;
+  place = places.Any;
+  absent = absents.Nothing;
+  of_channel = true;
+}
 
 -- the ranges of all channels
 abbrev pub ranges : Row
@@ -141,7 +160,8 @@ board_forms =
     ∷ form lines.FIFO (Fixed (codes "fifo") ∷ from_to 2 4096 ∷ from_to 0 1000000000 ∷ []) rules_of.Even
     ∷ form lines.CLOCK (Fixed (codes "clock") ∷ Divisors ∷ []) rules_of.Ordered
     ∷ form lines.CLOCK (Fixed (codes "clock") ∷ Divisors ∷ Divisors ∷ []) rules_of.Ordered
-    ∷ form lines.ROUNDS (Fixed (codes "rounds") ∷ Name (codes "nearest" ∷ codes "down" ∷ codes "up" ∷ []) ∷ []) rules_of.Free
+    ∷ form lines.ROUNDS
+    (Fixed (codes "rounds") ∷ Name (codes "nearest" ∷ codes "down" ∷ codes "up" ∷ []) ∷ []) rules_of.Free
     ∷ form lines.HALF_DOWN (Fixed (codes "halfdown") ∷ []) rules_of.Free
     ∷ form lines.PER_ENTRY (Fixed (codes "perchan") ∷ from_to 1 4294967295 ∷ []) rules_of.Free
     ∷ form lines.HOLDS (Fixed (codes "scanfits") ∷ []) rules_of.Free
@@ -150,11 +170,16 @@ board_forms =
     ∷ form lines.SAME_REFERENCE (Fixed (codes "samearef") ∷ []) rules_of.Free
     ∷ form lines.SAME_POLARITY (Fixed (codes "samepolarity") ∷ []) rules_of.Free
     ∷ form lines.CHAN_BITS (Fixed (codes "chan") ∷ Channel ∷ Fixed (codes "bits") ∷ from_to 1 24 ∷ []) rules_of.Free
-    ∷ form lines.CHAN_MUNGE (Fixed (codes "chan") ∷ Channel ∷ Fixed (codes "munge") ∷ Fixed (codes "none") ∷ []) rules_of.Free
-    ∷ form lines.CHAN_MUNGE (Fixed (codes "chan") ∷ Channel ∷ Fixed (codes "munge") ∷ Fixed (codes "offset") ∷ []) rules_of.Free
-    ∷ form lines.CHAN_MUNGE (Fixed (codes "chan") ∷ Channel ∷ Fixed (codes "munge") ∷ Fixed (codes "swap16") ∷ []) rules_of.Free
-    ∷ form lines.CHAN_MUNGE (Fixed (codes "chan") ∷ Channel ∷ Fixed (codes "munge") ∷ Fixed (codes "left") ∷ from_to 1 8 ∷ []) rules_of.Free
-    ∷ form lines.CHAN_RANGE (Fixed (codes "chan") ∷ Channel ∷ Fixed (codes "range") ∷ Signed ∷ Signed ∷ from_to 0 2 ∷ []) rules_of.Below
+    ∷ form lines.CHAN_MUNGE
+    (Fixed (codes "chan") ∷ Channel ∷ Fixed (codes "munge") ∷ Fixed (codes "none") ∷ []) rules_of.Free
+    ∷ form lines.CHAN_MUNGE
+    (Fixed (codes "chan") ∷ Channel ∷ Fixed (codes "munge") ∷ Fixed (codes "offset") ∷ []) rules_of.Free
+    ∷ form lines.CHAN_MUNGE
+    (Fixed (codes "chan") ∷ Channel ∷ Fixed (codes "munge") ∷ Fixed (codes "swap16") ∷ []) rules_of.Free
+    ∷ form lines.CHAN_MUNGE
+    (Fixed (codes "chan") ∷ Channel ∷ Fixed (codes "munge") ∷ Fixed (codes "left") ∷ from_to 1 8 ∷ []) rules_of.Free
+    ∷ form lines.CHAN_RANGE
+    (Fixed (codes "chan") ∷ Channel ∷ Fixed (codes "range") ∷ Signed ∷ Signed ∷ from_to 0 2 ∷ []) rules_of.Below
     ∷ []
 
 -- the table

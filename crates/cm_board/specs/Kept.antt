@@ -1,12 +1,13 @@
 -- What the lines of a whole block keep.
-use Rattle.std.specs.Prelude.{ℕ, ◌-◌, ◌≡◌, Bool, true, false, not, ◌&&◌, ◌==◌, nat_le, nat_lt, bit_and, IsTrue, IsFalse, if◌then◌else◌}
-use Rattle.std.specs.Prelude.{List, [], ◌∷◌, length}
+use Rattle.std.specs.Prelude.{ℕ, ◌-◌, ◌≡◌, Bool, true, false, not, ◌&&◌, ◌==◌, nat_le, nat_lt, bit_and, IsTrue, IsFalse}
+use Rattle.std.specs.Prelude.{if◌then◌else◌, List, [], ◌∷◌, length}
 use Rattle.std.specs.List.{list_all}
 use Rattle.cm_base.specs.Words.{is_int}
 use Rattle.cm_board.specs.Items.{ItemText}
 use Rattle.cm_board.specs.Rules.{keeps_rule}
 use Rattle.cm_board.specs.Slots.{Slot, lacks, slots_from, takes, whole}
-use Rattle.cm_board.specs.Table.{FormText, TableText, WordText, Fixed, Number, Signed, Sources, Source, Name, Channel, Divisors}
+use Rattle.cm_board.specs.Table.{FormText, TableText, WordText, Fixed, Number, Signed, Sources, Source, Name, Channel}
+use Rattle.cm_board.specs.Table.{Divisors}
 use Rattle.cm_board.specs.Times.{are_divisors}
 use Rattle.cm_board.specs.Versions.{is_wide, most_in}
 use Rattle.cm_board.specs.Table.{form_at, laid, may_stand, place_of, row_at}
@@ -57,12 +58,15 @@ keeps head form values = are_kept head form.words values && keeps_rule form.rule
 
 -- a line of a form of the table, at the place of its row
 abbrev pub is_known : TableText → ItemText → Bool
-is_known t item = nat_lt item.form (length t.forms) && place_of t.rows (form_at item.form t.forms) item.values == item.row
+is_known t item =
+    nat_lt item.form (length t.forms) && place_of t.rows (form_at item.form t.forms) item.values == item.row
 
 -- a line that may stand in a block
 abbrev pub is_good : TableText → Head → ItemText → Bool
 is_good t head item =
-    is_known t item && may_stand head (row_at (form_at item.form t.forms).row t.rows) && keeps head (form_at item.form t.forms) item.values
+    is_known t item
+    && may_stand head (row_at (form_at item.form t.forms).row t.rows)
+    && keeps head (form_at item.form t.forms) item.values
 
 -- no more lines of a row than there may be in texts of a version
 abbrev pub is_few : ℕ → Slot → Bool
@@ -72,8 +76,8 @@ is_few version s = nat_le (length s.items) (most_in version s.row.most s.row.wid
 abbrev pub slots : TableText → Head → List ItemText → List Slot
 slots t head items = slots_from 0 (laid head.channels t.rows) items
 
--- the lines of a whole block: each may stand there, none too often, no needed one is missing, and those that hold without
--- standing there are among them, in the order in which they are printed
+-- the lines of a whole block: each may stand there, none too often, no needed one is missing,
+-- and those that hold without standing there are among them, in the order in which they are printed
 pub record IsWhole (t : TableText) (head : Head) (items : List ItemText) : Type 0 where
   pub good : IsTrue (list_all (is_good t head) items)
   pub few : IsTrue (list_all (is_few head.version) (slots t head items))

@@ -27,8 +27,8 @@ pub record ChanText : Type 0 where
   pub munge : Option Munge
   pub ranges : List Range
 
--- a subdevice as a plain record of numbers and lists: its kind and its board's version, what the lines of its block say,
--- and these lines themselves, in the order in which they are printed
+-- a subdevice as a plain record of numbers and lists: its kind and its board's version,
+-- what the lines of its block say, and these lines themselves, in the order in which they are printed
 pub record SubText : Type 0 where
   pub version : ℕ
   pub kind : Kind

@@ -1,5 +1,6 @@
 -- What the lines of a block say of its subdevice.
-use Rattle.std.specs.Prelude.{ℕ, ℤ, zero, suc, pos, ◌+◌, ◌-◌, ◌*◌, ◌^◌, ◌==◌, min, not, Bool, List, [], ◌∷◌, filter, length, map, Option, Some, None}
+use Rattle.std.specs.Prelude.{ℕ, ℤ, zero, suc, pos, ◌+◌, ◌-◌, ◌*◌, ◌^◌, ◌==◌, min, not, Bool, List, [], ◌∷◌, filter}
+use Rattle.std.specs.Prelude.{length, map, Option, Some, None}
 use Rattle.std.specs.List.{range_with_len}
 use Rattle.cm_board.specs.BoardTable.{board_rows}
 use Rattle.cm_board.specs.Items.{ItemText}
@@ -79,7 +80,11 @@ unit_of n = min 2 n
 -- the ends of a range and its unit, from a place on
 abbrev pub range_said : ℕ → ItemText → Range
 range_said k item =
-    record { min = signed_at k item.values; max = signed_at (k + 1) item.values; unit = unit_of (number_at (k + 2) item.values) }
+    record {
+      min = signed_at k item.values;
+      max = signed_at (k + 1) item.values;
+      unit = unit_of (number_at (k + 2) item.values);
+    }
 
 -- two triggers that may not have these sources together; a trigger is one of five
 abbrev pub forbid_said : ItemText → Forbid
@@ -157,7 +162,8 @@ munge_said first k item = munge_by_form (item.form - first) (number_at k item.va
 abbrev pub set_said : List ItemText → ℕ → ChanText
 set_said items chan = record {
   chan = chan;
-  maxdata = first_of (map (λ item. greatest (number_at 1 item.values)) (of_row (channel_place chan lines.CHAN_BITS) items));
+  maxdata =
+      first_of (map (λ item. greatest (number_at 1 item.values)) (of_row (channel_place chan lines.CHAN_BITS) items));
   munge = first_of (map (munge_said lines.CHAN_MUNGE_NONE 1) (of_row (channel_place chan lines.CHAN_MUNGE) items));
   ranges = map (range_said 1) (of_row (channel_place chan lines.CHAN_RANGE) items);
 }

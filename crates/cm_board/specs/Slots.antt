@@ -40,6 +40,7 @@ takes slots = list_any is_used slots
 abbrev pub lacks_line : Head → Bool → Slot → Bool
 lacks_line head takes s = needs head takes s.row && is_empty s.items
 
+-- some needed line of a block is missing
 abbrev pub lacks : Head → Bool → List Slot → Bool
 lacks head takes slots = list_any (lacks_line head takes) slots
 
@@ -55,7 +56,8 @@ has_default head takes row = may_stand head row && (takes || not (is_command row
 
 -- the lines of a row, or the one that holds without them
 abbrev pub filled : Head → Bool → Slot → List ItemText
-filled head takes s = if is_empty s.items then (if has_default head takes s.row then default_of s.at s.row.absent else []) else s.items
+filled head takes s =
+    if is_empty s.items then (if has_default head takes s.row then default_of s.at s.row.absent else []) else s.items
 
 -- the lines of a block in the order of its rows, with those that hold without standing there
 abbrev pub whole : Head → Bool → List Slot → List ItemText

@@ -1,5 +1,6 @@
 -- A table of lines: its rows, and the forms in which they are written.
-use Rattle.std.specs.Prelude.{ℕ, zero, suc, ◌+◌, ◌*◌, Bool, true, false, ◌&&◌, nat_le, List, [], ◌∷◌, ◌++◌, length, map, flat_map, if◌then◌else◌}
+use Rattle.std.specs.Prelude.{ℕ, zero, suc, ◌+◌, ◌*◌, Bool, true, false, ◌&&◌, nat_le, List, [], ◌∷◌, ◌++◌, length, map}
+use Rattle.std.specs.Prelude.{flat_map, if◌then◌else◌}
 use Rattle.std.specs.List.{range_with_len}
 use Rattle.cm_board.specs.Rules.{admits}
 use Rattle.cm_board.specs.declared.table.Absent.{Absent}
@@ -19,8 +20,8 @@ use Rattle.cm_board.specs.declared.table.Value.TheVariants as values_of
 use Rattle.cm_board.specs.declared.table.Word.{Word}
 use Rattle.cm_board.specs.declared.table.Word.TheVariants as words_of
 
--- what a word has to be: this very word, a number within limits, a signed number, sources of a set by the version, one source,
--- one of some names, a channel, or divisors
+-- what a word has to be: this very word, a number within limits, a signed number,
+-- sources of a set by the version, one source, one of some names, a channel, or divisors
 pub data WordText : Type 0 where
   Fixed : List ℕ → WordText
   Number : Limits → WordText
@@ -81,14 +82,16 @@ form_at n [] = no_form
 form_at zero (form ∷ forms) = form
 form_at (suc n) (form ∷ forms) = form_at n forms
 
--- a row as it is laid out for the subdevice as a whole, and for one channel
+-- a row as it is laid out for the subdevice as a whole: one of channels takes no place there
 abbrev pub own_row : Row → Row
 own_row row = if row.of_channel then no_row else row
 
+-- a row as it is laid out for one channel: only one of channels has a place there
 abbrev pub channel_row : Row → Row
 channel_row row = if row.of_channel then row else no_row
 
--- the rows laid out for a block in the order in which lines are printed: once for the subdevice, then once for each channel
+-- the rows laid out for a block in the order in which lines are printed:
+-- once for the subdevice, then once for each channel
 abbrev pub laid : ℕ → List Row → List Row
 laid channels rows = map own_row rows ++ flat_map (λ chan. map channel_row rows) (range_with_len 0 channels)
 

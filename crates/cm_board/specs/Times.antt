@@ -1,6 +1,6 @@
 -- The times that the timers of a board can make.
-use Rattle.std.specs.Prelude.{ℕ, zero, suc, ◌+◌, ◌-◌, ◌/◌, ◌%◌, ◌^◌, Bool, true, ◌&&◌, ◌==◌, nat_le, nat_lt, List, [], ◌∷◌, length}
-use Rattle.std.specs.Prelude.{◌≡◌, ◌<◌, ◌≤◌, ◌⊎◌, IsTrue, if◌then◌else◌}
+use Rattle.std.specs.Prelude.{ℕ, zero, suc, ◌+◌, ◌-◌, ◌/◌, ◌%◌, ◌^◌, Bool, true, ◌&&◌, ◌==◌, nat_le, nat_lt, List, []}
+use Rattle.std.specs.Prelude.{◌∷◌, length, ◌≡◌, ◌<◌, ◌≤◌, ◌⊎◌, IsTrue, if◌then◌else◌}
 use Rattle.std.specs.List.{list_all, list_any, range_with_len}
 use Rattle.cm_board.specs.declared.board.Divisors.{Divisors}
 use Rattle.cm_board.specs.declared.board.Divisors.TheVariants as divisors_of
