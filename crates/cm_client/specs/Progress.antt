@@ -33,7 +33,8 @@ abbrev pub Accepts : (ℕ → ℕ → Type 0) → RingConstants → Type 0
 Accepts accepts ring = (place : ℕ) → place < length ring.samples → accepts place (munged_at ring place)
 
 -- all samples that the reader has released were handed over, and each sample of its ring may be
-pub record HasAll (count : ℕ) (made : List ℕ) (makes : List ℕ → List ℕ) (may : ℕ → ℕ → Type 0) (r : Reading) : Type 0 where
+pub record HasAll
+    (count : ℕ) (made : List ℕ) (makes : List ℕ → List ℕ) (may : ℕ → ℕ → Type 0) (r : Reading) : Type 0 where
   pub none_mapped : r.mapped ≡ 0
   pub are : made ≡ makes (first_munged r.ring r.part.released)
   pub counted : count ≡ r.part.released
@@ -61,4 +62,5 @@ pub record IsReadToEnd (old new : Reading) (most : Option ℕ) (words : List ℕ
   pub says : IsFoundEnd new.ring new.part e.kind e.count
   pub cancelled : e.kind ≡ Cancelled → old.part.asked ≡ false → IsTaken most e.count
   pub asked : (new.part.asked ≡ old.part.asked) ⊎ IsTaken most e.count
-  pub whole : old.ring.paced ≡ true → old.part.asked ≡ false → most ≡ None → (e.kind ≡ Done) × (words ≡ munged_plan old.ring)
+  pub whole : old.ring.paced ≡ true → old.part.asked ≡ false → most ≡ None
+      → (e.kind ≡ Done) × (words ≡ munged_plan old.ring)

@@ -31,7 +31,8 @@ pub record StartsWith (first others : List ℕ → Type 0) (text : List ℕ) : T
 -- a text of a run: one block for each line, in the order of the lines
 abbrev pub IsRunText : BoardText → SignalsText → List RunLine → List ℕ → Type 0
 IsRunText board signals [] text = text ≡ []
-IsRunText board signals (line ∷ lines) text = StartsWith (IsBlock board signals line) (IsRunText board signals lines) text
+IsRunText board signals (line ∷ lines) text =
+    StartsWith (IsBlock board signals line) (IsRunText board signals lines) text
 
 -- the block of a line where nothing is lost
 abbrev pub line_block : BoardText → SignalsText → RunLine → List ℕ

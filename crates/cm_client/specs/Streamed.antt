@@ -13,7 +13,8 @@ use Rattle.cm_client.specs.Progress.{IsTaken}
 abbrev pub EndsTruly : Closing → Type 0
 EndsTruly c = MayEndAs c.ring c.part.at c.part.freed c.part.saw_stop c.end.kind c.end.count
 
--- a writer looked at the stop at least as often as a look found no sample more released, and ended at the stop that it saw
+-- a writer looked at the stop at least as often as a look found no sample more released,
+-- and ended at the stop that it saw
 abbrev pub HeedsStop : Closing → Type 0
 HeedsStop c = (c.part.read_looks ≤ c.part.freed + c.part.stop_looks) × (c.part.saw_stop ≡ true → c.end.kind ≡ Cancelled)
 
@@ -43,7 +44,9 @@ pub record HasStreamed (ring : RingConstants) (most : Option ℕ) (words : List 
   pub whole : ring.paced ≡ true → most ≡ None → (e.kind ≡ Done) × (words ≡ munged_plan ring)
 
 -- what was made of a stream's samples, up to the end that was found
-pub record StreamsTo (made : List ℕ) (makes : List ℕ → List ℕ) (ring : RingConstants) (most : Option ℕ) (e : End) (r : Reading) : Type 0 where
+pub record StreamsTo
+    (made : List ℕ) (makes : List ℕ → List ℕ) (ring : RingConstants) (most : Option ℕ) (e : End) (r : Reading)
+    : Type 0 where
   pub words : List ℕ
   pub are : made ≡ makes words
   pub streamed : HasStreamed ring most words e r

@@ -42,6 +42,7 @@ abbrev pub woken : Sleeping → Sleeping
 woken (Sleeps count seen) = HasLooked count seen
 woken other = other
 
+-- it sleeps until it is woken
 abbrev pub IsAsleep : Sleeping → Type 0
 IsAsleep (Sleeps count seen) = ⊤
 IsAsleep other = ⊥

@@ -21,14 +21,16 @@ abbrev pub line_format : BoardText → SignalsText → RunLine → Format
 line_format board signals line = format_of (plan_of board signals line)
 
 -- all words after the munge of a line that takes them all, and the end after the last of them
-pub record IsWhole (board : BoardText) (signals : SignalsText) (line : RunLine) (words : List ℕ) (end : End) : Type 0 where
+pub record IsWhole
+    (board : BoardText) (signals : SignalsText) (line : RunLine) (words : List ℕ) (end : End) : Type 0 where
   pub takes : TakesAll line
   pub all : words ≡ munged_samples (plan_of board signals line)
   pub done : end.kind ≡ ends.Done
   pub count : end.count ≡ length words
 
 -- the lines of all these words
-pub record HasWhole (board : BoardText) (signals : SignalsText) (line : RunLine) (t : LinesText) (end : End) : Type 0 where
+pub record HasWhole
+    (board : BoardText) (signals : SignalsText) (line : RunLine) (t : LinesText) (end : End) : Type 0 where
   pub words : List ℕ
   pub whole : IsWhole board signals line words end
   pub lines : t ≡ lines_of (line_format board signals line) words
