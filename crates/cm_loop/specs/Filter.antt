@@ -33,7 +33,8 @@ scaled_if (Some item) code = scaled item code
 
 -- the output of place k: the mean of the last samples of its entry, on the scale of its entry's item
 abbrev pub filtered : FilterText → List ℕ → ℕ → ℕ
-filtered rule x k = scaled_if (slice_get rule.items (k % length rule.items)) (mean (every_nth_back x (length rule.items) rule.window k))
+filtered rule x k =
+    scaled_if (slice_get rule.items (k % length rule.items)) (mean (every_nth_back x (length rule.items) rule.window k))
 
 -- the outputs of all places
 abbrev pub all_filtered : FilterText → List ℕ → List ℕ
@@ -51,4 +52,6 @@ pub record IsFilter (rule : FilterText) : Type 0 where
 
 -- no sample is above the greatest code of its entry's input channel
 abbrev pub AreWithin : FilterText → List ℕ → Type 0
-AreWithin rule x = (k : ℕ) (item : LoopItem) → k < length x → slice_get rule.items (k % length rule.items) ≡ Some item → slice_index x k ≤ item.in_max
+AreWithin rule x =
+    (k : ℕ) (item : LoopItem) → k < length x → slice_get rule.items (k % length rule.items) ≡ Some item
+    → slice_index x k ≤ item.in_max

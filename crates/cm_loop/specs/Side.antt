@@ -6,7 +6,8 @@ use Rattle.cm_loop.specs.State.{StateText, StandsFor}
 use Rattle.cm_ring.specs.Roles.{Reading, Writing}
 use Rattle.cm_ring_core.specs.Lawful.{first_reader, first_writer}
 
--- fresh ends of two paced rings, a fresh state of the filter, samples that it takes, and its outputs as the plan of the output's ring
+-- fresh ends of two paced rings, a fresh state of the filter,
+-- samples that it takes, and its outputs as the plan of the output's ring
 pub record IsFilterSide (input : Reading) (output : Writing) (rule : FilterText) (state : StateText) : Type 0 where
   pub reader : (input.part ≡ first_reader) × (input.mapped ≡ 0) × (input.ring.paced ≡ true)
   pub writer : (output.part ≡ first_writer) × (output.ring.paced ≡ true)

@@ -13,7 +13,8 @@ IsWaiting None put taken rule x = put ≡ taken
 IsWaiting (Some output) put taken rule x = (put + 1 ≡ taken) × (output ≡ filtered rule x put)
 
 -- the first so many samples of a list are filtered
-pub record HasFiltered (filter : FilterText) (x : List ℕ) (taken put : ℕ) (state : StateText) (waiting : Option ℕ) : Type 0 where
+pub record HasFiltered
+    (filter : FilterText) (x : List ℕ) (taken put : ℕ) (state : StateText) (waiting : Option ℕ) : Type 0 where
   pub within : taken ≤ length x
   pub rule : state.rule ≡ filter
   pub stands : StandsFor state (take taken x)
@@ -36,17 +37,20 @@ abbrev pub waits : Option ℕ → ℕ
 waits None = 0
 waits (Some output) = 1
 
--- a writer each of whose looks found a sample more released, but for that of an output which waits; none was at the stop
+-- a writer each of whose looks found a sample more released,
+-- but for that of an output which waits; none was at the stop
 pub record HasLooked (old new : Writing) (waiting : Option ℕ) : Type 0 where
   pub looks : new.part.read_looks + old.part.freed ≤ old.part.read_looks + new.part.freed + waits waiting
   pub stop_looks : new.part.stop_looks ≡ old.part.stop_looks
   pub saw_stop : new.part.saw_stop ≡ old.part.saw_stop
 
--- at an end with Done all of the input is released, and at one with Cancelled the stop was asked for
+-- the input stands as this kind of end asks:
+-- after Done all of it is released, after Cancelled the stop was asked for, and Overrun never comes
 abbrev pub IsLoopEndBy : EndKind → Reading → Type 0
 IsLoopEndBy Done input = input.part.released ≡ length input.ring.samples
 IsLoopEndBy Cancelled input = input.part.asked ≡ true
 IsLoopEndBy Overrun input = ⊥
 
+-- a loop may end so: the input stands as the kind of the end asks
 abbrev pub IsLoopEnd : End → Reading → Type 0
 IsLoopEnd end input = IsLoopEndBy end.kind input
