@@ -4,7 +4,8 @@ use Rattle.cm_ring.specs.Samples.{piece}
 use Rattle.cm_stream.specs.Stream.{Streaming, IsSameStream}
 use Rattle.cm_stream.specs.Merging.{fixed, given_words, released_of}
 
--- the next whole scans, so many: all that a look at the munged count found, of at most `most` samples; their words are appended and released
+-- the next whole scans, so many: all that a look at the munged count found,
+-- of at most `most` samples; their words are appended and released
 pub record HasAppended (count most : ℕ) (before after : List ℕ) (old new : Streaming) : Type 0 where
   pub same : IsSameStream old new
   pub looked : new.reader.part.munged_looks ≡ old.reader.part.munged_looks + 1

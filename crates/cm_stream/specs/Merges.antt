@@ -26,11 +26,13 @@ scans_of s (item ∷ items) = if nat_eq item.0 s then item.1 ∷ scans_of s item
 -- steps one after another, from old streams to new ones
 abbrev pub HaveMerged : List MergeStep → List Streaming → List Streaming → Type 0
 HaveMerged [] old new = new ≡ old
-HaveMerged (answer ∷ answers) old new = (first : ℕ) × (next : List Streaming) × HasMerged answer first old next × HaveMerged answers next new
+HaveMerged (answer ∷ answers) old new =
+    (first : ℕ) × (next : List Streaming) × HasMerged answer first old next × HaveMerged answers next new
 
 -- each source's scans come in order and each once: after those it had given come those among what the steps gave
 abbrev pub GivesScansOfEach : Type 0
-GivesScansOfEach = (answers : List MergeStep) (old new : List Streaming) (s : ℕ) (a b : Streaming) → HaveMerged answers old new
+GivesScansOfEach =
+    (answers : List MergeStep) (old new : List Streaming) (s : ℕ) (a b : Streaming) → HaveMerged answers old new
     → slice_get old s ≡ Some a
     → slice_get new s ≡ Some b
     → given_scans b ≡ given_scans a ++ scans_of s (given_in answers)

@@ -1,6 +1,7 @@
 -- Streams that are stepped in turn.
 use Rattle.std.specs.Prelude.{◌≡◌, ℕ, ◌+◌, ◌-◌, ◌<◌, ◌^◌, ◌≤◌, ◌⊎◌, Bool, true, false, if◌then◌else◌, nat_lt, nat_le}
-use Rattle.std.specs.Prelude.{List, [], ◌∷◌, ◌++◌, length, map, slice_get, slice_set, Option, Some, None, Result, Ok, Err}
+use Rattle.std.specs.Prelude.{List, [], ◌∷◌, ◌++◌, length, map, slice_get, slice_set, Option, Some, None, Result, Ok}
+use Rattle.std.specs.Prelude.{Err}
 use Rattle.std.specs.List.{All}
 use Rattle.futures.specs.declared.task.Poll.{Poll}
 use Rattle.futures.specs.declared.task.Poll.TheVariants.{Ready, Pending}
@@ -18,10 +19,12 @@ use Rattle.cm_stream.specs.declared.step.StreamStep.TheVariants as steps
 use Rattle.cm_stream.specs.declared.merge.MergeStep.{MergeStep}
 use Rattle.cm_stream.specs.declared.merge.MergeStep.TheVariants as merged
 
+-- a merge as contracts see it: its streams, and the source of the last scan that it gave
 pub record MergeText : Type 0 where
   pub streams : List Streaming
   pub last : Option ℕ
 
+-- a merge by its fields
 abbrev pub merging : List Streaming → Option ℕ → MergeText
 merging streams last = record { streams = streams; last = last }
 
@@ -39,10 +42,11 @@ abbrev pub first_after : ℕ → Option ℕ → ℕ
 first_after count None = 0
 first_after count (Some last) = if nat_lt (last + 1) count then last + 1 else 0
 
--- the source that is so many turns after the first of a round, and the turn of a source
+-- the source that is so many turns after the first of a round
 abbrev pub source_after : ℕ → ℕ → ℕ → ℕ
 source_after first count turns = if nat_lt (first + turns) count then first + turns else first + turns - count
 
+-- how many turns after the first of a round a source comes
 abbrev pub turn_of : ℕ → ℕ → ℕ → ℕ
 turn_of first count source = if nat_le first source then source - first else source + count - first
 
@@ -66,7 +70,9 @@ Passes old new = IsTurn None old new ⊎ (IsTurn (Some steps.Ended) old new ⊎ 
 -- the first `turns` sources of a round have passed, and the others are as they were
 pub record HavePassed (first turns : ℕ) (old new : List Streaming) : Type 0 where
   pub count : length new ≡ length old
-  pub passed : (j : ℕ) (a b : Streaming) → slice_get old j ≡ Some a → slice_get new j ≡ Some b → turn_of first (length old) j < turns → Passes a b
+  pub passed : (j : ℕ) (a b : Streaming) → slice_get old j ≡ Some a → slice_get new j ≡ Some b
+      → turn_of first (length old) j < turns
+      → Passes a b
   pub left : (j : ℕ) → turns ≤ turn_of first (length old) j → slice_get new j ≡ slice_get old j
 
 -- some stream isn't over
@@ -91,13 +97,15 @@ pub record HasGoneRound (answer : MergeStep) (first : ℕ) (old new : List Strea
 
 -- what a source has of something grows by the scan that it gave, and nothing else changes
 abbrev pub AddsScan : {X : Type 0} → (X → ScanText → X) → MergeStep → List X → List X → Type 0
-AddsScan {X = X} add (merged.Given source scan) old new = (had : X) × (slice_get old source ≡ Some had) × (new ≡ slice_set old source (add had scan))
+AddsScan {X = X} add (merged.Given source scan) old new =
+    (had : X) × (slice_get old source ≡ Some had) × (new ≡ slice_set old source (add had scan))
 AddsScan add other old new = new ≡ old
 
--- how many samples a stream has released, and which munged ones
+-- how many samples a stream has released
 abbrev pub released_of : Streaming → ℕ
 released_of s = s.reader.part.released
 
+-- the munged samples that it has released
 abbrev pub given_words : Streaming → List ℕ
 given_words s = first_munged s.reader.ring s.reader.part.released
 
@@ -112,6 +120,7 @@ pub record Fixed : Type 0 where
   pub ring : RingConstants
   pub asked : Bool
 
+-- these fields of a stream
 abbrev pub fixed : Streaming → Fixed
 fixed s = record { n = s.n; table = s.reader.table; ring = s.reader.ring; asked = s.reader.part.asked }
 
@@ -134,6 +143,7 @@ pub record HasMerged (answer : MergeStep) (first : ℕ) (old new : List Streamin
   pub scans : AddsScan (λ scans scan. scans ++ scan ∷ []) answer (map given_scans old) (map given_scans new)
   pub ended : EndsAll answer new
 
+-- the source of the last scan after a step
 abbrev pub last_after : MergeStep → Option ℕ → Option ℕ
 last_after (merged.Given source scan) last = Some source
 last_after other last = last

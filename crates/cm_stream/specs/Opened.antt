@@ -35,13 +35,16 @@ line_start board signals line = record {
 }
 
 -- streams as they start for lines, and lines of text in their formats
-pub record AreFor (board : BoardText) (signals : SignalsText) (lines : List RunLine) (first : List Streaming) (texts : List LinesText) : Type 0 where
+pub record AreFor
+    (board : BoardText) (signals : SignalsText) (lines : List RunLine) (first : List Streaming) (texts : List LinesText)
+    : Type 0 where
   pub streams : map stream_start first ≡ map (line_start board signals) lines
   pub formats : map text_format texts ≡ map (line_format board signals) lines
 
 -- streams that started for the lines have been read to their ends
 pub record HaveWatched
-    (board : BoardText) (signals : SignalsText) (lines : List RunLine) (now : List Streaming) (texts : List LinesText) : Type 0 where
+    (board : BoardText) (signals : SignalsText) (lines : List RunLine) (now : List Streaming) (texts : List LinesText)
+    : Type 0 where
   pub first : List Streaming
   pub before : List LinesText
   pub start : AreFor board signals lines first before

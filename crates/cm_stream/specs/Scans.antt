@@ -7,6 +7,7 @@ pub record ScanText : Type 0 where
   pub first : ℕ
   pub words : List ℕ
 
+-- a scan by its fields
 abbrev pub scan_text : ℕ → List ℕ → ScanText
 scan_text first words = record { first = first; words = words }
 

@@ -12,7 +12,8 @@ use Rattle.cm_stream.specs.declared.step.StreamStep.TheVariants as steps
 pub record HasLooked (old new : Reading) : Type 0 where
   pub munged_looks : new.part.munged_looks ≡ old.part.munged_looks + 1
   pub end_looks : old.part.found ≡ None → new.part.end_looks ≡ old.part.end_looks + 1
-  pub found : (e : End) → old.part.found ≡ Some e → (new.part.found ≡ Some e) × (new.part.end_looks ≡ old.part.end_looks)
+  pub found : (e : End) → old.part.found ≡ Some e
+      → (new.part.found ≡ Some e) × (new.part.end_looks ≡ old.part.end_looks)
   pub later : old.part.known ≤ new.part.known
 
 -- the scans that a stream has given: those of the munged samples that are released

@@ -4,10 +4,12 @@ use Rattle.cm_ring_core.specs.declared.view.End.{End}
 use Rattle.cm_ring_core.specs.Lawful.{IsFoundEnd}
 use Rattle.cm_ring.specs.Roles.{Reading, IsReading}
 
+-- a stream as contracts see it: how many samples a scan has, and its reader
 pub record Streaming : Type 0 where
   pub n : ℕ
   pub reader : Reading
 
+-- a stream by its fields
 abbrev pub streaming : ℕ → Reading → Streaming
 streaming n reader = record { n = n; reader = reader }
 
@@ -16,6 +18,7 @@ abbrev pub wanted : ℕ → ℕ → Option End → ℕ
 wanted n released None = n
 wanted n released (Some e) = min n (e.count - released)
 
+-- how many words a stream's next scan has
 abbrev pub want_of : Streaming → ℕ
 want_of s = wanted s.n s.reader.part.released s.reader.part.found
 
@@ -38,6 +41,7 @@ abbrev pub is_released : ℕ → Option End → Bool
 is_released released None = false
 is_released released (Some e) = e.count == released
 
+-- whether a stream has found its end and released all up to it
 abbrev pub is_over : Streaming → Bool
 is_over s = is_released s.reader.part.released s.reader.part.found
 

@@ -28,8 +28,10 @@ pub record HasLines (t : LinesText) (s : Streaming) : Type 0 where
 pub record AreRead (streams : List Streaming) (texts : List LinesText) : Type 0 where
   pub paced : All IsPacedOn streams
   pub count : length texts ≡ length streams
-  pub each : (i : ℕ) (t : LinesText) (s : Streaming) → slice_get texts i ≡ Some t → slice_get streams i ≡ Some s → HasLines t s
+  pub each : (i : ℕ) (t : LinesText) (s : Streaming) → slice_get texts i ≡ Some t → slice_get streams i ≡ Some s
+      → HasLines t s
 
+-- how the samples of some lines are reported
 abbrev pub text_format : LinesText → Format
 text_format t = t.format
 
