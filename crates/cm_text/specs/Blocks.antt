@@ -1,5 +1,6 @@
 -- The text of a command that is streamed: the lines of what came, and the line that ends them.
-use Rattle.std.specs.Prelude.{◌≡◌, ℕ, ◌<◌, ◌≤◌, List, [], ◌∷◌, ◌++◌, length, take, nat_lt, Option, None, Some, if◌then◌else◌}
+use Rattle.std.specs.Prelude.{◌≡◌, ℕ, ◌<◌, ◌≤◌, List, [], ◌∷◌, ◌++◌, length, take, nat_lt, Option, None, Some}
+use Rattle.std.specs.Prelude.{if◌then◌else◌}
 use Rattle.cm_base.specs.UpTo.{up_to}
 use Rattle.cm_sample.specs.Rule.{map_from}
 use Rattle.cm_expand.specs.Items.{items_of, samples_of}
@@ -62,4 +63,5 @@ values_tail p values = if nat_lt values (length_of p) then tails.Underrun values
 
 -- the block of a `drive` line: its munged values at the times of the conversions, and the end line
 abbrev pub drive_block : PlanText → List ℕ → List ℕ
-drive_block p values = output_texts (outputs_of p.index (items_of p) (munged_words p values)) ++ tail_text (values_tail p (length values))
+drive_block p values =
+    output_texts (outputs_of p.index (items_of p) (munged_words p values)) ++ tail_text (values_tail p (length values))

@@ -21,4 +21,5 @@ tail_cut most kind count = tails.Taken most
 -- the end line of a block whose reader found an end
 abbrev pub tail_after : PlanText → Option ℕ → EndKind → ℕ → Tail
 tail_after p None kind count = tail_whole p kind count
-tail_after p (Some most) kind count = if nat_lt most (length_of p) then tail_cut most kind count else tail_whole p kind count
+tail_after p (Some most) kind count =
+    if nat_lt most (length_of p) then tail_cut most kind count else tail_whole p kind count

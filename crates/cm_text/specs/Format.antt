@@ -1,5 +1,6 @@
 -- How the samples of a command are reported.
-use Rattle.std.specs.Prelude.{ℕ, ◌%◌, ◌<◌, ◌≤◌, suc, Bool, false, List, [], ◌∷◌, ◌++◌, length, slice_index, codes, ◌≡◌, if◌then◌else◌}
+use Rattle.std.specs.Prelude.{ℕ, ◌%◌, ◌<◌, ◌≤◌, suc, Bool, false, List, [], ◌∷◌, ◌++◌, length, slice_index, codes, ◌≡◌}
+use Rattle.std.specs.Prelude.{if◌then◌else◌}
 use Rattle.std.specs.Fmt.{decimal, signed_decimal}
 use Rattle.cm_board.specs.Board.{SubText, maxdata_of, range_count, range_of}
 use Rattle.cm_cmd.specs.Entry.{chan, range}
@@ -19,7 +20,8 @@ format_of p = record { sub = p.sub; list = p.cmd.list; raw = is_raw p.cmd.flags 
 
 -- the level that a word of a list entry stands for, in micro-units
 abbrev pub level_of : SubText → ℕ → ℕ → List ℕ
-level_of sub entry word = signed_decimal (micro_of (range_of sub (chan entry) (range entry)) (maxdata_of sub (chan entry)) word)
+level_of sub entry word =
+    signed_decimal (micro_of (range_of sub (chan entry) (range entry)) (maxdata_of sub (chan entry)) word)
 
 -- what a word of a place says
 abbrev pub value_text : Format → ℕ → ℕ → List ℕ
@@ -42,4 +44,5 @@ IsSample f place word = f.raw ≡ false → word ≤ maxdata_of f.sub (chan (ent
 pub record IsFormat (f : Format) : Type 0 where
   pub some : 1 ≤ length f.list
   pub channels : (i : ℕ) → i < length f.list → chan (slice_index f.list i) < f.sub.channels
-  pub ranges : (i : ℕ) → i < length f.list → range (slice_index f.list i) < range_count f.sub (chan (slice_index f.list i))
+  pub ranges : (i : ℕ) → i < length f.list
+      → range (slice_index f.list i) < range_count f.sub (chan (slice_index f.list i))

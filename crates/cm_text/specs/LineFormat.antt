@@ -3,6 +3,7 @@ use Rattle.cm_text.specs.Format.{Format, IsFormat}
 use Rattle.cm_text.specs.Scales.{AreScales}
 use Rattle.cm_text.specs.declared.line_format.LineFormat.TheInside.{Inside}
 
+-- how a command's samples are reported: its subdevice, its list, and whether they stay raw
 abbrev pub format_view : Inside → Format
 format_view f = record { sub = f.sub.now; list = f.list.now; raw = f.raw }
 

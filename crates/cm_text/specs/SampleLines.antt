@@ -3,6 +3,7 @@ use Rattle.cm_text.specs.Format.{Format}
 use Rattle.cm_text.specs.Kept.{AreKept}
 use Rattle.cm_text.specs.declared.sample_lines.SampleLines.TheInside.{Inside}
 
+-- how the samples of these lines are reported
 abbrev pub format_view : Inside → Format
 format_view l = l.format
 

@@ -9,6 +9,7 @@ pub record LinesText : Type 0 where
   pub text : List ℕ
   pub count : ℕ
 
+-- the text so far as a record
 abbrev pub lines_text : Inside → LinesText
 lines_text t = record { format = t.lines; text = t.text.items; count = t.count }
 

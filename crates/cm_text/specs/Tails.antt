@@ -4,6 +4,7 @@ use Rattle.std.specs.Fmt.{decimal}
 use Rattle.cm_text.specs.declared.tail.Tail.{Tail}
 use Rattle.cm_text.specs.declared.tail.Tail.TheVariants.{Done, Dry, Overrun, Taken, Underrun}
 
+-- the last line of a block: how its command ended, and with what number
 abbrev pub tail_text : Tail → List ℕ
 tail_text Done = codes "done\n"
 tail_text Dry = codes "dry\n"
