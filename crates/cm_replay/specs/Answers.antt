@@ -8,8 +8,10 @@ use Rattle.cm_replay.specs.Running.{Running}
 use Rattle.cm_replay.specs.State.{Device, Here}
 use Rattle.cm_replay.specs.declared.ending.End.{End}
 
--- an answer. `Taken` has the format, the first place and the samples of a read, and `Looked` the format, the place and its sample.
--- `Written` and `Filled` have the words that the buffer took. `Data` has a count of data words, and those of them that are shown.
+-- an answer. `Taken` has the format, the first place and the samples of a read,
+-- and `Looked` the format, the place and its sample.
+-- `Written` and `Filled` have the words that the buffer took.
+-- `Data` has a count of data words, and those of them that are shown.
 -- `Rejected` has the step that a command fails, and the command as the test leaves it
 pub data Answer : Type 0 where
   Fine : Answer
@@ -49,7 +51,11 @@ goes_on h c answer = record { answer = answer; files = h.files; device = record 
 
 -- the subdevice is idle
 abbrev pub idle : Here → Answer → Reply
-idle h answer = record { answer = answer; files = with_runner None h.index h.files; device = record h.device { running = None } }
+idle h answer = record {
+  answer = answer;
+  files = with_runner None h.index h.files;
+  device = record h.device { running = None };
+}
 
 -- an end is reported, and then the subdevice is idle
 abbrev pub unless_ended : Here → Option End → Reply → Reply

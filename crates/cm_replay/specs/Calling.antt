@@ -1,5 +1,6 @@
 -- What the lines do that start a command, and those of instructions, each where no check refuses it.
-use Rattle.std.specs.Prelude.{ℕ, Bool, false, not, ◌&&◌, ◌==◌, nat_le, List, [], length, Option, Some, None, if◌then◌else◌}
+use Rattle.std.specs.Prelude.{ℕ, Bool, false, not, ◌&&◌, ◌==◌, nat_le, List, [], length, Option, Some, None}
+use Rattle.std.specs.Prelude.{if◌then◌else◌}
 use Rattle.cm_base.specs.Source as source
 use Rattle.cm_cmd.specs.Command.{CmdText}
 use Rattle.cm_expand.specs.Plan.{start_of}
@@ -24,7 +25,8 @@ start_reply h cmd = record {
 
 -- `cmd`: a command that its subdevice accepts starts, and of another one the step that it fails is answered
 abbrev pub cmd_reply : Here → CmdText → Reply
-cmd_reply h cmd = if (tested h.sub cmd).0 == 0 then start_reply h cmd else kept h (Rejected (tested h.sub cmd).0 (tested h.sub cmd).1)
+cmd_reply h cmd =
+    if (tested h.sub cmd).0 == 0 then start_reply h cmd else kept h (Rejected (tested h.sub cmd).0 (tested h.sub cmd).1)
 
 -- a start has come where it isn't above a time
 abbrev pub has_come : Option ℕ → ℕ → Bool
@@ -56,7 +58,8 @@ trigger_reply h (Some c) = goes_on h (trigger_on h.time c) Triggered
 
 -- an instruction of this subdevice now
 abbrev pub insn_here : Here → InsnCode → ℕ → List ℕ → Option Done
-insn_here h code entry given = insn_at h.sub h.index h.signals h.time h.device.state (record { code = code; entry = entry }) given
+insn_here h code entry given =
+    insn_at h.sub h.index h.signals h.time h.device.state (record { code = code; entry = entry }) given
 
 -- an instruction that is done: the answer has the count of the data words, and shows them or not
 abbrev pub insn_reply : Bool → Here → Option Done → Reply

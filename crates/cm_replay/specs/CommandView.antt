@@ -10,9 +10,11 @@ use Rattle.cm_replay.specs.Schedules.{schedule_of}
 use Rattle.cm_replay.specs.ToCome.{ToCome, left_after}
 use Rattle.cm_replay.specs.declared.command.Command.TheInside.{Inside}
 
+-- what is planned for a command, by its plan
 abbrev pub its_schedule : Inside → Schedule
 its_schedule c = schedule_of (plan_text c.plan)
 
+-- a command as a record: what is planned for it, the places of its ring, the words of an output, and its end
 abbrev pub running_of : Inside → Running
 running_of c = record {
   schedule = its_schedule c;
@@ -24,8 +26,8 @@ running_of c = record {
   end = c.end;
 }
 
--- the ring and the board of an input stand where the schedule says: the ring munges as the command asks, samples from r to w are in the
--- ring, and arrivals from w on are to come
+-- the ring and the board of an input stand where the schedule says: the ring munges as the command asks,
+-- samples from r to w are in the ring, and arrivals from w on are to come
 pub record IsInStep (s : Schedule) (ring : Ring) (board : ToCome) : Type 0 where
   pub level : IsLevel ring
   pub munge : munged_word ring.rule ≡ munge_in s
@@ -37,7 +39,8 @@ pub record IsInStep (s : Schedule) (ring : Ring) (board : ToCome) : Type 0 where
   pub held : ring.held ≡ drop ring.r (take ring.w (samples s))
   pub ahead : board ≡ left_after ring.w s
 
--- the same of an output: all marked words are munged, none is mapped, and those that were put out are gone, with their conversions
+-- the same of an output: all marked words are munged, none is mapped,
+-- and those that were put out are gone, with their conversions
 pub record IsPaced (s : Schedule) (ring : Ring) (board : ToCome) : Type 0 where
   pub m_w : ring.m ≡ ring.w
   pub munge : munged_word ring.rule ≡ munge_in s

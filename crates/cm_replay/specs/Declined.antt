@@ -2,7 +2,8 @@
 use Rattle.std.specs.Prelude.{ℕ, List, ◌++◌, codes}
 use Rattle.std.specs.Fmt.{decimal}
 use Rattle.cm_base.specs.declared.faults.Fault.{Fault}
-use Rattle.cm_base.specs.declared.faults.Fault.TheVariants.{TooLong, BadLine, BadNumber, Unknown, Missing, Double, Limit, Bad}
+use Rattle.cm_base.specs.declared.faults.Fault.TheVariants.{TooLong, BadLine, BadNumber, Unknown, Missing, Double}
+use Rattle.cm_base.specs.declared.faults.Fault.TheVariants.{Limit, Bad}
 use Rattle.cm_base.specs.declared.faults.Refused.{Refused}
 
 -- the name of a fault in an answer

@@ -29,12 +29,18 @@ to_hand_over at b edge = record {
   lost_at = (later_than at b).lost_at;
 }
 
+-- what a board with a FIFO has still to hand over
 abbrev pub to_hand : Inside → ToCome
 to_hand d = to_hand_over d.at d.board d.edge
 
 -- all of a plan
 abbrev pub all_handed : PlanText → Fifo → ToCome
-all_handed p f = record { conversions = (handed_of p f).arrivals; complete = is_complete p; edge = stop_edge_of p; lost_at = (handed_of p f).lost_at }
+all_handed p f = record {
+  conversions = (handed_of p f).arrivals;
+  complete = is_complete p;
+  edge = stop_edge_of p;
+  lost_at = (handed_of p f).lost_at;
+}
 
 -- their times never fall
 pub record IsDelayed (d : Inside) : Type 0 where

@@ -1,5 +1,6 @@
 -- Each form of line that names a subdevice: its checks in their order, and its reply where none of them refuses.
-use Rattle.std.specs.Prelude.{ℕ, Bool, true, false, not, ◌&&◌, ◌||◌, nat_eq, nat_le, nat_lt, List, [], ◌∷◌, ◌++◌, replicate, Option, Some, None}
+use Rattle.std.specs.Prelude.{ℕ, Bool, true, false, not, ◌&&◌, ◌||◌, nat_eq, nat_le, nat_lt, List, [], ◌∷◌, ◌++◌}
+use Rattle.std.specs.Prelude.{replicate, Option, Some, None}
 use Rattle.cm_board.specs.Board.{is_unused, takes_commands}
 use Rattle.cm_insn.specs.declared.insn.InsnCode.TheVariants as codes
 use Rattle.cm_sub.specs.Checks.{refuse}
@@ -31,8 +32,14 @@ writer_checks h = refuse Inval (not (is_out_here h)) ∷ refuse Access (is_forei
 
 -- the forms
 abbrev pub form : Op → Here → Form
-form (ops.Lock sub) h = record { checks = lock_checks (claim_of h); reply = claimed h (with_holder (Some h.file) h.index h.files) Fine }
-form (ops.Unlock sub) h = record { checks = unlock_checks h.file (claim_of h); reply = claimed h (with_holder None h.index h.files) Fine }
+form (ops.Lock sub) h = record {
+  checks = lock_checks (claim_of h);
+  reply = claimed h (with_holder (Some h.file) h.index h.files) Fine;
+}
+form (ops.Unlock sub) h = record {
+  checks = unlock_checks h.file (claim_of h);
+  reply = claimed h (with_holder None h.index h.files) Fine;
+}
 form (ops.Cmd cmd) h = record {
   checks = use_checks h.file (claim_of h) ++ refuse Inval (not (is_valid_list h.sub cmd.list)) ∷ [];
   reply = cmd_reply h cmd;
@@ -51,9 +58,15 @@ form (ops.Release sub k) h = record {
   checks = reader_checks h ++ refuse Inval (nat_lt (mapped h.device.running) k) ∷ [];
   reply = release_reply k h h.device.running;
 }
-form (ops.Contents sub) h = record { checks = refuse Access (is_foreign h) ∷ []; reply = contents_reply h h.device.running }
+form (ops.Contents sub) h = record {
+  checks = refuse Access (is_foreign h) ∷ [];
+  reply = contents_reply h h.device.running;
+}
 form (ops.Write sub words) h = record {
-  checks = writer_checks h ++ refuse Inval (not (nat_eq (unmarked h.device.running) 0)) ∷ refuse Inval (not (fit h words)) ∷ [];
+  checks =
+      writer_checks h
+      ++ refuse Inval (not (nat_eq (unmarked h.device.running) 0))
+      ∷ refuse Inval (not (fit h words)) ∷ [];
   reply = write_reply words h h.device.running;
 }
 form (ops.Fill sub words) h = record {
@@ -82,7 +95,8 @@ form (ops.InsnConfig sub entry word) h = record {
 }
 form (ops.InsnIntTrig sub number) h = record {
   checks = cancel_checks h.file (claim_of h)
-      ++ refuse Again (not (waits h.time h.device.running)) ∷ refuse Inval (not (takes_number number h.device.running)) ∷ [];
+      ++ refuse Again (not (waits h.time h.device.running))
+      ∷ refuse Inval (not (takes_number number h.device.running)) ∷ [];
   reply = trigger_reply h h.device.running;
 }
 form ops.OpenFile h = record { checks = []; reply = kept h Fine }
@@ -126,6 +140,7 @@ is_of_command op = true
 abbrev pub kind_checks : Op → Here → List (Option Errno)
 kind_checks op h = refuse Io (is_unused h.sub.kind || (is_of_command op && not (takes_commands h.sub))) ∷ []
 
--- the checks of every line that names a subdevice: the file is open, the subdevice is there, and it can do what is asked
+-- the checks of every line that names a subdevice: the file is open,
+-- the subdevice is there, and it can do what is asked
 abbrev pub line_checks : Op → Here → List (Option Errno)
 line_checks op h = reach_checks h.file h.index h.files ++ kind_checks op h

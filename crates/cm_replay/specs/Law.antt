@@ -1,6 +1,6 @@
 -- What holds at every line of a session.
-use Rattle.std.specs.Prelude.{◌≡◌, ℕ, ◌+◌, ◌-◌, ◌<◌, ◌≤◌, Bool, true, false}
-use Rattle.std.specs.Prelude.{List, [], ◌∷◌, ◌++◌, length, take, drop, slice_index, Option, Some, None, nat_eq, if◌then◌else◌}
+use Rattle.std.specs.Prelude.{◌≡◌, ℕ, ◌+◌, ◌-◌, ◌<◌, ◌≤◌, Bool, true, false, List, [], ◌∷◌, ◌++◌, length, take, drop}
+use Rattle.std.specs.Prelude.{slice_index, Option, Some, None, nat_eq, if◌then◌else◌}
 use Rattle.std.specs.List.{All}
 use Rattle.cm_board.specs.Board.{IsSoundSub, SubText}
 use Rattle.cm_signal.specs.Setting.{Setting}
@@ -67,7 +67,8 @@ pub record IsLawful (time : ℕ) (c : Running) : Type 0 where
   pub places : HasPlaces (is_out c.schedule) time c
   pub end : IsDueIfAny c.end (served c) (length c.schedule.conversions)
 
--- what was done with a subdevice since its last command started: how many samples were marked as read, and the words that its client gave
+-- what was done with a subdevice since its last command started:
+-- how many samples were marked as read, and the words that its client gave
 pub record History : Type 0 where
   pub gone : ℕ
   pub given : List ℕ
@@ -79,7 +80,8 @@ no_history = record { gone = 0; given = [] }
 -- an input's marked samples are counted by r; an output's buffer has the client's words from r on, munged below w
 abbrev pub Remembers : Bool → History → Running → Type 0
 Remembers false h c = h.gone ≡ c.r
-Remembers true h c = (length h.given ≡ c.a) × (c.words ≡ map_from (munged_within (munge_in c.schedule) 0 c.w) c.r (drop c.r h.given))
+Remembers true h c =
+    (length h.given ≡ c.a) × (c.words ≡ map_from (munged_within (munge_in c.schedule) 0 c.w) c.r (drop c.r h.given))
 
 -- a subdevice and its signals
 pub record Spot : Type 0 where
@@ -101,9 +103,12 @@ Keeps spot time h (Some c) = IsLawful time c × IsOf spot c.schedule.plan × Rem
 
 -- an answer has the next samples, or one that is mapped, or reports an end where nothing is left
 abbrev pub Continues : Answer → History → Option Running → Type 0
-Continues (Taken f place words) h (Some c) = (place ≡ h.gone) × (words ≡ take (length words) (drop place (samples c.schedule)))
-Continues (Looked f place word) h (Some c) = (h.gone ≤ place) × (place < c.ra) × (word ≡ slice_index (samples c.schedule) place)
-Continues (Ended e) h (Some c) = (is_out c.schedule ≡ false → c.r ≡ c.w) × IsDue e (served c) (length c.schedule.conversions)
+Continues (Taken f place words) h (Some c) =
+    (place ≡ h.gone) × (words ≡ take (length words) (drop place (samples c.schedule)))
+Continues (Looked f place word) h (Some c) =
+    (h.gone ≤ place) × (place < c.ra) × (word ≡ slice_index (samples c.schedule) place)
+Continues (Ended e) h (Some c) =
+    (is_out c.schedule ≡ false → c.r ≡ c.w) × IsDue e (served c) (length c.schedule.conversions)
 Continues (Taken f place words) h None = ⊥
 Continues (Looked f place word) h None = ⊥
 Continues (Ended e) h None = ⊥
@@ -111,7 +116,9 @@ Continues other h running = Unit {0}
 
 -- the words that a client's words become, each put out at the time of its conversion
 abbrev pub puts : ℕ → ℕ → History → Running → List Output
-puts sub time h c = outputs sub (take (put_by c time - c.r) (drop c.r c.schedule.arrivals)) (map_from (munge_in c.schedule) c.r (drop c.r h.given))
+puts sub time h c =
+    outputs sub (take (put_by c time - c.r) (drop c.r c.schedule.arrivals))
+    (map_from (munge_in c.schedule) c.r (drop c.r h.given))
 
 -- what is put out by a line's time are the client's words, munged by their places, at the times of their conversions
 abbrev pub PutsOut : ℕ → ℕ → History → Option Running → Type 0
@@ -135,7 +142,8 @@ remembered_at histories sub answer i = if nat_eq i sub then remembered (historie
 abbrev pub running_at : SessionLine → State → Option Running
 running_at line state = (device_at (brought_all line.time state).devices (named_sub line.op)).running
 
--- at every line each command, brought to its time, is lawful, what was put out are the client's words, and the answer continues what was read
+-- at every line each command, brought to its time, is lawful,
+-- what was put out are the client's words, and the answer continues what was read
 abbrev pub GoesWell : Setting → (ℕ → History) → State → List SessionLine → Type 0
 GoesWell s histories state [] = Unit {0}
 GoesWell s histories state (line ∷ rest) =
@@ -159,7 +167,8 @@ pub record IsSoundJob (job : JobText) : Type 0 where
 
 -- the session law
 abbrev pub SessionLaw : Type 0
-SessionLaw = (job : JobText) → IsSoundJob job → GoesWell (setting_of job) (λ i. no_history) (at_start (setting_of job)) job.lines
+SessionLaw =
+    (job : JobText) → IsSoundJob job → GoesWell (setting_of job) (λ i. no_history) (at_start (setting_of job)) job.lines
 
 -- the samples that were marked as read since the last command started
 abbrev pub reported_after : List ℕ → Option Running → Answer → List ℕ
@@ -170,7 +179,8 @@ reported_after reported running other = reported
 
 -- the same of each subdevice, after an answer of one that had this command
 abbrev pub reported_of : (ℕ → List ℕ) → ℕ → Option Running → Answer → ℕ → List ℕ
-reported_of reported sub running answer i = if nat_eq i sub then reported_after (reported i) running answer else reported i
+reported_of reported sub running answer i =
+    if nat_eq i sub then reported_after (reported i) running answer else reported i
 
 -- what was marked as read of an input's command is the prefix of its samples up to place r
 abbrev pub IsPrefix : List ℕ → Option Running → Type 0
@@ -192,9 +202,11 @@ EndsWell other reported running = Unit {0}
 
 -- what was reported of each subdevice after a line
 abbrev pub reported_by : Setting → (ℕ → List ℕ) → SessionLine → State → ℕ → List ℕ
-reported_by s reported line state = reported_of reported (named_sub line.op) (running_at line state) (step s line state).answer
+reported_by s reported line state =
+    reported_of reported (named_sub line.op) (running_at line state) (step s line state).answer
 
--- at every line what was marked as read is a prefix of the munged expansion, and the whole where the answer is `done` or `dry`
+-- at every line what was marked as read is a prefix of the munged expansion,
+-- and the whole where the answer is `done` or `dry`
 abbrev pub ReadsPrefixes : Setting → (ℕ → List ℕ) → State → List SessionLine → Type 0
 ReadsPrefixes s reported state [] = Unit {0}
 ReadsPrefixes s reported state (line ∷ rest) =
@@ -202,6 +214,8 @@ ReadsPrefixes s reported state (line ∷ rest) =
     × EndsWell (step s line state).answer (reported (named_sub line.op)) (running_at line state)
     × ReadsPrefixes s (reported_by s reported line state) (step s line state).state rest
 
--- what is marked as read is a prefix of the munged expansion in trigger order, and the whole where `done` or `dry` is reported
+-- what is marked as read is a prefix of the munged expansion in trigger order,
+-- and the whole where `done` or `dry` is reported
 abbrev pub PrefixLaw : Type 0
-PrefixLaw = (job : JobText) → IsSoundJob job → ReadsPrefixes (setting_of job) (λ i. []) (at_start (setting_of job)) job.lines
+PrefixLaw =
+    (job : JobText) → IsSoundJob job → ReadsPrefixes (setting_of job) (λ i. []) (at_start (setting_of job)) job.lines

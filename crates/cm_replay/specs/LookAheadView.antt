@@ -13,6 +13,7 @@ pub record Look : Type 0 where
   pub schedule : Schedule
   pub passed : ℕ
 
+-- a look ahead as a record
 abbrev pub look_of : Inside → Look
 look_of l = record { schedule = schedule_of (plan_text l.plan); passed = l.passed }
 

@@ -5,8 +5,8 @@ use Rattle.cm_text.specs.Format.{IsFormat, IsSample}
 use Rattle.cm_replay.specs.Running.{Schedule, is_out, samples}
 use Rattle.cm_replay.specs.Timely.{IsTimely}
 
--- what reaches the buffer is timely, with the raw words of the first conversions; the buffer can be opened, and each sample of an input
--- can be reported
+-- what reaches the buffer is timely, with the raw words of the first conversions;
+-- the buffer can be opened, and each sample of an input can be reported
 pub record IsSchedule (s : Schedule) : Type 0 where
   pub timely : IsTimely s
   pub words : raw_words s.arrivals ≡ take (length s.arrivals) (raw_words s.conversions)
@@ -15,4 +15,5 @@ pub record IsSchedule (s : Schedule) : Type 0 where
   pub nonempty : 1 ≤ s.size
   pub small : s.size ≤ 2 ^ 20
   pub format : IsFormat s.format
-  pub codes : is_out s ≡ false → (place : ℕ) → place < length s.conversions → IsSample s.format place (slice_index (samples s) place)
+  pub codes : is_out s ≡ false → (place : ℕ) → place < length s.conversions
+      → IsSample s.format place (slice_index (samples s) place)

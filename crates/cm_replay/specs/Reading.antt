@@ -1,6 +1,8 @@
 -- What the lines do that read from a command's buffer, each where no check refuses it.
-use Rattle.std.specs.Prelude.{ℕ, ◌+◌, ◌-◌, min, ◌||◌, nat_eq, List, [], take, drop, slice_index, Option, Some, None, if◌then◌else◌}
-use Rattle.cm_replay.specs.Answers.{Answer, Holds, Idle, Looked, Mapped, Released, Reply, Taken, goes_on, kept, unless_ended}
+use Rattle.std.specs.Prelude.{ℕ, ◌+◌, ◌-◌, min, ◌||◌, nat_eq, List, [], take, drop, slice_index, Option, Some, None}
+use Rattle.std.specs.Prelude.{if◌then◌else◌}
+use Rattle.cm_replay.specs.Answers.{Answer, Holds, Idle, Looked, Mapped, Released, Reply, Taken, goes_on, kept}
+use Rattle.cm_replay.specs.Answers.{unless_ended}
 use Rattle.cm_replay.specs.Running.{Running, is_out, samples}
 use Rattle.cm_replay.specs.State.{Here}
 use Rattle.cm_replay.specs.declared.ending.End.{End}

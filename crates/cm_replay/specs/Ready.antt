@@ -9,8 +9,9 @@ use Rattle.cm_replay.specs.Session.{brought_all, step}
 use Rattle.cm_replay.specs.State.{State, device_at}
 use Rattle.cm_replay.specs.Timely.{IsTimely}
 
--- a command of the subdevice with a number is ready to be brought to a time: all that was served has come by then, which isn't after
--- the horizon, and its schedule is that of its plan, which is one of this subdevice and was called by then
+-- a command of the subdevice with a number is ready to be brought to a time:
+-- all that was served has come by then, which isn't after the horizon,
+-- and its schedule is that of its plan, which is one of this subdevice and was called by then
 pub record IsReady (spot : Spot) (number time : ℕ) (c : Running) : Type 0 where
   pub come : served c ≤ arrived c.schedule time
   pub within : time ≤ c.schedule.horizon
@@ -29,7 +30,8 @@ CanMove spot number time (Some c) = IsReady spot number time c
 abbrev pub AllCanMove : Setting → ℕ → State → Type 0
 AllCanMove s time state = (i : ℕ) → CanMove (spot_at s i) i time (device_at state.devices i).running
 
--- at every line, which isn't after the horizon, each command can be brought to the line's time, and is ready once it was
+-- at every line, which isn't after the horizon,
+-- each command can be brought to the line's time, and is ready once it was
 abbrev pub StaysReady : Setting → State → List SessionLine → Type 0
 StaysReady s state [] = Unit {0}
 StaysReady s state (line ∷ rest) =

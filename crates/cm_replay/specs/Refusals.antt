@@ -16,7 +16,8 @@ made_idle sub state = record {
   devices = set state.devices sub (record (device_at state.devices sub) { running = None });
 }
 
--- a line of a subdevice that is refused leaves the state as it was brought to the line's time; one that reports an end makes the subdevice idle
+-- a line of a subdevice that is refused leaves the state as it was brought to the line's time;
+-- one that reports an end makes the subdevice idle
 abbrev pub Leaves : ℕ → State → Answer → State → Type 0
 Leaves sub before (Refused error) after = after ≡ before
 Leaves sub before (Rejected step cmd) after = after ≡ before
@@ -32,7 +33,8 @@ RefusalLaw =
 -- a line never changes a command or a lock of another file
 pub record IsForeign (file i : ℕ) (before after : State) : Type 0 where
   pub command : (g : ℕ) → (claim_at before.files i).runner ≡ Some g → g ≢ file →
-      ((device_at after.devices i).running ≡ (device_at before.devices i).running) × ((claim_at after.files i).runner ≡ Some g)
+      ((device_at after.devices i).running ≡ (device_at before.devices i).running)
+      × ((claim_at after.files i).runner ≡ Some g)
   pub lock : (g : ℕ) → (claim_at before.files i).holder ≡ Some g → g ≢ file → (claim_at after.files i).holder ≡ Some g
 
 -- the law on other files

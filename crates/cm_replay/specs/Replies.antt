@@ -1,5 +1,6 @@
 -- What the code makes of a line, against what its definition says.
-use Rattle.std.specs.Prelude.{◌≡◌, ℕ, ◌<◌, ◌≤◌, Bool, true, false, ◌&&◌, ◌==◌, List, ◌++◌, length, map, Option, Some, None, if◌then◌else◌}
+use Rattle.std.specs.Prelude.{◌≡◌, ℕ, ◌<◌, ◌≤◌, Bool, true, false, ◌&&◌, ◌==◌, List, ◌++◌, length, map, Option, Some}
+use Rattle.std.specs.Prelude.{None, if◌then◌else◌}
 use Rattle.cm_board.specs.Board.{BoardText, SubText, takes_commands}
 use Rattle.cm_cmd.specs.Command.{CmdText}
 use Rattle.cm_signal.specs.Setting.{Setting}
@@ -51,7 +52,8 @@ pub record StandsAt (s : Setting) (t f i : ℕ) (at : At) : Type 0 where
   pub signals : at.signals.now ≡ s.signals
 
 -- the files and the subdevice are the reply's, and what is said for its answer is appended to the text
-pub record Tells (said : Answer → List ℕ) (reply : Reply) (files : FilesText) (device : Device) (old new : List ℕ) : Type 0 where
+pub record Tells
+    (said : Answer → List ℕ) (reply : Reply) (files : FilesText) (device : Device) (old new : List ℕ) : Type 0 where
   pub its_files : files ≡ reply.files
   pub its_device : device ≡ reply.device
   pub reported : new ≡ old ++ said reply.answer
@@ -88,7 +90,10 @@ IsWhole sub device = length device.state.values ≡ sub.channels
 
 -- the form of an instruction, whose data words are shown or not
 abbrev pub insn_form : Bool → Instr → List ℕ → Here → Form
-insn_form shown what words h = record { checks = use_checks h.file (claim_of h); reply = insn_reply shown h (insn_here h what.code what.entry words) }
+insn_form shown what words h = record {
+  checks = use_checks h.file (claim_of h);
+  reply = insn_reply shown h (insn_here h what.code what.entry words);
+}
 
 -- the files and the subdevices are those of an outcome, and what is said for its answer is appended to the text
 pub record LeadsTelling (said : Answer → List ℕ) (meant : Outcome) (state : State) (old new : List ℕ) : Type 0 where
@@ -145,8 +150,8 @@ names_sub op = true
 abbrev pub spot_of : At → Spot
 spot_of at = record { sub = at.sub.now; signals = at.signals.now }
 
--- what a line can rely on where it acts: the file is open and the subdevice there, what is asked has its limits, the subdevice's command was
--- brought to the time, and what was tried of the line's own command is at hand
+-- what a line can rely on where it acts: the file is open and the subdevice there, what is asked has its limits,
+-- the subdevice's command was brought to the time, and what was tried of the line's own command is at hand
 pub record CanAct (at : At) (op : Op) (tried : Option CmdText) (files : FilesText) (device : Device) : Type 0 where
   pub reached : IsReached at files
   pub limits : HasLimits op
@@ -165,7 +170,8 @@ pub record CanStep (s : Setting) (line : SessionLine) (tried : Option CmdText) (
   pub its_trial : tried ≡ tried_of s.board line.op
 
 -- what the lines of a session can rely on from its start
-pub record CanReplay (s : Setting) (lines : List SessionLine) (tried : List (Option CmdText)) (devices : List Device) : Type 0 where
+pub record CanReplay
+    (s : Setting) (lines : List SessionLine) (tried : List (Option CmdText)) (devices : List Device) : Type 0 where
   pub job : IsSoundJob (record { board = s.board; signals = s.signals; lines = lines })
   pub few : length s.board.subs ≤ 16
   pub trials : tried ≡ map (λ line. tried_of s.board line.op) lines

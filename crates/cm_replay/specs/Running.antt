@@ -12,9 +12,9 @@ use Rattle.cm_replay.specs.Conversions.{munged_from}
 use Rattle.cm_replay.specs.declared.ending.End.{End}
 use Rattle.cm_replay.specs.declared.ending.End.TheVariants.{Done, Dry, Overrun, Underrun, Fifo}
 
--- what is planned for a command: its plan, its expansion, and whether nothing of it is cut off; those of its conversions that
--- reach the buffer, each at the time at which it does, and when one is lost after them; the edge that stops it, the last time of
--- the signals, the size of the buffer, and how samples are reported
+-- what is planned for a command: its plan, its expansion, and whether nothing of it is cut off;
+-- those of its conversions that reach the buffer, each at the time at which it does, and when one is lost after them;
+-- the edge that stops it, the last time of the signals, the size of the buffer, and how samples are reported
 pub record Schedule : Type 0 where
   pub plan : PlanText
   pub conversions : List Conv
@@ -26,8 +26,8 @@ pub record Schedule : Type 0 where
   pub size : ℕ
   pub format : Format
 
--- a command that runs: what is planned for it, its places, the words of an output from place r on (those below w munged),
--- and its end where it has come
+-- a command that runs: what is planned for it, its places,
+-- the words of an output from place r on (those below w munged), and its end where it has come
 pub record Running : Type 0 where
   pub schedule : Schedule
   pub r : ℕ
@@ -91,7 +91,11 @@ written_by c time = min (arrived c.schedule time) (c.r + c.schedule.size)
 
 -- an input brought to a time
 abbrev pub collected : Running → ℕ → Running
-collected c time = record c { w = written_by c time; a = written_by c time; end = end_by c.schedule (c.r + c.schedule.size) time }
+collected c time = record c {
+  w = written_by c time;
+  a = written_by c time;
+  end = end_by c.schedule (c.r + c.schedule.size) time;
+}
 
 -- the place up to which the words of an output are put out by a time
 abbrev pub put_by : Running → ℕ → ℕ
@@ -120,7 +124,8 @@ brought time c = if_running c.end
 
 -- words that are put out, each when its conversion comes
 abbrev pub outputs : ℕ → List Conv → List ℕ → List Output
-outputs sub (c ∷ conversions) (word ∷ words) = record { sub = sub; time = c.time; index = c.list_index; word = word } ∷ outputs sub conversions words
+outputs sub (c ∷ conversions) (word ∷ words) =
+    record { sub = sub; time = c.time; index = c.list_index; word = word } ∷ outputs sub conversions words
 outputs sub conversions words = []
 
 -- what a command puts out up to a time
@@ -128,5 +133,7 @@ abbrev pub due : ℕ → ℕ → Running → List Output
 due sub time c = if_running c.end
   where
     if_running : Option End → List Output
-    if_running None = if is_out c.schedule then outputs sub (take (put_by c time - c.r) (drop c.r c.schedule.arrivals)) c.words else []
+    if_running None =
+        if is_out c.schedule then outputs sub (take (put_by c time - c.r) (drop c.r c.schedule.arrivals)) c.words
+        else []
     if_running (Some e) = []

@@ -41,11 +41,16 @@ unless_refused (Some error) state outcome = record { answer = Refused error; sta
 
 -- the state in which one subdevice replied
 abbrev pub with_reply : ℕ → State → Reply → Outcome
-with_reply i state reply = record { answer = reply.answer; state = record { files = reply.files; devices = set state.devices i reply.device } }
+with_reply i state reply = record {
+  answer = reply.answer;
+  state = record { files = reply.files; devices = set state.devices i reply.device };
+}
 
 -- a line that names a subdevice
 abbrev pub act_on : Op → Here → State → Outcome
-act_on op h state = unless_refused (first_refusal (line_checks op h ++ (form op h).checks)) state (with_reply h.index state (form op h).reply)
+act_on op h state =
+    unless_refused (first_refusal (line_checks op h ++ (form op h).checks)) state
+    (with_reply h.index state (form op h).reply)
 
 -- a command goes on where its file still has the subdevice
 abbrev pub left_by : Claim → Device → Device
@@ -58,7 +63,10 @@ left_devices claims devices = devices
 
 -- a closed file has given up its locks and its commands
 abbrev pub closed_state : ℕ → State → State
-closed_state f state = record { files = closed f state.files; devices = left_devices (closed f state.files).claims state.devices }
+closed_state f state = record {
+  files = closed f state.files;
+  devices = left_devices (closed f state.files).claims state.devices;
+}
 
 -- what a line does once all commands are brought to its time
 abbrev pub act : Setting → SessionLine → Op → State → Outcome
@@ -66,9 +74,15 @@ act s line ops.OpenFile state =
     unless_refused (first_refusal (open_checks line.file state.files)) state
     (record { answer = Fine; state = record state { files = opened line.file state.files } })
 act s line ops.CloseFile state =
-    unless_refused (first_refusal (close_checks line.file state.files)) state (record { answer = Fine; state = closed_state line.file state })
+    unless_refused (first_refusal (close_checks line.file state.files)) state (record {
+      answer = Fine;
+      state = closed_state line.file state;
+    })
 act s line (ops.InsnGtod sub) state =
-    unless_refused (first_refusal (close_checks line.file state.files)) state (record { answer = Data 2 (time_words line.time); state = state })
+    unless_refused (first_refusal (close_checks line.file state.files)) state (record {
+      answer = Data 2 (time_words line.time);
+      state = state;
+    })
 act s line op state = act_on op (here s line state) state
 
 -- a subdevice's command brought to a time

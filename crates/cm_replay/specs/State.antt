@@ -21,7 +21,8 @@ pub record State : Type 0 where
   pub files : FilesText
   pub devices : List Device
 
--- a subdevice before the first line: every value is 0, every channel that can be configured is an input, and no command runs
+-- a subdevice before the first line: every value is 0,
+-- every channel that can be configured is an input, and no command runs
 abbrev pub idle_device : SubText → Device
 idle_device sub = record { state = first_state sub.channels; running = None }
 
@@ -33,7 +34,8 @@ at_start s = record { files = no_files (length s.board.subs); devices = map idle
 abbrev pub device_at : List Device → ℕ → Device
 device_at devices i = get_or devices i (idle_device no_sub)
 
--- what a line sees: its time and its file, the number of its subdevice, that subdevice and the signals, the files, and what the subdevice is
+-- what a line sees: its time and its file, the number of its subdevice,
+-- that subdevice and the signals, the files, and what the subdevice is
 pub record Here : Type 0 where
   pub time : ℕ
   pub file : ℕ

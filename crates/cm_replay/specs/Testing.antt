@@ -17,4 +17,5 @@ test_on sub cmd = if takes_commands sub then test_text (tested sub cmd) else cod
 
 -- the answer to a command
 abbrev pub test_answer : BoardText → CmdText → List ℕ
-test_answer board cmd = if nat_lt cmd.sub (length board.subs) then test_on (sub_at board cmd.sub) cmd else codes "err 19\n"
+test_answer board cmd =
+    if nat_lt cmd.sub (length board.subs) then test_on (sub_at board cmd.sub) cmd else codes "err 19\n"

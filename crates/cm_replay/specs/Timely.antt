@@ -5,8 +5,8 @@ use Rattle.cm_expand.specs.Taking.{NeverFalls}
 use Rattle.cm_replay.specs.Running.{Schedule, arrived}
 use Rattle.cm_replay.specs.Calling.{has_come}
 
--- nothing reaches the buffer before the start, and all that reaches it does so in order, up to the horizon; that is the whole
--- expansion, or less where one is lost after it
+-- nothing reaches the buffer before the start, and all that reaches it does so in order,
+-- up to the horizon; that is the whole expansion, or less where one is lost after it
 pub record IsTimely (s : Schedule) : Type 0 where
   pub order : NeverFalls s.arrivals
   pub early : (time : ℕ) → has_come (start_of s.plan) time ≡ false → arrived s time ≡ 0

@@ -57,12 +57,14 @@ write_on words c = mark_on (length words) (fill_on words c)
 -- `fill`: the first words, as far as there is room
 abbrev pub fill_reply : List ℕ → Here → Option Running → Reply
 fill_reply words h None = kept h Idle
-fill_reply words h (Some c) = unless_ended h (reported_end c) (goes_on h (fill_on (taken_in words c) c) (Filled (taken_in words c)))
+fill_reply words h (Some c) =
+    unless_ended h (reported_end c) (goes_on h (fill_on (taken_in words c) c) (Filled (taken_in words c)))
 
 -- `write`: the same, and they are marked
 abbrev pub write_reply : List ℕ → Here → Option Running → Reply
 write_reply words h None = kept h Idle
-write_reply words h (Some c) = unless_ended h (reported_end c) (goes_on h (write_on (taken_in words c) c) (Written (taken_in words c)))
+write_reply words h (Some c) =
+    unless_ended h (reported_end c) (goes_on h (write_on (taken_in words c) c) (Written (taken_in words c)))
 
 -- `mark`: the first `k` words that aren't marked
 abbrev pub mark_reply : ℕ → Here → Option Running → Reply
