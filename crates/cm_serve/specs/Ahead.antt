@@ -1,5 +1,6 @@
 -- The lines that a client has still to say, where it tells them.
-use Rattle.std.specs.Prelude.{◌≡◌, ℕ, ◌<◌, true, false, List, [], ◌∷◌, ◌++◌, length, Option, Some, None, Bool, Result, Ok, Err, IfSome, ⊤}
+use Rattle.std.specs.Prelude.{◌≡◌, ℕ, ◌<◌, true, false, List, [], ◌∷◌, ◌++◌, length, Option, Some, None, Bool, Result}
+use Rattle.std.specs.Prelude.{Ok, Err, IfSome, ⊤}
 use Rattle.std.specs.List.{All}
 use Rattle.cm_base.specs.Lines.{is_line_feed}
 use Rattle.cm_base.specs.declared.transfer.ReadError.{ReadError}
@@ -28,4 +29,5 @@ BeginsLong (line ∷ lines) = 1048576 < length line
 abbrev pub HearsNext : Result Bool ReadError → Option (List (List ℕ)) → Option (List (List ℕ)) → List ℕ → Type 0
 HearsNext (Ok true) ahead left line = Came ahead left (line ∷ [])
 HearsNext (Ok false) ahead left line = AreAhead [] ahead
-HearsNext (Err stop) ahead left line = stop ≡ TooLong → (lines : List (List ℕ)) × AreAhead lines ahead × BeginsLong lines
+HearsNext (Err stop) ahead left line =
+    stop ≡ TooLong → (lines : List (List ℕ)) × AreAhead lines ahead × BeginsLong lines

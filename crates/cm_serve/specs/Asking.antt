@@ -1,5 +1,5 @@
--- What a client asks between the lines of a session. Each question is a line of a session in other words: it has that line's checks
--- and that line's effect, and where nothing refuses it, more is reported than for the line.
+-- What a client asks between the lines of a session. Each question is a line of a session in other words:
+-- it has that line's checks and that line's effect, and where nothing refuses it, more is reported than for the line.
 use Rattle.std.specs.Prelude.{ℕ, max, min, List, ◌++◌, codes, Option, Some, None}
 use Rattle.std.specs.Fmt.{decimal}
 use Rattle.cm_signal.specs.Setting.{Setting}
@@ -21,13 +21,14 @@ use Rattle.cm_serve.specs.declared.asked.Fetch.{Fetch}
 use Rattle.cm_serve.specs.declared.asked.Question.{Question}
 use Rattle.cm_serve.specs.declared.asked.Question.TheVariants.{Await, Info, Codes, Peek}
 
--- the line that a question is in other words
+-- what the line asks that a question is in other words
 abbrev pub asked_op : ℕ → Question → Op
 asked_op sub (Await n) = ops.Contents sub
 asked_op sub Info = ops.Contents sub
 asked_op sub (Codes n) = ops.Read sub n
 asked_op sub (Peek from n) = ops.Contents sub
 
+-- the line that a question is in other words
 abbrev pub line_of : Asked → SessionLine
 line_of asked = record { time = asked.time; file = asked.file; op = asked_op asked.sub asked.question }
 
@@ -43,7 +44,8 @@ standing (Some (Fifo k)) = codes "fifo " ++ decimal k
 -- the places up to which samples were read and written, and how the command stands
 abbrev pub info_text : Option Running → List ℕ
 info_text None = codes "ok 0 0 idle\n"
-info_text (Some c) = codes "ok " ++ decimal c.r ++ codes " " ++ decimal c.w ++ codes " " ++ standing (reported_end c) ++ codes "\n"
+info_text (Some c) =
+    codes "ok " ++ decimal c.r ++ codes " " ++ decimal c.w ++ codes " " ++ standing (reported_end c) ++ codes "\n"
 
 -- what is reported at a time of a command that was brought to it, where the line answers this
 abbrev pub report : Question → ℕ → Option Running → Answer → List ℕ
@@ -68,13 +70,16 @@ abbrev pub told_time : Question → ℕ → Option Running → Answer → ℕ
 told_time (Await n) time running (Holds k) = await_time n time running
 told_time question time running answer = time
 
+-- the time that a question tells, asked in this state
 abbrev pub asked_time : Setting → Asked → State → ℕ
-asked_time s asked state = told_time asked.question asked.time (asked_about asked state) (step s (line_of asked) state).answer
+asked_time s asked state =
+    told_time asked.question asked.time (asked_about asked state) (step s (line_of asked) state).answer
 
--- a fetch awaits samples, and takes some at a time
+-- the first question of a fetch: it awaits its samples
 abbrev pub awaits : Fetch → Asked
 awaits fetch = record { time = fetch.time; file = fetch.file; sub = fetch.sub; question = Await fetch.wanted }
 
+-- its second question: from this time it takes some
 abbrev pub takes : ℕ → Fetch → Asked
 takes time fetch = record { time = time; file = fetch.file; sub = fetch.sub; question = Codes fetch.n }
 

@@ -10,7 +10,8 @@ use Rattle.cm_serve.specs.declared.stop.TalkStop.TheVariants.{TooLong}
 
 -- all lines to come were heard and answered, each before the next one
 abbrev pub HasConversed : Option (List (List ℕ)) → Option (List Turn) → Option (List Turn) → Play → ℕ → Type 0
-HasConversed ahead old new p first = (lines : List (List ℕ)) × AreAhead lines ahead × All IsLine lines × Says old new (dialogue p first lines)
+HasConversed ahead old new p first =
+    (lines : List (List ℕ)) × AreAhead lines ahead × All IsLine lines × Says old new (dialogue p first lines)
 
 -- that was cut short after the first of them; where it was for a line that is too long, those before it were answered
 abbrev pub IsCutOff : TalkStop → Option (List (List ℕ)) → Option (List Turn) → Option (List Turn) → Play → ℕ → Type 0
@@ -22,6 +23,8 @@ IsCutOff stop ahead old new p first =
     × Says old new cut
     × (stop ≡ TooLong → BeginsLong more × (rest ≡ []))
 
-abbrev pub Converses : Result (Unit {0}) TalkStop → Option (List (List ℕ)) → Option (List Turn) → Option (List Turn) → Play → ℕ → Type 0
+-- what was read, said and left in a conversation, whether it came to its end or was cut off
+abbrev pub Converses :
+    Result (Unit {0}) TalkStop → Option (List (List ℕ)) → Option (List Turn) → Option (List Turn) → Play → ℕ → Type 0
 Converses (Ok done) ahead old new p first = HasConversed ahead old new p first
 Converses (Err stop) ahead old new p first = IsCutOff stop ahead old new p first

@@ -31,7 +31,10 @@ asked_reply p asked = record { text = asked_text p.setting asked p.state; play =
 
 -- a reply, and what is asked after it
 abbrev pub then_asked : Reply → Asked → Reply
-then_asked reply asked = record { text = reply.text ++ (asked_reply reply.play asked).text; play = (asked_reply reply.play asked).play }
+then_asked reply asked = record {
+  text = reply.text ++ (asked_reply reply.play asked).text;
+  play = (asked_reply reply.play asked).play;
+}
 
 -- a fetch has the two replies of its questions
 abbrev pub fetched : Play → Fetch → Reply
@@ -55,6 +58,7 @@ abbrev pub reply_of : Play → ℕ → List LineText → Reply
 reply_of p number [] = unchanged p []
 reply_of p number (line ∷ rest) = replied_if p (at_line number (said_by (bounds_at p) p.latest line))
 
+-- the answer to the bytes of a line with this number
 abbrev pub reply : Play → ℕ → List ℕ → Reply
 reply p number bytes = reply_of p number (lines_of bytes)
 
@@ -65,4 +69,5 @@ next_number n = min (n + 1) 4294967295
 -- each line is answered before the next one is heard; the first has this number
 abbrev pub dialogue : Play → ℕ → List (List ℕ) → List Turn
 dialogue p number [] = []
-dialogue p number (bytes ∷ lines) = Line bytes ∷ Answer (reply p number bytes).text ∷ dialogue (reply p number bytes).play (next_number number) lines
+dialogue p number (bytes ∷ lines) =
+    Line bytes ∷ Answer (reply p number bytes).text ∷ dialogue (reply p number bytes).play (next_number number) lines

@@ -28,7 +28,12 @@ StartsLater lines = All (λ line. starts_session line ≡ false) lines
 
 -- whether the session follows: after its last line, or not at all
 abbrev pub Follows : Bool → List (List ℕ) → Type 0
-Follows true lines = (before : List (List ℕ)) × (last : List ℕ) × (lines ≡ before ++ last ∷ []) × StartsLater before × (starts_session last ≡ true)
+Follows true lines =
+    (before : List (List ℕ))
+    × (last : List ℕ)
+    × (lines ≡ before ++ last ∷ [])
+    × StartsLater before
+    × (starts_session last ≡ true)
 Follows false lines = StartsLater lines
 
 -- none of these lines but the last starts the session
@@ -40,7 +45,8 @@ abbrev pub IsLongHead : List (List ℕ) → List (List ℕ) → Type 0
 IsLongHead heard more = (1048576 < length (text_of heard)) ⊎ (StartsLater heard × BeginsLong more)
 
 -- these lines were heard, and are the text; where no session follows, they are all that came
-pub record IsHeadHeard (head : Head) (ahead left : Option (List (List ℕ))) (old new : Option (List Turn)) (text : List ℕ) : Type 0 where
+pub record IsHeadHeard
+    (head : Head) (ahead left : Option (List (List ℕ))) (old new : Option (List Turn)) (text : List ℕ) : Type 0 where
   pub lines : List (List ℕ)
   pub single : All IsLine lines
   pub says : Says old new (map Line lines)
@@ -59,7 +65,9 @@ pub record IsHeadCut (stop : TalkStop) (ahead : Option (List (List ℕ))) (old n
   pub head : IsHead heard
   pub long : stop ≡ TooLong → IsLongHead heard more
 
+-- what was read, said and left of a head, whether it was heard whole or cut off
 abbrev pub HasHead :
-    Result Head TalkStop → Option (List (List ℕ)) → Option (List (List ℕ)) → Option (List Turn) → Option (List Turn) → List ℕ → Type 0
+    Result Head TalkStop → Option (List (List ℕ)) → Option (List (List ℕ)) → Option (List Turn) → Option (List Turn)
+    → List ℕ → Type 0
 HasHead (Ok head) ahead left old new text = IsHeadHeard head ahead left old new text
 HasHead (Err stop) ahead left old new text = IsHeadCut stop ahead old new

@@ -41,7 +41,8 @@ said_in p (line ∷ rest) = result_ok (said_by (bounds_at p) p.latest line)
 abbrev pub lines_of_fetch : Play → Fetch → List SessionLine
 lines_of_fetch p fetch = line_of (awaits fetch) ∷ line_of (takes (taking_time p.setting fetch p.state) fetch) ∷ []
 
--- the record of a client's line: itself where it is one of the session, and of a question the line that it is in other words
+-- the record of a client's line: itself where it is one of the session,
+-- and of a question the line that it is in other words
 abbrev pub record_of : Play → Option Said → List SessionLine
 record_of p None = []
 record_of p (Some (says.Session line)) = line ∷ []
@@ -53,7 +54,8 @@ record_of p (Some says.Describe) = []
 -- the record of a dialogue from here on; the first line has this number
 abbrev pub recorded : Play → ℕ → List (List ℕ) → List SessionLine
 recorded p number [] = []
-recorded p number (bytes ∷ lines) = record_of p (said_in p (lines_of bytes)) ++ recorded (reply p number bytes).play (next_number number) lines
+recorded p number (bytes ∷ lines) =
+    record_of p (said_in p (lines_of bytes)) ++ recorded (reply p number bytes).play (next_number number) lines
 
 -- how the session stands after the dialogue
 abbrev pub play_after : Play → ℕ → List (List ℕ) → Play
@@ -65,7 +67,8 @@ abbrev pub played_all : Play → List SessionLine → Play
 played_all p [] = p
 played_all p (line ∷ lines) = played_all (played p line) lines
 
--- the answer to the record of a client's line: its own answer where it is one of the session, and of a question that to the line in its place
+-- the answer to the record of a client's line: its own answer where it is one of the session,
+-- and of a question that to the line in its place
 abbrev pub answer_of : Play → List ℕ → Option Said → List ℕ
 answer_of p text None = []
 answer_of p text (Some (says.Session line)) = text
@@ -78,7 +81,8 @@ answer_of p text (Some says.Describe) = []
 abbrev pub recorded_answers : Play → ℕ → List (List ℕ) → List ℕ
 recorded_answers p number [] = []
 recorded_answers p number (bytes ∷ lines) =
-    answer_of p (reply p number bytes).text (said_in p (lines_of bytes)) ++ recorded_answers (reply p number bytes).play (next_number number) lines
+    answer_of p (reply p number bytes).text (said_in p (lines_of bytes))
+    ++ recorded_answers (reply p number bytes).play (next_number number) lines
 
 -- the record is a session, whose replay gives these answers, and which leaves what the dialogue leaves
 pub record IsRecord (s : Setting) (first : ℕ) (lines : List (List ℕ)) : Type 0 where

@@ -1,5 +1,6 @@
 -- What a line of a dialogue says.
-use Rattle.std.specs.Prelude.{ℕ, false, nat_le, List, [], ◌∷◌, drop, codes, Option, Some, None, Result, Ok, Err, if◌then◌else◌}
+use Rattle.std.specs.Prelude.{ℕ, false, nat_le, List, [], ◌∷◌, drop, codes, Option, Some, None, Result, Ok, Err}
+use Rattle.std.specs.Prelude.{if◌then◌else◌}
 use Rattle.cm_base.specs.Lines.{LineText}
 use Rattle.cm_base.specs.Parts.{begins}
 use Rattle.cm_base.specs.Reading.{◌>>=◌}
@@ -19,7 +20,8 @@ use Rattle.cm_serve.specs.declared.asked.Question.TheVariants.{Await, Info, Code
 use Rattle.cm_serve.specs.declared.said.Said.{Said}
 use Rattle.cm_serve.specs.declared.said.Said.TheVariants as says
 
--- what is asked of a subdevice, by the time of the line before, its bounds, the word of its own time, and the words after its key
+-- what is asked of a subdevice, by the time of the line before,
+-- its bounds, the word of its own time, and the words after its key
 abbrev pub QuestionForm : Type 0
 QuestionForm = ℕ → Bounds → List ℕ → Form Said
 
@@ -33,7 +35,8 @@ asked_after before asked = if nat_le before asked.time then Ok (says.Question as
 
 -- `T KEY F SUB`
 abbrev pub plain : Question → QuestionForm
-plain question before bounds time words = sub_words bounds time words >>= λ w. asked_after before (asked_by w.0 w.1 question)
+plain question before bounds time words =
+    sub_words bounds time words >>= λ w. asked_after before (asked_by w.0 w.1 question)
 
 -- how many samples a question takes at most
 abbrev pub most_taken : Bounds → ℕ
@@ -45,7 +48,8 @@ most_held bounds = most_in bounds.version 65536 1048576
 
 -- `T KEY F SUB N`, with a number up to a limit
 abbrev pub counted : (Bounds → ℕ) → (ℕ → Question) → QuestionForm
-counted most make before bounds time words = number_words (most bounds) bounds time words >>= λ w. asked_after before (asked_by w.0 w.1 (make w.2))
+counted most make before bounds time words =
+    number_words (most bounds) bounds time words >>= λ w. asked_after before (asked_by w.0 w.1 (make w.2))
 
 -- `T KEY F SUB I N`: samples are counted up to I, and N are taken
 abbrev pub ranged_words : Bounds → List ℕ → Form (Head × ℕ × ℕ × ℕ)
@@ -56,21 +60,26 @@ ranged_words bounds time words =
     number_in 0 (most_taken bounds) w.3 >>= λ n.
     Ok (at.0, at.1, from, n)
 
+-- a question about so many samples from a place on, which these two numbers make
 abbrev pub ranged : (ℕ → ℕ → Question) → QuestionForm
-ranged make before bounds time words = ranged_words bounds time words >>= λ w. asked_after before (asked_by w.0 w.1 (make w.2 w.3))
+ranged make before bounds time words =
+    ranged_words bounds time words >>= λ w. asked_after before (asked_by w.0 w.1 (make w.2 w.3))
 
 -- a fetch after a line of this time, which it may not be below
 abbrev pub fetch_after : ℕ → Fetch → Result Said Fault
 fetch_after before fetch = if nat_le before fetch.time then Ok (says.Fetch fetch) else Err Bad
 
+-- a fetch: how many samples it awaits, and how many it takes
 abbrev pub fetching : QuestionForm
 fetching before bounds time words =
-    ranged_words bounds time words >>= λ w. fetch_after before (record { time = w.0.time; file = w.0.file; sub = w.1; wanted = w.2; n = w.3 })
+    ranged_words bounds time words >>= λ w.
+    fetch_after before (record { time = w.0.time; file = w.0.file; sub = w.1; wanted = w.2; n = w.3 })
 
 -- the questions by their keys
 abbrev pub questions : List (List ℕ × QuestionForm)
 questions =
-    (codes "await", counted most_held Await) ∷ (codes "info", plain Info) ∷ (codes "codes", counted most_taken Codes) ∷ (codes "peek", ranged Peek)
+    (codes "await", counted most_held Await) ∷ (codes "info", plain Info) ∷ (codes "codes", counted most_taken Codes)
+    ∷ (codes "peek", ranged Peek)
     ∷ (codes "fetch", fetching) ∷ []
 
 -- a line of the session
@@ -92,5 +101,6 @@ abbrev pub said_by : Bounds → ℕ → LineText → Result Said Fault
 said_by bounds before line =
     if line.bad then Err BadLine
     else if begins (codes "describe") line then (no_words (drop 1 line.words) >>= λ none. Ok says.Describe)
-    else if begins (codes "test") line then (command_of (most_entries bounds.version) (drop 1 line.words) >>= λ cmd. Ok (says.Test cmd))
+    else if begins (codes "test") line
+    then (command_of (most_entries bounds.version) (drop 1 line.words) >>= λ cmd. Ok (says.Test cmd))
     else worded bounds before line line.words

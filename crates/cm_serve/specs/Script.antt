@@ -6,10 +6,12 @@ use Rattle.cm_serve.specs.declared.script.Script.{Script}
 use Rattle.cm_serve.specs.declared.script.Spoken.{Spoken}
 use Rattle.cm_serve.specs.declared.script.Spoken.TheVariants as spoken
 
+-- what one side said
 abbrev pub turn_of : Spoken → Turn
 turn_of (spoken.Line line) = Line line.items
 turn_of (spoken.Answer text) = Answer text.items
 
+-- all that was said, in order
 abbrev pub spoken_turns : List Spoken → List Turn
 spoken_turns all = map turn_of all
 

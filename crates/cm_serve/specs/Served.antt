@@ -28,14 +28,23 @@ IsHeld ahead old new =
 -- the same of a client whose board or signals are refused
 abbrev pub IsDeclined : Option (List (List ℕ)) → Option (List Turn) → Option (List Turn) → Type 0
 IsDeclined ahead old new =
-    (lines : List (List ℕ)) × (refused : Refused) × AreAhead lines ahead × (setting_said lines ≡ Err refused) × Says old new (conversation lines)
+    (lines : List (List ℕ))
+    × (refused : Refused)
+    × AreAhead lines ahead
+    × (setting_said lines ≡ Err refused)
+    × Says old new (conversation lines)
 
 -- that was cut short
 abbrev pub IsCutShort : Option (List (List ℕ)) → Option (List Turn) → Option (List Turn) → Type 0
 IsCutShort ahead old new =
-    (lines : List (List ℕ)) × (cut rest : List Turn) × AreAhead lines ahead × (conversation lines ≡ cut ++ rest) × Says old new cut
+    (lines : List (List ℕ))
+    × (cut rest : List Turn)
+    × AreAhead lines ahead
+    × (conversation lines ≡ cut ++ rest)
+    × Says old new cut
 
--- the lines of the head are too long, of which none has an answer; or the next line is, and those before it are answered
+-- the lines of the head are too long, of which none has an answer;
+-- or the next line is, and those before it are answered
 abbrev pub IsLongAfter : List (List ℕ) → List (List ℕ) → List Turn → Type 0
 IsLongAfter heard more said =
     (IsHead heard × IsLongHead heard more × (said ≡ map Line heard))
@@ -44,12 +53,17 @@ IsLongAfter heard more said =
 -- a client has said too much, and this was said last
 abbrev pub IsTooLong : Option (List (List ℕ)) → Option (List Turn) → Option (List Turn) → List Turn → Type 0
 IsTooLong ahead old new last =
-    (heard more : List (List ℕ)) × (said : List Turn) × AreAhead (heard ++ more) ahead × IsLongAfter heard more said × Says old new (said ++ last)
+    (heard more : List (List ℕ))
+    × (said : List Turn)
+    × AreAhead (heard ++ more) ahead
+    × IsLongAfter heard more said
+    × Says old new (said ++ last)
 
 -- the answer to one who is refused
 abbrev pub refusal : Refused → Turn
 refusal refused = Answer (refused_text refused)
 
+-- what was read and said, by the way in which serving a client ended
 abbrev pub Serves : Served → Option (List (List ℕ)) → Option (List Turn) → Option (List Turn) → Type 0
 Serves served.Done ahead old new = IsHeld ahead old new
 Serves served.Refused ahead old new = IsDeclined ahead old new ⊎ IsTooLong ahead old new (refusal too_long ∷ [])
@@ -66,7 +80,8 @@ IsNearlyHeld refused ahead old new =
     × Says old new cut
 
 -- the same before an answer says why the client is refused
-abbrev pub Holds : Result (Unit {0}) ServeStop → Option (List (List ℕ)) → Option (List Turn) → Option (List Turn) → Type 0
+abbrev pub Holds :
+    Result (Unit {0}) ServeStop → Option (List (List ℕ)) → Option (List Turn) → Option (List Turn) → Type 0
 Holds (Ok done) ahead old new = IsHeld ahead old new
 Holds (Err (stops.Refused refused)) ahead old new = IsNearlyHeld refused ahead old new
 Holds (Err (stops.Cut stop)) ahead old new = IsCutShort ahead old new × (stop ≡ TooLong → IsTooLong ahead old new [])

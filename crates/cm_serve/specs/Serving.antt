@@ -15,7 +15,8 @@ use Rattle.cm_serve.specs.Turns.{Turn, Line, Answer}
 -- the board and the signals that a text says
 abbrev pub setting_of : List ℕ → Result Setting Refused
 setting_of text =
-    board_of (length (raw_lines text) + 1) (lines_of text) >>= λ b. signals_at b.0 (length (raw_lines text) + 1) b.1 (lines_of text) >>= λ s.
+    board_of (length (raw_lines text) + 1) (lines_of text) >>= λ b.
+    signals_at b.0 (length (raw_lines text) + 1) b.1 (lines_of text) >>= λ s.
     Ok (record { board = b.0; signals = s.0 })
 
 -- those of a client that says these lines
@@ -30,4 +31,5 @@ follows (Ok s) first lines = dialogue (first_play s) first lines
 -- all that is said with a client that says these lines
 abbrev pub conversation : List (List ℕ) → List Turn
 conversation lines =
-    map Line (head_of lines) ++ follows (setting_said lines) (length (head_of lines) + 1) (drop (length (head_of lines)) lines)
+    map Line (head_of lines)
+    ++ follows (setting_said lines) (length (head_of lines) + 1) (drop (length (head_of lines)) lines)

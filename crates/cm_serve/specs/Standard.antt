@@ -5,7 +5,8 @@ use Rattle.std.specs.Option.{option_map}
 use Rattle.std.specs.Io.KnownBytes.{Consumes, IsAtEnd, prepend_known}
 use Rattle.cm_base.specs.Lines.{is_line_feed, raw_lines}
 
--- what was read and not heard yet, what the reader has left and the writer has taken, where they tell it, and the count of their faults
+-- what was read and not heard yet, what the reader has left and the writer has taken,
+-- where they tell it, and the count of their faults
 pub record Ends : Type 0 where
   pub waiting : List ℕ
   pub left : Option (List ℕ)
@@ -20,7 +21,8 @@ unheard c = prepend_known c.waiting c.left
 abbrev pub unheard_lines : Ends → Option (List (List ℕ))
 unheard_lines c = option_map raw_lines (unheard c)
 
--- the bytes that wait were moved to a line up to the first line feed, which is dropped, or all of them where there is none
+-- the bytes that wait were moved to a line up to the first line feed,
+-- which is dropped, or all of them where there is none
 pub record Moved (ended : Bool) (old new : Ends) (before line : List ℕ) : Type 0 where
   pub line_is : line ≡ before ++ before_first is_line_feed old.waiting
   pub waits : new.waiting ≡ after_first is_line_feed old.waiting
