@@ -11,8 +11,12 @@ use Rattle.cm_ring_core.specs.declared.view.View.{View}
 use Rattle.cm_ring_core.specs.Lawful.{shown, plan_at, munged_at, end_word, IsRightEnd, IsFoundEnd, ring_view}
 
 -- a seat of a ring: what it knows, and what it holds
-abbrev Seat : Type 0
-Seat = Me (Unit {0}) View
+abbrev pub RingMe : Type 0
+RingMe = Me (Unit {0}) View
+
+-- a kind of step: what the seat that makes it knew, the number found or stored, and what the seat knows after it
+abbrev pub Kind : Type 1
+Kind = Step (Unit {0}) → RingMe → ℕ → RingMe → Type 0
 
 -- the word of the cell of a place
 abbrev pub cell_of : RingConstants → ℕ → ℕ
@@ -28,7 +32,7 @@ SeesRead v n u = (w : WriterPart) → v.writer ≡ Some w
     × (u ≡ record v { writer = Some (record w { freed = k; at = w.next; read_looks = w.read_looks + 1 }) })
 
 -- the step by which the writer learns how many samples are released
-abbrev pub sees_read : Step (Unit {0}) → Seat → ℕ → Seat → Type 0
+abbrev pub sees_read : Kind
 sees_read st me n me' = SeesRead me.0 n me'.0
 
 -- the writer may store the plan's next word into its cell: there is room, and it has no end yet
@@ -48,7 +52,7 @@ abbrev pub Puts : View → View → Type 0
 Puts v u = (w : WriterPart) → v.writer ≡ Some w → u ≡ record v { writer = Some (record w { next = w.next + 1 }) }
 
 -- the step by which the writer puts a sample
-abbrev pub puts : Step (Unit {0}) → Seat → ℕ → Seat → Type 0
+abbrev pub puts : Kind
 puts st me n me' = Puts me.0 me'.0
 
 -- the writer may store the written count: that of all that it put
@@ -60,7 +64,7 @@ abbrev pub Publishes : View → View → Type 0
 Publishes v u = (w : WriterPart) → v.writer ≡ Some w → u ≡ record v { writer = Some (record w { written = w.next }) }
 
 -- the step by which the writer publishes what it put
-abbrev pub publishes : Step (Unit {0}) → Seat → ℕ → Seat → Type 0
+abbrev pub publishes : Kind
 publishes st me n me' = Publishes me.0 me'.0
 
 -- the munger may exchange the next raw word that it knows for its munged word
@@ -80,7 +84,7 @@ Munges v n u =
     → (n ≡ plan_at v.ring m.exchanged) × (u ≡ record v { munger = Some (record m { exchanged = m.exchanged + 1 }) })
 
 -- the step by which the munger munges a sample
-abbrev pub munges : Step (Unit {0}) → Seat → ℕ → Seat → Type 0
+abbrev pub munges : Kind
 munges st me n me' = Munges me.0 n me'.0
 
 -- the munger may store the munged count: that of all that it munged
@@ -92,7 +96,7 @@ abbrev pub Shows : View → View → Type 0
 Shows v u = (m : MungerPart) → v.munger ≡ Some m → u ≡ record v { munger = Some (record m { munged = m.exchanged }) }
 
 -- the step by which the munger shows the reader what it munged
-abbrev pub shows : Step (Unit {0}) → Seat → ℕ → Seat → Type 0
+abbrev pub shows : Kind
 shows st me n me' = Shows me.0 me'.0
 
 -- the reader loads the munged count. Where an end was found, the load does not pass its count
@@ -107,7 +111,7 @@ SeesMunged v n u = (r : ReaderPart) → v.reader ≡ Some r
     × (u ≡ record v { reader = Some (record r { known = k; munged_looks = r.munged_looks + 1 }) })
 
 -- the step by which the reader learns how many samples are munged
-abbrev pub sees_munged : Step (Unit {0}) → Seat → ℕ → Seat → Type 0
+abbrev pub sees_munged : Kind
 sees_munged st me n me' = SeesMunged me.0 n me'.0
 
 -- where a cell is that of a place that the reader knows, it has the munged word
@@ -122,7 +126,7 @@ abbrev pub ReadsCell : View → ℕ → ℕ → View → Type 0
 ReadsCell v i n u = (u ≡ v) × FindsMunged v i n
 
 -- the step by which the reader takes a sample
-abbrev pub reads_cell : Step (Unit {0}) → Seat → ℕ → Seat → Type 0
+abbrev pub reads_cell : Kind
 reads_cell st me n me' = ReadsCell me.0 st.word n me'.0
 
 -- where a cell is that of the munger's next published place, it has the plan's word
@@ -137,7 +141,7 @@ abbrev pub TakesCell : View → ℕ → ℕ → View → Type 0
 TakesCell v i n u = (u ≡ v) × FindsRaw v i n
 
 -- the step by which the munger looks at a raw word
-abbrev pub takes_cell : Step (Unit {0}) → Seat → ℕ → Seat → Type 0
+abbrev pub takes_cell : Kind
 takes_cell st me n me' = TakesCell me.0 st.word n me'.0
 
 -- the reader may store the released count: that of a place that it knows
@@ -153,7 +157,7 @@ Releases v n u =
     → u ≡ record v { reader = Some (record r { released = k }) }
 
 -- the step by which the reader releases samples
-abbrev pub releases : Step (Unit {0}) → Seat → ℕ → Seat → Type 0
+abbrev pub releases : Kind
 releases st me n me' = Releases me.0 n me'.0
 
 -- the writer may store an end that is right for where it stands, once
@@ -172,7 +176,7 @@ EndsWith v n u =
     → u ≡ record v { writer = Some (record w { closed = Some e }) }
 
 -- the step by which the writer ends
-abbrev pub ends_with : Step (Unit {0}) → Seat → ℕ → Seat → Type 0
+abbrev pub ends_with : Kind
 ends_with st me n me' = EndsWith me.0 n me'.0
 
 -- the reader loads the end. An end that was found stays, and says what holds of its kind
@@ -185,7 +189,7 @@ Finds v n u = (r : ReaderPart) → v.reader ≡ Some r
     × ((e : End) → found ≡ Some e → (r.known ≤ e.count) × IsFoundEnd v.ring r e.kind e.count)
 
 -- the step by which the reader looks for the end
-abbrev pub finds : Step (Unit {0}) → Seat → ℕ → Seat → Type 0
+abbrev pub finds : Kind
 finds st me n me' = Finds me.0 n me'.0
 
 -- the munger loads the end. An end that was found stays, and its count is not below what the munger knows as written
@@ -198,7 +202,7 @@ MungerFinds v n u = (m : MungerPart) → v.munger ≡ Some m
     × ((e : End) → found ≡ Some e → m.avail ≤ e.count)
 
 -- the step by which the munger looks for the end
-abbrev pub munger_finds : Step (Unit {0}) → Seat → ℕ → Seat → Type 0
+abbrev pub munger_finds : Kind
 munger_finds st me n me' = MungerFinds me.0 n me'.0
 
 -- the reader stores the stop, and has asked for it after it
@@ -206,7 +210,7 @@ abbrev pub Asks : View → View → Type 0
 Asks v u = (r : ReaderPart) → v.reader ≡ Some r → u ≡ record v { reader = Some (record r { asked = true }) }
 
 -- the step by which the reader asks for the stop
-abbrev pub asks : Step (Unit {0}) → Seat → ℕ → Seat → Type 0
+abbrev pub asks : Kind
 asks st me n me' = Asks me.0 me'.0
 
 -- the writer loads the stop. A stop that was seen stays
@@ -218,7 +222,7 @@ SeesStop v n u =
     × (u ≡ record v { writer = Some (record w { saw_stop = eqb n 1; stop_looks = w.stop_looks + 1 }) })
 
 -- the step by which the writer looks at the stop
-abbrev pub sees_stop : Step (Unit {0}) → Seat → ℕ → Seat → Type 0
+abbrev pub sees_stop : Kind
 sees_stop st me n me' = SeesStop me.0 n me'.0
 
 -- the munger loads the written count. Where an end was found, the load gives its count
@@ -233,7 +237,7 @@ SeesWritten v n u = (m : MungerPart) → v.munger ≡ Some m
     × (u ≡ record v { munger = Some (record m { avail = k; written_looks = m.written_looks + 1 }) })
 
 -- the step by which the munger learns how many samples are written
-abbrev pub sees_written : Step (Unit {0}) → Seat → ℕ → Seat → Type 0
+abbrev pub sees_written : Kind
 sees_written st me n me' = SeesWritten me.0 n me'.0
 
 -- what a seat knows after the reader's role went to a new seat

@@ -3,12 +3,12 @@ use Rattle.std.specs.Prelude.{◌≡◌, ℕ, ◌+◌, ◌-◌, ◌%◌, ◌<◌
 use Rattle.std.specs.Prelude.{None, replicate}
 use mathlib.Core.Option.{none, some}
 use lib.ListN.{get_elem?}
-use Rattle.atomic_table.specs.Table.{State, Me, Step, keeps, step, stepped, Allows, Splits, opening}
+use Rattle.atomic_table.specs.Table.{State, keeps, step, stepped, Allows, Splits, opening}
 use Rattle.cm_ring_core.specs.Local.{Ring, IsRing}
 use Rattle.cm_ring_core.specs.Lawful.{Words, Lawful, AreConstants, Each, laid, shown, opened}
-use Rattle.cm_ring_core.specs.Kinds.{sees_read, puts, publishes, ends_with, sees_stop, munges, shows, takes_cell}
-use Rattle.cm_ring_core.specs.Kinds.{munger_finds, sees_written, sees_munged, reads_cell, releases, finds, asks}
-use Rattle.cm_ring_core.specs.Kinds.{without_reader, only_reader, without_munger, only_munger, cell_of, MayPut}
+use Rattle.cm_ring_core.specs.Kinds.{RingMe, Kind, sees_read, puts, publishes, ends_with, sees_stop, munges, shows}
+use Rattle.cm_ring_core.specs.Kinds.{takes_cell, munger_finds, sees_written, sees_munged, reads_cell, releases, finds}
+use Rattle.cm_ring_core.specs.Kinds.{asks, without_reader, only_reader, without_munger, only_munger, cell_of, MayPut}
 use Rattle.cm_ring_core.specs.Kinds.{MayPublish, MayMunge, MayShow, MayRelease, MayEnd}
 use Rattle.cm_ring_core.specs.Cut.{Cut, local_cut, shared_cut, with_put, all_written, next_munged, released_to, word_at}
 use Rattle.cm_ring_core.specs.declared.view.RingConstants.{RingConstants}
@@ -20,10 +20,6 @@ use Rattle.cm_ring_core.specs.declared.view.View.{View}
 -- the words of a ring, and what each of its seats knows
 abbrev pub RingState : Type 0
 RingState = State (Unit {0}) View
-
--- a seat of a ring: what it knows, and what it holds
-abbrev pub RingMe : Type 0
-RingMe = Me (Unit {0}) View
 
 -- the words of a ring when it is opened
 abbrev pub first_words : RingConstants → Words
@@ -37,16 +33,16 @@ first_words ring = record {
 }
 
 -- a seat loads a word: the rule holds after it, and the seat knows what this kind of step says of the number found
-abbrev pub Loads : ℕ → ℕ → RingMe → ℕ → (Step (Unit {0}) → RingMe → ℕ → RingMe → Type 0) → Type 0
+abbrev pub Loads : ℕ → ℕ → RingMe → ℕ → Kind → Type 0
 Loads slots id me i kind = Allows (Lawful me.0.ring) slots id me i (λ n. n) (kind (step slots i 0 0 none) me)
 
 -- a seat stores a number in a word, and the same holds
-abbrev pub Stores : ℕ → ℕ → RingMe → ℕ → ℕ → (Step (Unit {0}) → RingMe → ℕ → RingMe → Type 0) → Type 0
+abbrev pub Stores : ℕ → ℕ → RingMe → ℕ → ℕ → Kind → Type 0
 Stores slots id me i word kind =
     Allows (Lawful me.0.ring) slots id me i (λ _. word) (λ _. kind (step slots i word 0 none) me word)
 
 -- a seat exchanges a word for a number: the kind of step speaks of the number found
-abbrev pub Exchanges : ℕ → ℕ → RingMe → ℕ → ℕ → (Step (Unit {0}) → RingMe → ℕ → RingMe → Type 0) → Type 0
+abbrev pub Exchanges : ℕ → ℕ → RingMe → ℕ → ℕ → Kind → Type 0
 Exchanges slots id me i word kind =
     Allows (Lawful me.0.ring) slots id me i (λ _. word) (kind (step slots i word 0 none) me)
 

@@ -190,7 +190,7 @@ constants_of samples key = record {
   base = key.base;
 }
 
--- the fields of each role when the ring is opened
+-- a writer that has seen and done nothing
 abbrev pub first_writer : WriterPart
 first_writer = record {
   next = 0;
