@@ -7,10 +7,10 @@ use Rattle.std.proofs.lemmas.Bool.Decides.{nat_tests}
 use Rattle.std.proofs.lemmas.Bool.{eqb-true}
 use Rattle.std.proofs.Math.Nat.{pow-le-pow_right}
 use Rattle.cm_base.proofs.Bools.{both}
-use Rattle.cm_board.specs.Board.{ChanText, IsChannel, IsFrom1To, IsRange, IsSoundChan, IsSoundSub, SubText, fits_kind, fits_commands, fits_lines, has_channels, has_text, is_bare, is_bits_ok, is_channel_ok, is_digital, is_maxdata, is_munge, is_unused, maxdata_by, maxdata_of, munge_by, munge_of, ranges_by, ranges_of, set_for, some_or, swaps}
+use Rattle.cm_board.specs.Board.{ChanText, IsChannel, IsFrom1To, IsRange, IsSoundChan, IsSoundSub, SubText, fits_bits, fits_kind, fits_commands, fits_lines, has_channels, has_text, is_bare, is_bits_ok, is_channel_ok, is_digital, is_maxdata, is_munge, is_unused, maxdata_by, maxdata_of, munge_by, munge_of, ranges_by, ranges_of, set_for, some_or}
 use Rattle.cm_board.specs.declared.board.Kind.{Kind}
 use Rattle.cm_board.specs.declared.board.Kind.TheVariants as kinds
-use Rattle.cm_board.specs.declared.board.Munge.{Munge}
+use Rattle.cm_board.specs.declared.munge.Munge.{Munge}
 use Rattle.cm_board.specs.declared.board.Range.{Range}
 
 -- a test that one of so many numbers passes
@@ -136,7 +136,7 @@ channel s chan h below =
     record {
       largest = greatest_code (maxdata_by (set_for s.chans chan) s.maxdata) (maxdata_kept s.channels (set_for s.chans chan) s.maxdata set n.maxdata);
       munge_fits = munge_kept s.channels (set_for s.chans chan) s.munge set n.munge;
-      swapped = (both (not (is_digital s.kind) || maxdata_of s chan == 1) (not (swaps (munge_of s chan)) || nat_le (maxdata_of s chan) 65535) bits).1;
+      bits_fit = (both (not (is_digital s.kind) || maxdata_of s chan == 1) (fits_bits (munge_of s chan) (maxdata_of s chan)) bits).1;
       some = ranges.some;
       few = ranges.few;
       proper = ranges.proper;

@@ -9,8 +9,8 @@ use Rattle.cm_base.specs.Words.{is_int}
 use Rattle.cm_base.specs.Source.{allows, ext, timer}
 use Rattle.cm_board.specs.declared.board.Kind.{Kind}
 use Rattle.cm_board.specs.declared.board.Kind.TheVariants as kinds
-use Rattle.cm_board.specs.declared.board.Munge.{Munge}
-use Rattle.cm_board.specs.declared.board.Munge.TheVariants as munges
+use Rattle.cm_board.specs.declared.munge.Munge.{Munge}
+use Rattle.cm_board.specs.declared.munge.Munge.TheVariants as munges
 use Rattle.cm_board.specs.declared.board.Range.{Range}
 use Rattle.cm_board.specs.declared.board.Forbid.{Forbid}
 use Rattle.cm_board.specs.declared.board.LeastScan.{LeastScan}
@@ -22,6 +22,7 @@ use Rattle.cm_board.specs.Kept.{IsWhole, set_in}
 use Rattle.cm_board.specs.Said.{head_of, sub_of}
 pub use Rattle.cm_board.specs.Kept.{is_among, is_source}
 pub use Rattle.cm_board.specs.Kinds.{has_levels, is_digital, is_dio, is_output, is_unused, may_command, may_fifo}
+pub use Rattle.cm_board.specs.Munge.{fits_bits, is_munge, is_plain}
 pub use Rattle.cm_board.specs.Records.{ChanText, Masks, SubText, any_list, any_rounding, any_scan, says_any}
 pub use Rattle.cm_board.specs.Times.{AreTimers, TimersText, are_divisors, are_rising, can_make, down, up}
 pub use Rattle.cm_board.specs.Versions.{is_wide, most_in}
@@ -122,21 +123,6 @@ line_of sub arg = if sub.invert then arg % 2 ^ 31 else arg
 -- whether an external argument asks for the falling edges of its line
 abbrev pub is_fall : SubText → ℕ → Bool
 is_fall sub arg = sub.invert && arg / 2 ^ 31 % 2 == 1
-
--- whether a munge swaps the two bytes of a word
-abbrev pub swaps : Munge → Bool
-swaps munges.Swap16 = true
-swaps munge = false
-
--- whether a munge leaves each word as it is
-abbrev pub is_plain : Munge → Bool
-is_plain munges.Plain = true
-is_plain munge = false
-
--- a shift is by 1 to 8 bits
-abbrev pub is_munge : Munge → Bool
-is_munge (munges.Left bits) = nat_le 1 bits && nat_le bits 8
-is_munge munge = true
 
 -- 1 to 64 channels, in the wider texts to 256, and none where the subdevice is unused
 abbrev pub has_channels : ℕ → Kind → ℕ → Bool
@@ -279,11 +265,11 @@ fits_lines s =
 unfoldable pub has_text : SubText → Bool
 has_text s = fits_kind s && fits_commands s && fits_lines s
 
--- a channel of a digital subdevice has one bit, and one whose words are swapped at most 16
+-- a channel of a digital subdevice has one bit, and the munge of each goes with its greatest code
 abbrev pub is_channel_ok : SubText → ℕ → Bool
 is_channel_ok s chan =
     (not (is_digital s.kind) || maxdata_of s chan == 1)
-    && (not (swaps (munge_of s chan)) || nat_le (maxdata_of s chan) 65535)
+    && fits_bits (munge_of s chan) (maxdata_of s chan)
 
 -- that holds of each channel
 unfoldable pub is_bits_ok : SubText → Bool
@@ -344,7 +330,7 @@ pub record IsSoundSub (sub : SubText) : Type 0 where
 pub record IsChannel (maxdata : ℕ) (munge : Munge) (ranges : List Range) : Type 0 where
   pub largest : IsFrom1To (2 ^ 24 - 1) maxdata
   pub munge_fits : IsTrue (is_munge munge)
-  pub swapped : IsTrue (not (swaps munge) || nat_le maxdata 65535)
+  pub bits_fit : IsTrue (fits_bits munge maxdata)
   pub some : 1 ≤ length ranges
   pub few : length ranges ≤ 32
   pub proper : All IsRange ranges

@@ -1,5 +1,6 @@
 -- The lines of a block: their rows and their forms.
-use Rattle.std.specs.Prelude.{ℕ, List, [], ◌∷◌, codes, true, false}
+use Rattle.std.specs.Prelude.{ℕ, List, [], ◌∷◌, ◌++◌, codes, true, false}
+use Rattle.cm_board.specs.Munge.{munge_forms}
 use Rattle.cm_board.specs.Table.{FormText, TableText, WordText, Fixed, Number, Signed, Sources, Source, Name, Channel}
 use Rattle.cm_board.specs.Table.{Divisors}
 use Rattle.cm_board.specs.declared.lines.TheConstants as lines
@@ -141,11 +142,8 @@ board_rows =
 abbrev pub board_forms : List FormText
 board_forms =
     form lines.BITS (Fixed (codes "bits") ∷ from_to 1 24 ∷ []) rules_of.Free
-    ∷ form lines.MUNGE (Fixed (codes "munge") ∷ Fixed (codes "none") ∷ []) rules_of.Free
-    ∷ form lines.MUNGE (Fixed (codes "munge") ∷ Fixed (codes "offset") ∷ []) rules_of.Free
-    ∷ form lines.MUNGE (Fixed (codes "munge") ∷ Fixed (codes "swap16") ∷ []) rules_of.Free
-    ∷ form lines.MUNGE (Fixed (codes "munge") ∷ Fixed (codes "left") ∷ from_to 1 8 ∷ []) rules_of.Free
-    ∷ form lines.RANGE (Fixed (codes "range") ∷ Signed ∷ Signed ∷ from_to 0 2 ∷ []) rules_of.Below
+    ∷ munge_forms lines.MUNGE []
+    ++ form lines.RANGE (Fixed (codes "range") ∷ Signed ∷ Signed ∷ from_to 0 2 ∷ []) rules_of.Below
     ∷ form lines.SOURCES source_words rules_of.Free
     ∷ form lines.TICK (Fixed (codes "tick") ∷ from_to 1 1000000000 ∷ []) rules_of.Free
     ∷ form lines.SCAN (Fixed (codes "scan") ∷ time ∷ time ∷ []) rules_of.Rising
@@ -170,15 +168,8 @@ board_forms =
     ∷ form lines.SAME_REFERENCE (Fixed (codes "samearef") ∷ []) rules_of.Free
     ∷ form lines.SAME_POLARITY (Fixed (codes "samepolarity") ∷ []) rules_of.Free
     ∷ form lines.CHAN_BITS (Fixed (codes "chan") ∷ Channel ∷ Fixed (codes "bits") ∷ from_to 1 24 ∷ []) rules_of.Free
-    ∷ form lines.CHAN_MUNGE
-    (Fixed (codes "chan") ∷ Channel ∷ Fixed (codes "munge") ∷ Fixed (codes "none") ∷ []) rules_of.Free
-    ∷ form lines.CHAN_MUNGE
-    (Fixed (codes "chan") ∷ Channel ∷ Fixed (codes "munge") ∷ Fixed (codes "offset") ∷ []) rules_of.Free
-    ∷ form lines.CHAN_MUNGE
-    (Fixed (codes "chan") ∷ Channel ∷ Fixed (codes "munge") ∷ Fixed (codes "swap16") ∷ []) rules_of.Free
-    ∷ form lines.CHAN_MUNGE
-    (Fixed (codes "chan") ∷ Channel ∷ Fixed (codes "munge") ∷ Fixed (codes "left") ∷ from_to 1 8 ∷ []) rules_of.Free
-    ∷ form lines.CHAN_RANGE
+    ∷ munge_forms lines.CHAN_MUNGE (Fixed (codes "chan") ∷ Channel ∷ [])
+    ++ form lines.CHAN_RANGE
     (Fixed (codes "chan") ∷ Channel ∷ Fixed (codes "range") ∷ Signed ∷ Signed ∷ from_to 0 2 ∷ []) rules_of.Below
     ∷ []
 

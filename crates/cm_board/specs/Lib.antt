@@ -6,6 +6,7 @@ pub mod ItemView
 pub mod Items
 pub mod Kept
 pub mod Kinds
+pub mod Munge
 pub mod Records
 pub mod Rules
 pub mod Said

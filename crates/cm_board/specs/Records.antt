@@ -8,7 +8,7 @@ use Rattle.cm_board.specs.declared.board.Forbid.{Forbid}
 use Rattle.cm_board.specs.declared.board.Kind.{Kind}
 use Rattle.cm_board.specs.declared.board.LeastScan.{LeastScan}
 use Rattle.cm_board.specs.declared.board.ListRules.{ListRules}
-use Rattle.cm_board.specs.declared.board.Munge.{Munge}
+use Rattle.cm_board.specs.declared.munge.Munge.{Munge}
 use Rattle.cm_board.specs.declared.board.Range.{Range}
 use Rattle.cm_board.specs.declared.board.Rounding.{Rounding}
 

@@ -4,6 +4,7 @@ use Rattle.std.specs.Prelude.{length, map, Option, Some, None}
 use Rattle.std.specs.List.{range_with_len}
 use Rattle.cm_board.specs.BoardTable.{board_rows}
 use Rattle.cm_board.specs.Items.{ItemText}
+use Rattle.cm_board.specs.Munge.{munge_by_form}
 use Rattle.cm_board.specs.Records.{ChanText, Masks, SubText, says_any}
 use Rattle.cm_board.specs.Slots.{is_empty, of_row}
 use Rattle.cm_board.specs.declared.board.Divisors.{Divisors}
@@ -13,8 +14,8 @@ use Rattle.cm_board.specs.declared.board.Forbid.{Forbid}
 use Rattle.cm_board.specs.declared.board.LeastScan.{LeastScan}
 use Rattle.cm_board.specs.declared.board.ListOrder.{ListOrder}
 use Rattle.cm_board.specs.declared.board.ListRules.{ListRules}
-use Rattle.cm_board.specs.declared.board.Munge.{Munge}
-use Rattle.cm_board.specs.declared.board.Munge.TheVariants as munges
+use Rattle.cm_board.specs.declared.munge.Munge.{Munge}
+use Rattle.cm_board.specs.declared.munge.Munge.TheVariants as munges
 use Rattle.cm_board.specs.declared.board.Order.{Order}
 use Rattle.cm_board.specs.declared.board.Order.TheVariants as orders
 use Rattle.cm_board.specs.declared.board.Range.{Range}
@@ -65,13 +66,6 @@ has_line row items = not (is_empty (of_row row items))
 -- the greatest code of so many bits, 24 at most
 abbrev pub greatest : ℕ → ℕ
 greatest bits = 2 ^ min 24 bits - 1
-
--- a munge by its number among the forms of its row, where the last shifts by so many bits, 8 at most
-abbrev pub munge_by_form : ℕ → ℕ → Munge
-munge_by_form zero bits = munges.Plain
-munge_by_form (suc zero) bits = munges.Offset
-munge_by_form (suc (suc zero)) bits = munges.Swap16
-munge_by_form kind bits = munges.Left (min 8 bits)
 
 -- the unit of a range, none but 0, 1 and 2
 abbrev pub unit_of : ℕ → ℕ

@@ -2,6 +2,7 @@
 
 use crate::channels::{maxdata_by, munge_by, ranges_by};
 use crate::items::Item;
+pub use crate::munge::Munge;
 use cm_base::lists::Nums;
 use std::marker::Model;
 
@@ -20,19 +21,6 @@ pub enum Kind {
     Do,
     /// Digital channels that each are an input or an output. They take no commands.
     Dio,
-}
-
-/// How a word of the buffer stands for a code (Comedi: a driver's `munge`).
-#[derive(Clone, Copy, Debug, PartialEq, Eq)]
-pub enum Munge {
-    /// The word is the code.
-    Plain,
-    /// The highest bit of the code is inverted, as in two's complement.
-    Offset,
-    /// The two low bytes are exchanged.
-    Swap16,
-    /// The code stands this many bits to the left, 1 to 8.
-    Left(u8),
 }
 
 /// The levels that a channel can measure or put out, in micro-units. The unit is 0 for volt, 1 for

@@ -1,6 +1,6 @@
 // The lines about one channel: those about all of them, after `chan C`.
 
-use crate::lines::{CHAN_BITS, CHAN_MUNGE, CHAN_RANGE};
+use crate::lines::{CHAN_BITS, CHAN_RANGE};
 use crate::table::{Absent, Form, Limits, Place, Row, Rule, Word};
 
 /// A line that each channel may have once.
@@ -34,59 +34,6 @@ pub(crate) const BITS: Form = Form {
             least: 1,
             most: 24,
             wide: 24,
-        }),
-    ],
-    rule: Rule::Free,
-};
-
-/// `chan C munge none`
-pub(crate) const PLAIN: Form = Form {
-    row: CHAN_MUNGE,
-    words: &[
-        Word::Fixed(b"chan"),
-        Word::Channel,
-        Word::Fixed(b"munge"),
-        Word::Fixed(b"none"),
-    ],
-    rule: Rule::Free,
-};
-
-/// `chan C munge offset`
-pub(crate) const OFFSET: Form = Form {
-    row: CHAN_MUNGE,
-    words: &[
-        Word::Fixed(b"chan"),
-        Word::Channel,
-        Word::Fixed(b"munge"),
-        Word::Fixed(b"offset"),
-    ],
-    rule: Rule::Free,
-};
-
-/// `chan C munge swap16`
-pub(crate) const SWAPPED: Form = Form {
-    row: CHAN_MUNGE,
-    words: &[
-        Word::Fixed(b"chan"),
-        Word::Channel,
-        Word::Fixed(b"munge"),
-        Word::Fixed(b"swap16"),
-    ],
-    rule: Rule::Free,
-};
-
-/// `chan C munge left S`
-pub(crate) const LEFT: Form = Form {
-    row: CHAN_MUNGE,
-    words: &[
-        Word::Fixed(b"chan"),
-        Word::Channel,
-        Word::Fixed(b"munge"),
-        Word::Fixed(b"left"),
-        Word::Number(Limits {
-            least: 1,
-            most: 8,
-            wide: 8,
         }),
     ],
     rule: Rule::Free,

@@ -2,7 +2,8 @@
 ghost use Rattle.std.specs.Prelude.{◌≡◌, option_map};
 ghost use Rattle.cm_board.specs.Board.{maxdata_by, munge_by, ranges_by, set_for, some_or};
 
-use crate::board::{ChanSet, Munge, Range};
+use crate::board::{ChanSet, Range};
+use crate::munge::Munge;
 
 // What the board says of a channel alone, where it says something.
 fn set_for(chans: &[ChanSet], chan: u32) -> Option<&ChanSet>

@@ -8,6 +8,7 @@ mod clock;
 pub mod items;
 pub mod kind;
 pub mod lines;
+pub mod munge;
 mod rows;
 pub mod said;
 pub mod table;

@@ -3,10 +3,10 @@ ghost use Rattle.std.specs.Prelude.{◌≡◌};
 ghost use Rattle.cm_board.specs.BoardTable.{board_table};
 ghost use Rattle.cm_board.specs.Table.{table_text};
 
-use crate::channel_lines;
 use crate::rows::ROWS;
 use crate::table::{Form, Limits, Rule, Table, Word};
 use crate::words::{CONVERTS, FIELD, FOLLOWING, SCAN_BEGINS, SCAN_ENDS, STARTS, STOPS, TIME};
+use crate::{channel_lines, munge};
 
 /// The bits of a code.
 pub const BITS: usize = 0;
@@ -93,75 +93,71 @@ pub const ROW_COUNT: usize = 26;
 pub const BITS_FORM: usize = 0;
 
 /// The form of `munge none`, the first of its row.
-pub const MUNGE_NONE: usize = 1;
+pub const MUNGE_NONE: usize = BITS_FORM + 1;
 
 /// The form of `munge offset`.
-pub const MUNGE_OFFSET: usize = 2;
-
-/// The form of `munge left`, the last of its row.
-pub const MUNGE_LEFT: usize = 4;
+pub const MUNGE_OFFSET: usize = MUNGE_NONE + 1;
 
 /// The form of `range`.
-pub const RANGE_FORM: usize = 5;
+pub const RANGE_FORM: usize = MUNGE_NONE + munge::COUNT;
 
 /// The form of `sources`.
-pub const SOURCES_FORM: usize = 6;
+pub const SOURCES_FORM: usize = RANGE_FORM + 1;
 
 /// The form of `tick`.
-pub const TICK_FORM: usize = 7;
+pub const TICK_FORM: usize = SOURCES_FORM + 1;
 
 /// The form of `scan`.
-pub const SCAN_FORM: usize = 8;
+pub const SCAN_FORM: usize = TICK_FORM + 1;
 
 /// The form of `convert`.
-pub const CONVERT_FORM: usize = 9;
+pub const CONVERT_FORM: usize = SCAN_FORM + 1;
 
 /// The form of `list`.
-pub const LIST_FORM: usize = 10;
+pub const LIST_FORM: usize = CONVERT_FORM + 1;
 
 /// The form of `scans`.
-pub const SCANS_FORM: usize = 11;
+pub const SCANS_FORM: usize = LIST_FORM + 1;
 
 /// The form of `lines`.
-pub const LINES_FORM: usize = 12;
+pub const LINES_FORM: usize = SCANS_FORM + 1;
 
 /// The form of `buffer`.
-pub const BUFFER_FORM: usize = 13;
+pub const BUFFER_FORM: usize = LINES_FORM + 1;
 
 /// The form of `forbid`.
-pub const FORBID_FORM: usize = 15;
+pub const FORBID_FORM: usize = BUFFER_FORM + 2;
 
 /// The form of `fifo`.
-pub const FIFO_FORM: usize = 17;
+pub const FIFO_FORM: usize = FORBID_FORM + 2;
 
 /// The form of `clock` with one counter.
-pub const CLOCK_FORM: usize = 18;
+pub const CLOCK_FORM: usize = FIFO_FORM + 1;
 
 /// The form of `rounds`.
-pub const ROUNDS_FORM: usize = 20;
+pub const ROUNDS_FORM: usize = CLOCK_FORM + 2;
 
 /// The form of `perchan`.
-pub const PER_ENTRY_FORM: usize = 22;
+pub const PER_ENTRY_FORM: usize = ROUNDS_FORM + 2;
 
 /// The form of `channels`.
-pub const ORDER_FORM: usize = 24;
+pub const ORDER_FORM: usize = PER_ENTRY_FORM + 2;
 
 /// The form of `channels` with `repeat`.
-pub const REPEATED_FORM: usize = 25;
+pub const REPEATED_FORM: usize = ORDER_FORM + 1;
 
 /// The form of `chan C bits`.
-pub const CHAN_BITS_FORM: usize = 28;
+pub const CHAN_BITS_FORM: usize = REPEATED_FORM + 3;
 
 /// The form of `chan C munge none`, the first of its row.
-pub const CHAN_MUNGE_NONE: usize = 29;
-
-/// The form of `chan C munge left`, the last of its row.
-pub const CHAN_MUNGE_LEFT: usize = 32;
+pub const CHAN_MUNGE_NONE: usize = CHAN_BITS_FORM + 1;
 
 /// The form of `chan C range`.
-pub const CHAN_RANGE_FORM: usize = 33;
+pub const CHAN_RANGE_FORM: usize = CHAN_MUNGE_NONE + munge::COUNT;
 
-static FORMS: [Form; 34] = [
+const FORM_COUNT: usize = CHAN_RANGE_FORM + 1;
+
+static FORMS: [Form; FORM_COUNT] = [
     Form {
         row: BITS,
         words: &[
@@ -174,34 +170,10 @@ static FORMS: [Form; 34] = [
         ],
         rule: Rule::Free,
     },
-    Form {
-        row: MUNGE,
-        words: &[Word::Fixed(b"munge"), Word::Fixed(b"none")],
-        rule: Rule::Free,
-    },
-    Form {
-        row: MUNGE,
-        words: &[Word::Fixed(b"munge"), Word::Fixed(b"offset")],
-        rule: Rule::Free,
-    },
-    Form {
-        row: MUNGE,
-        words: &[Word::Fixed(b"munge"), Word::Fixed(b"swap16")],
-        rule: Rule::Free,
-    },
-    Form {
-        row: MUNGE,
-        words: &[
-            Word::Fixed(b"munge"),
-            Word::Fixed(b"left"),
-            Word::Number(Limits {
-                least: 1,
-                most: 8,
-                wide: 8,
-            }),
-        ],
-        rule: Rule::Free,
-    },
+    munge::PLAIN,
+    munge::OFFSET,
+    munge::SWAPPED,
+    munge::LEFT,
     Form {
         row: RANGE,
         words: &[
@@ -394,10 +366,10 @@ static FORMS: [Form; 34] = [
         rule: Rule::Free,
     },
     channel_lines::BITS,
-    channel_lines::PLAIN,
-    channel_lines::OFFSET,
-    channel_lines::SWAPPED,
-    channel_lines::LEFT,
+    munge::CHAN_PLAIN,
+    munge::CHAN_OFFSET,
+    munge::CHAN_SWAPPED,
+    munge::CHAN_LEFT,
     channel_lines::RANGE,
 ];
 

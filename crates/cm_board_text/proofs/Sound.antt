@@ -12,13 +12,13 @@ use Rattle.cm_board.specs.Board.{AreOnTick, AreTimers, AreTimes, FitsTimed, HasL
 use Rattle.cm_board.specs.BoardTable.{board_forms, board_table}
 use Rattle.cm_board.specs.Items.{ItemText}
 use Rattle.cm_board.specs.Kept.{IsWhole}
-use Rattle.cm_board.specs.Said.{counters_in, fifo_said, first_or, forbid_said, munge_by_form, number_at, number_of, range_said, sub_of, timers_said}
+use Rattle.cm_board.specs.Said.{counters_in, fifo_said, first_or, forbid_said, munge_said, number_at, number_of, range_said, sub_of, timers_said}
 use Rattle.cm_board.specs.Slots.{of_row}
 use Rattle.cm_board.specs.Table.{Number, form_at}
 use Rattle.cm_board.specs.Times.{TimersText, are_divisors, are_rising}
 use Rattle.cm_board.specs.declared.board.Kind.{Kind}
 use Rattle.cm_board.specs.declared.board.Kind.TheVariants as kinds
-use Rattle.cm_board.specs.declared.board.Munge.TheVariants as munges
+use Rattle.cm_board.specs.declared.munge.Munge.TheVariants as munges
 use Rattle.cm_board.specs.declared.lines.TheConstants as lines
 use Rattle.cm_board.specs.declared.table.Head.{Head}
 use Rattle.cm_board_text.specs.Block.{are_on_tick, are_times_ok, fits_timed, has_line, is_board_ok, is_entries_ok, is_lines_ok, is_list_ok}
@@ -142,8 +142,7 @@ bits_within head items h = number_keeps head items h lines.BITS lines.BITS_FORM 
 lines_fit : (head : Head) (items : List ItemText) → AreGood head items → fits_lines (sub_of head items) ≡ true
 lines_fit head items h =
     let munge : is_munge (sub_of head items).munge ≡ true =
-    first_keeps is_munge (λ (item : ItemText). munge_by_form (item.form - lines.MUNGE_NONE) (number_at 0 item.values)) munges.Plain (of_row lines.MUNGE items)
-    refl (munge_kept head items h) in
+    first_keeps is_munge (munge_said lines.MUNGE_NONE 0) munges.Plain (of_row lines.MUNGE items) refl (munge_kept lines.MUNGE_NONE 0 (of_row lines.MUNGE items)) in
     let pairs : list_all is_pair (sub_of head items).forbidden ≡ true =
     list_all-map is_pair forbid_said (of_row lines.FORBID items) ∙ forbid_kept head items h in
     and_true _ _ (and_true _ _ (and_true _ _ (and_true _ _ (code_of_bits (number_of lines.BITS 0 1 items) (bits_within head items h)) munge)

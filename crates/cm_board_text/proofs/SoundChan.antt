@@ -13,7 +13,7 @@ use Rattle.cm_board.specs.Board.{ChanText, IsRange, IsSoundChan, chans_rise, fit
 use Rattle.cm_board.specs.BoardTable.{board_rows, board_table}
 use Rattle.cm_board.specs.Items.{ItemText}
 use Rattle.cm_board.specs.Kept.{is_few, slots}
-use Rattle.cm_board.specs.Said.{channel_place, first_of, greatest, munge_by_form, number_at, range_said, set_said, sets_said}
+use Rattle.cm_board.specs.Said.{channel_place, first_of, greatest, munge_said, number_at, range_said, set_said, sets_said}
 use Rattle.cm_board.specs.Slots.{Slot, of_row, slots_from}
 use Rattle.cm_board.specs.Table.{channel_row, own_row}
 use Rattle.cm_board.specs.declared.board.Range.{Range}
@@ -22,7 +22,7 @@ use Rattle.cm_board.specs.declared.table.Head.{Head}
 use Rattle.cm_board.specs.declared.table.Row.{Row}
 use Rattle.cm_board_text.proofs.MostIn.{is_between, most_wide}
 use Rattle.cm_board_text.proofs.OfRow.{few_at}
-use Rattle.cm_board_text.proofs.SoundRows.{AreGood, chan_bits_kept, chan_munge_kept, chan_range_kept, is_range}
+use Rattle.cm_board_text.proofs.SoundRows.{AreGood, chan_bits_kept, chan_range_kept, is_range, munge_kept}
 
 pub second_true : (a b : Bool) → a ≡ false → (a || b) ≡ true → b ≡ true
 second_true true b e h = cc
@@ -136,8 +136,7 @@ set_sound head items chan h few below some =
       maxdata = first_passes is_maxdata (λ (item : ItemText). greatest (number_at 1 item.values)) bits
           (all_so (λ (item : ItemText). is_between 1 24 (number_at 1 item.values)) (λ item. is_maxdata (greatest (number_at 1 item.values)))
           (λ item k. code_of_bits (number_at 1 item.values) k) bits (chan_bits_kept head chan items h));
-      munge = first_passes is_munge (λ (item : ItemText). munge_by_form (item.form - lines.CHAN_MUNGE_NONE) (number_at 1 item.values)) munge
-          (chan_munge_kept head chan items h);
+      munge = first_passes is_munge (munge_said lines.CHAN_MUNGE_NONE 1) munge (munge_kept lines.CHAN_MUNGE_NONE 1 munge);
       units = units (map (range_said 1) of_it) ranges;
       ranges = all_ranges (map (range_said 1) of_it) ranges;
       few_ranges = omega (arith, length-map of_it (range_said 1), few_chan head items few chan below);

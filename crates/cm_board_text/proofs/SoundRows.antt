@@ -5,17 +5,17 @@ use Rattle.std.specs.List.{list_all}
 use Rattle.std.proofs.lemmas.Bool.{eqb-true, le-leb, leb-true, ltb-true}
 use Rattle.cm_base.specs.Words.{is_int}
 use Rattle.cm_base.proofs.Bools.{and_true, both}
+use Rattle.cm_board.proofs.Munging.{said_fits}
 use Rattle.cm_board.specs.Board.{Masks, are_full, fits_range, is_fifo, is_munge, is_pair}
 use Rattle.cm_board.specs.BoardTable.{board_forms, board_table, form, from_to, time}
 use Rattle.cm_board.specs.Items.{ItemText}
 use Rattle.cm_board.specs.Kept.{are_kept, is_good, is_kept, is_within, keeps}
 use Rattle.cm_board.specs.Rules.{keeps_rule, rises}
 use Rattle.cm_board.specs.Times.{are_divisors, are_rising}
-use Rattle.cm_board.specs.Said.{channel_place, counters_in, fifo_said, forbid_said, munge_by_form, name_at, number_at, range_said, signed_at}
+use Rattle.cm_board.specs.Said.{channel_place, counters_in, fifo_said, forbid_said, munge_said, name_at, number_at, range_said, signed_at}
 use Rattle.cm_board.specs.Slots.{of_row}
 use Rattle.cm_board.specs.Table.{FormText, WordText, Fixed, Number, Signed, Source, Name, Channel, Divisors, form_at}
 use Rattle.cm_board.specs.declared.board.Divisors.{Divisors as DivisorsOf}
-use Rattle.cm_board.specs.declared.board.Munge.TheVariants as munges
 use Rattle.cm_board.specs.declared.board.Range.{Range}
 use Rattle.cm_board.specs.declared.lines.TheConstants as lines
 use Rattle.cm_board.specs.declared.table.Head.{Head}
@@ -180,25 +180,10 @@ times_fit head row at key items h below only said = only_keeps head row at (λ v
     fits : (vs : List Value) → keeps head (form_at at board_forms) vs ≡ true → are_times (number_at 0 vs) (number_at 1 vs) ≡ true
     fits vs k = let b = both _ (keeps_rule rules_of.Rising vs) (sym (ap (λ (f : FormText). keeps head f vs) said) ∙ k) in times_said head vs b.0 b.1
 
--- a munge shifts by 1 to 8 bits
-left_fits : (bits : ℕ) → is_between 1 8 bits ≡ true → is_munge (munges.Left (min 8 bits)) ≡ true
-left_fits bits h =
-    let low = leb-true 1 bits (both (nat_le 1 bits) (nat_le bits 8) h).0 in
-    and_true _ _ (le-leb 1 (min 8 bits) (omega (arith, low))) (le-leb (min 8 bits) 8 (omega arith))
-
-pub munge_kept : (head : Head) (items : List ItemText) → AreGood head items →
-    list_all (λ item. is_munge (munge_by_form (item.form - lines.MUNGE_NONE) (number_at 0 item.values))) (of_row lines.MUNGE items) ≡ true
-munge_kept head items h =
-    row_keeps head lines.MUNGE lines.MUNGE (λ at vs. is_munge (munge_by_form (at - lines.MUNGE_NONE) (number_at 0 vs))) (own_lands lines.MUNGE (omega arith)) (
-      λ vs stands k. refl,
-      (
-        λ vs stands k. refl,
-        (
-          λ vs stands k. refl,
-          (λ vs stands k. left_fits (number_at 0 vs) (between head.version (limits 1 8 8) (number_at 0 vs) refl (said_at head (form_at lines.MUNGE_LEFT board_forms) 0 vs k)), tt),
-        ),
-      ),
-    ) items h
+-- each line of a row of munges says a good one
+pub munge_kept : (none k : ℕ) (items : List ItemText) → list_all (λ item. is_munge (munge_said none k item)) items ≡ true
+munge_kept none k [] = refl
+munge_kept none k (item ∷ items) = and_true _ _ (said_fits (item.form - none) (number_at k item.values)) (munge_kept none k items)
 
 unit_fits : (n : ℕ) → nat_le (min 2 n) 2 ≡ true
 unit_fits n = le-leb (min 2 n) 2 (omega arith)
@@ -311,21 +296,6 @@ chan_bits_kept head chan items h =
     row_keeps head (channel_place chan lines.CHAN_BITS) lines.CHAN_BITS (λ at vs. is_between 1 24 (number_at 1 vs))
     (chan_lands chan lines.CHAN_BITS (omega arith))
     (λ vs stands k. between head.version (limits 1 24 24) (number_at 1 vs) refl (said_at head (form_at lines.CHAN_BITS_FORM board_forms) 1 vs k), tt) items h
-
-pub chan_munge_kept : (head : Head) (chan : ℕ) (items : List ItemText) → AreGood head items →
-    list_all (λ item. is_munge (munge_by_form (item.form - lines.CHAN_MUNGE_NONE) (number_at 1 item.values))) (of_row (channel_place chan lines.CHAN_MUNGE) items) ≡ true
-chan_munge_kept head chan items h =
-    row_keeps head (channel_place chan lines.CHAN_MUNGE) lines.CHAN_MUNGE (λ at vs. is_munge (munge_by_form (at - lines.CHAN_MUNGE_NONE) (number_at 1 vs)))
-    (chan_lands chan lines.CHAN_MUNGE (omega arith)) (
-      λ vs stands k. refl,
-      (
-        λ vs stands k. refl,
-        (
-          λ vs stands k. refl,
-          (λ vs stands k. left_fits (number_at 1 vs) (between head.version (limits 1 8 8) (number_at 1 vs) refl (said_at head (form_at lines.CHAN_MUNGE_LEFT board_forms) 1 vs k)), tt),
-        ),
-      ),
-    ) items h
 
 pub chan_range_kept : (head : Head) (chan : ℕ) (items : List ItemText) → AreGood head items →
     list_all (λ item. is_range (range_said 1 item)) (of_row (channel_place chan lines.CHAN_RANGE) items) ≡ true

@@ -6,14 +6,14 @@ ghost use Rattle.cm_board.specs.Said as spec;
 ghost use Rattle.cm_board.specs.Said.{first_of, first_or, sub_of};
 ghost use Rattle.cm_board.specs.Slots.{of_row};
 ghost use Rattle.cm_board.specs.View.{masks_of};
-ghost use Rattle.cm_board.specs.declared.board.Munge.TheVariants as munges;
+ghost use Rattle.cm_board.specs.declared.munge.Munge.TheVariants as munges;
 ghost use Rattle.cm_board.specs.declared.lines.TheConstants as lines;
 ghost use Rattle.cm_board_text.specs.UncheckedView.{unchecked_text};
 
 use crate::unchecked::Unchecked;
 use cm_board::board::{
-    ChanSet, Divisors, Fifo, Forbid, LeastScan, ListOrder, ListRules, Munge, Order, Range,
-    Rounding, Timers, Way,
+    ChanSet, Divisors, Fifo, Forbid, LeastScan, ListOrder, ListRules, Order, Range, Rounding,
+    Timers, Way,
 };
 use cm_board::items::Item;
 use cm_board::lines::{
@@ -22,6 +22,7 @@ use cm_board::lines::{
     REPEATED_FORM, ROUNDS, ROW_COUNT, SAME_POLARITY, SAME_RANGE, SAME_REFERENCE, SCAN, SCANS,
     SOURCES, TICK,
 };
+use cm_board::munge::Munge;
 use cm_board::said::{has_line, name_at, number_at, number_of, signed_at};
 use cm_board::table::{Head, Value};
 use std::alloc::{AllocError, Global};
@@ -33,23 +34,11 @@ fn greatest(bits: u32) -> u32
     (1 << bits.min(24)) - 1
 }
 
-// A munge by its number among the forms of its row.
-fn munge_by_form(kind: usize, bits: u32) -> Munge
-    ensures { result ≡ spec.munge_by_form kind bits }
-{
-    match kind {
-        0 => Munge::Plain,
-        1 => Munge::Offset,
-        2 => Munge::Swap16,
-        _ => Munge::Left(bits.min(8) as u8),
-    }
-}
-
 // The munge that a line says, whose row has this first form and this place for the bits.
 fn munge_said(item: &Item, none: usize, at: usize) -> Munge
     ensures { result ≡ spec.munge_said none at item.now }
 {
-    munge_by_form(
+    Munge::by_form(
         item.form.saturating_sub(none),
         number_at(item.values.as_slice(), at),
     )

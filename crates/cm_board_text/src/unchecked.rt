@@ -2,14 +2,14 @@
 ghost use Rattle.std.specs.Prelude.{◌≡◌};
 ghost use Rattle.cm_base.specs.Source.{allows};
 ghost use Rattle.cm_board_text.specs.Block.{has_line};
-ghost use Rattle.cm_board.specs.Board.{swaps};
 
 use cm_base::source::{EXT, TIMER};
 use cm_board::board::{
-    ChanSet, Fifo, Forbid, Kind, LeastScan, ListRules, Munge, Range, Rounding, Sub, Timers,
+    ChanSet, Fifo, Forbid, Kind, LeastScan, ListRules, Range, Rounding, Sub, Timers,
 };
 use cm_board::channels::{maxdata_by, munge_by};
 use cm_board::items::Item;
+use cm_board::munge::Munge;
 use cm_board::versions::is_wide;
 
 /// A subdevice whose numbers keep their limits one by one, and maybe not the rules over them.
@@ -92,7 +92,7 @@ impl Unchecked {
         }
     }
 
-    // Each digital channel has one bit, and each whose words are swapped at most 16.
+    // Each digital channel has one bit, and each munge goes with its greatest code.
     #[tactic(auto, unfolding(cm_board::specs::Board::is_bits_ok))]
     fn is_bits_ok(&self) -> bool
         ensures { result ≡ is_bits_ok (unchecked_text self.now) }
@@ -106,7 +106,7 @@ impl Unchecked {
     {
         let maxdata = maxdata_by(&self.chans, chan, self.maxdata);
         let munge = munge_by(&self.chans, chan, self.munge);
-        (!self.kind.is_digital() || maxdata == 1) && (!swaps(munge) || maxdata <= 65_535)
+        (!self.kind.is_digital() || maxdata == 1) && munge.fits_bits(maxdata)
     }
 
     // The limits of times are multiples of the tick.
@@ -187,10 +187,4 @@ fn allows(mask: u32, source: u32) -> bool
     ensures { result ≡ allows mask source }
 {
     source & mask == source
-}
-
-fn swaps(munge: Munge) -> bool
-    ensures { result ≡ swaps munge }
-{
-    matches!(munge, Munge::Swap16)
 }

@@ -1,6 +1,6 @@
 -- Raw words at even distances.
 use Rattle.std.proofs.Common.{◌≡◌, ℕ, zero, suc, ◌+◌, List, [], ◌∷◌, map, replicate, ℤ, refl, ap, ◌∙◌}
-use Rattle.cm_sample.specs.Munging.{unmunged}
+use Rattle.cm_board.specs.Munge.{unmunged}
 use Rattle.cm_sample.specs.Sample.{code_of}
 use Rattle.cm_signal.specs.Signals.{wave_level}
 use Rattle.cm_signal.specs.SignalsPart.{progression}

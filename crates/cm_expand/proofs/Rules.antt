@@ -9,11 +9,11 @@ use Rattle.cm_cmd.specs.Command.{CmdText}
 use Rattle.cm_cmd.specs.Entry.{chan}
 use Rattle.cm_test.specs.Questions.{tested}
 use Rattle.cm_test.proofs.Passed.{passed}
-use Rattle.cm_sample.specs.Munging.{MayShift}
+use Rattle.cm_board.specs.Munge.{MayShift}
 use Rattle.cm_sample.specs.Rule.{IsRule, munged_word, item_word_if}
 use Rattle.cm_sample.specs.declared.rule.MungeItem.{MungeItem}
 use Rattle.cm_board.proofs.ChannelNumbers.{channel}
-use Rattle.cm_sample.proofs.Channels.{may_shift}
+use Rattle.cm_board.proofs.Munging.{may_shift}
 use Rattle.cm_expand.specs.Rule.{item_of, rule_of, munged_at, is_raw}
 use Rattle.cm_expand.proofs.Fits.{entry_at}
 

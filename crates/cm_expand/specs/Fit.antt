@@ -3,7 +3,7 @@ use Rattle.std.specs.Prelude.{◌≡◌, ℕ, ◌<◌, ◌≤◌, true, ◌==◌
 use Rattle.cm_board.specs.Board.{SubText, line_of, maxdata_of, munge_of, range_count}
 use Rattle.cm_base.specs.Source as source
 use Rattle.cm_cmd.specs.Entry.{chan, range}
-use Rattle.cm_sample.specs.Munging.{munged}
+use Rattle.cm_board.specs.Munge.{munged}
 use Rattle.cm_expand.specs.Items.{code_at, input_at}
 use Rattle.cm_expand.specs.Laws.{NeverFall, AreUpTo}
 use Rattle.cm_expand.specs.Plan.{PlanText, times_of}

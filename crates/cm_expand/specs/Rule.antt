@@ -3,7 +3,7 @@ use Rattle.std.specs.Prelude.{ℕ, ◌/◌, ◌%◌, Bool, ◌==◌, List, lengt
 use Rattle.cm_board.specs.Board.{SubText, is_output, maxdata_of, munge_of}
 use Rattle.cm_cmd.specs.Command.{CmdText}
 use Rattle.cm_cmd.specs.Entry.{chan}
-use Rattle.cm_sample.specs.Munging.{munged, unmunged}
+use Rattle.cm_board.specs.Munge.{munged, unmunged}
 use Rattle.cm_sample.specs.Rule.{RuleText, rule_text}
 use Rattle.cm_sample.specs.declared.rule.MungeItem.{MungeItem}
 

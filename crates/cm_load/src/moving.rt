@@ -2,7 +2,7 @@
 ghost use Rattle.std.specs.Prelude.{◌≡◌, ◌<◌, ◌≤◌, ◌∷◌, [], length, take, drop, true, false, IfOk};
 ghost use Rattle.cm_ring_core.specs.Lawful.{first_writer};
 ghost use Rattle.cm_load.specs.Coming.{IsFresh, HasCome};
-ghost use Rattle.cm_board.specs.declared.board.Munge.TheVariants.{Offset};
+ghost use Rattle.cm_board.specs.declared.munge.Munge.TheVariants.{Offset};
 ghost use Rattle.cm_sample.specs.Rule.{IsRule, rule_text};
 
 use crate::reading::{Came, read_all};

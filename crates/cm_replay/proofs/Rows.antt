@@ -6,7 +6,7 @@ use Rattle.cm_board.specs.Board.{BoardText, SubText, each_nanosecond, idle_sub, 
 use Rattle.cm_board.specs.Times.{TimersText, down, up}
 use Rattle.cm_board.proofs.Made.{down_plain, up_plain}
 use Rattle.cm_board.specs.declared.board.Kind.TheVariants as kinds
-use Rattle.cm_board.specs.declared.board.Munge.TheVariants as munges
+use Rattle.cm_board.specs.declared.munge.Munge.TheVariants as munges
 use Rattle.cm_board.specs.declared.board.Range.{Range}
 use Rattle.cm_cmd.specs.Command.{CmdText}
 use Rattle.cm_cmd.specs.Entry.{chan, range}

@@ -1,6 +1,6 @@
 // The rule by which a ring munges.
 ghost use Rattle.std.specs.Prelude.{IfOk};
-ghost use Rattle.cm_sample.specs.Munging.{MayShift};
+ghost use Rattle.cm_board.specs.Munge.{MayShift};
 ghost use Rattle.cm_sample.specs.Rule.{IsRule};
 
 use cm_base::transfer::NoMemory;

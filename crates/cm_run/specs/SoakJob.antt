@@ -7,7 +7,7 @@ use Rattle.cm_board.specs.Items.{ItemText}
 use Rattle.cm_board.specs.declared.lines.TheConstants as lines
 use Rattle.cm_board.specs.declared.table.Value.TheVariants as values_of
 use Rattle.cm_board.specs.declared.board.Kind.TheVariants as kinds
-use Rattle.cm_board.specs.declared.board.Munge.TheVariants as munges
+use Rattle.cm_board.specs.declared.munge.Munge.TheVariants as munges
 use Rattle.cm_board.specs.declared.board.Range.{Range}
 use Rattle.cm_cmd.specs.Command.{CmdText}
 use Rattle.cm_cmd.specs.Entry.{pack}

@@ -1,7 +1,7 @@
 -- What holds of the codes of each channel.
 use Rattle.std.specs.Prelude.{◌≡◌, ℕ, ◌<◌, ◌≤◌}
 use Rattle.cm_board.specs.Board.{SubText, IsSoundSub, maxdata_of, munge_of}
-use Rattle.cm_sample.specs.Munging.{munged, unmunged}
+use Rattle.cm_board.specs.Munge.{munged, unmunged}
 
 -- munging gives back each code of each channel that was unmunged
 abbrev pub GivesCodesBack : Type 0

@@ -1,7 +1,7 @@
 -- How the word at a place of a buffer is munged.
 use Rattle.std.specs.Prelude.{◌≡◌, ℕ, suc, ◌%◌, ◌≤◌, Bool, List, [], ◌∷◌, length, slice_get, Option, Some, None}
 use Rattle.std.specs.Prelude.{if◌then◌else◌}
-use Rattle.cm_sample.specs.Munging.{munged, unmunged, MayShift}
+use Rattle.cm_board.specs.Munge.{munged, unmunged, MayShift}
 use Rattle.cm_sample.specs.declared.rule.MungeItem.{MungeItem}
 
 -- a rule as contracts see it: an item for each list entry, and whether the words are an output's or raw

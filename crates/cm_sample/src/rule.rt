@@ -1,11 +1,10 @@
 // How the word at a place of a buffer is munged.
 ghost use Rattle.std.specs.Prelude.{◌≡◌, ◌+◌, ◌%◌, ◌<◌, ◌≤◌, false, length, slice_get, Some};
-ghost use Rattle.cm_sample.specs.Munging.{MayShift};
+ghost use Rattle.cm_board.specs.Munge.{MayShift};
 ghost use Rattle.cm_sample.specs.Rule.{item_word, map_from, munged_word, rule_text, IsRule};
 
-use crate::munge::{munge, unmunge};
 use cm_base::prover::shows;
-use cm_board::board::Munge;
+use cm_board::munge::{Munge, munged, unmunged};
 use std::marker::Model;
 
 /// The munge and the greatest code of one list entry's channel.
@@ -126,8 +125,8 @@ fn munge_by(item: MungeItem, out: bool, word: u32) -> u32
     ensures { result ≡ item_word out item word }
 {
     if out {
-        unmunge(item.kind, item.maxdata, word)
+        unmunged(item.kind, item.maxdata, word)
     } else {
-        munge(item.kind, item.maxdata, word)
+        munged(item.kind, item.maxdata, word)
     }
 }

@@ -4,7 +4,7 @@ use Rattle.std.specs.Prelude.{if◌then◌else◌, map, slice_index}
 use Rattle.std.proofs.lemmas.Bool.{cond-false}
 use Rattle.cm_cmd.specs.Entry.{chan}
 use Rattle.cm_board.specs.Board.{is_output, maxdata_of, munge_of}
-use Rattle.cm_sample.specs.Munging.{munged}
+use Rattle.cm_board.specs.Munge.{munged}
 use Rattle.cm_sample.specs.Rule.{map_from}
 use Rattle.cm_expand.specs.Fit.{IsExpansion}
 use Rattle.cm_expand.specs.Items.{conv_at, input_at, items_of, raw_of, samples_of}

@@ -1,5 +1,5 @@
 use Rattle.std.proofs.Common.{◌≡◌, length, take, map}
-use Rattle.cm_sample.specs.Munging.{unmunged}
+use Rattle.cm_board.specs.Munge.{unmunged}
 use Rattle.cm_sample.specs.Sample.{code_of}
 use Rattle.cm_expand.proofs.moving.put_coded_by.Given as goal
 

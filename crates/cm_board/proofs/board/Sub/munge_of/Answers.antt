@@ -1,6 +1,6 @@
 use Rattle.std.proofs.Common.{◌≡◌, IsTrue, rules, subst, sym}
 use Rattle.cm_board.specs.Board.{IsSoundSub, SubText, is_munge, munge_of}
-use Rattle.cm_board.specs.declared.board.Munge.{Munge}
+use Rattle.cm_board.specs.declared.munge.Munge.{Munge}
 use Rattle.cm_board.proofs.ChannelNumbers.{channel}
 use Rattle.cm_board.proofs.board.Sub.munge_of.Goals as goal
 
