@@ -1,5 +1,6 @@
 -- What a munge is: the lines that say it, the codes that it goes with, and both of its ways.
-use Rattle.std.specs.Prelude.{◌≡◌, ℕ, zero, suc, ◌+◌, ◌*◌, ◌/◌, ◌%◌, ◌^◌, ◌<◌, ◌≤◌, ◌&&◌, Bool, true, false, nat_le, bit_xor, min, max, codes, List, [], ◌∷◌, ◌++◌, map}
+use Rattle.std.specs.Prelude.{◌≡◌, ℕ, zero, suc, ◌+◌, ◌*◌, ◌/◌, ◌%◌, ◌^◌, ◌<◌, ◌≤◌, min, max, nat_le, bit_xor}
+use Rattle.std.specs.Prelude.{Bool, true, false, ◌&&◌, List, [], ◌∷◌, ◌++◌, map, codes}
 use Rattle.cm_board.specs.Table.{FormText, WordText, Fixed, Number}
 use Rattle.cm_board.specs.declared.munge.Munge.{Munge}
 use Rattle.cm_board.specs.declared.munge.Munge.TheVariants.{Plain, Offset, Swap16, Left}

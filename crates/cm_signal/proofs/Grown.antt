@@ -12,14 +12,14 @@ use Rattle.std.proofs.Math.Seq.{get_or-append_right}
 use Rattle.std.proofs.lemmas.List.Elements.{All-nil, All-push}
 use Rattle.std.proofs.lemmas.List.{get_or-set_same, get_or-set_other, length-set, with_items_is}
 use Rattle.cm_base.proofs.Bools.{both, neither, not_true}
-use Rattle.cm_signal.specs.Said.{HasPeriod}
+use Rattle.cm_signal.proofs.Waves.{is_wave}
 use Rattle.cm_signal.specs.Signals.{SignalsText, IsSoundSignals, IsWave, AreEdges, edge_count, have_own, is_at, recorded_count, recorded_in, times_at}
-use Rattle.cm_signal.specs.SignalsPart.{is_fine, has_record_room, has_room, rises_from, silent, with_times}
+use Rattle.cm_signal.specs.SignalsPart.{has_record_room, has_room, rises_from, silent, with_times}
+use Rattle.cm_signal.specs.Wave.{HasPeriod, is_fine}
 use Rattle.cm_signal.specs.declared.signals.IntAt.{IntAt}
 use Rattle.cm_signal.specs.declared.signals.Slope.{Slope}
 use Rattle.cm_signal.specs.declared.signals.Slope.TheVariants as slopes
 use Rattle.cm_signal.specs.declared.wave.Wave.{Wave}
-use Rattle.cm_signal.specs.declared.wave.Wave.TheVariants.{Const, Square, Saw, Table, Record}
 use Rattle.cm_signal.specs.declared.wave.WaveAt.{WaveAt}
 
 -- what holds of all items by a test
@@ -28,14 +28,6 @@ all_at test xs i all inside = elim (cases_Bool (test (get_or xs i 0))) [
   | inl passes ↦ passes
   | inr fails ↦ let none = list_all_at test xs i 0 inside fails in cc
 ]
-
--- a wave with its period whose saw does not fall
-pub is_wave : (wave : Wave) → HasPeriod wave → is_fine wave ≡ true → IsWave wave
-is_wave (Const level) has fine = tt
-is_wave (Square low high period) has fine = has
-is_wave (Saw low high period) has fine = (let h : int_le low high ≡ true = fine in search rules, has.0, has.1)
-is_wave (Table period levels) has fine = has
-is_wave (Record period levels) has fine = has
 
 -- two waves are of one channel, seen from either
 same_channel : (w x : WaveAt) → is_at w.sub w.chan x ≡ false → is_at x.sub x.chan w ≡ false
@@ -219,11 +211,7 @@ recorded_more (x ∷ xs) w = let rest = recorded_more xs w in omega arith
 
 -- where there is room for them, they aren't too many
 few_more : (s : SignalsText) (wave : Wave) → recorded_count s.waves ≤ 10 ^ 5 → has_record_room s wave ≡ true → recorded_count s.waves + recorded_in wave ≤ 10 ^ 5
-few_more s (Const level) few room = omega arith
-few_more s (Square low high period) few room = omega arith
-few_more s (Saw low high period) few room = omega arith
-few_more s (Table period levels) few room = omega arith
-few_more s (Record period levels) few room = let all = leb-true (recorded_count s.waves + length levels) 100000 room in omega arith
+few_more s wave few room = leb-true _ 100000 room
 
 -- a wave that may stand with those before it
 pub record MayWave (s : SignalsText) (w : WaveAt) : Type 0 where

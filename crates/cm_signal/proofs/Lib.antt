@@ -4,3 +4,4 @@ pub mod Parts
 pub mod Progressions
 pub mod Records
 pub mod Refusal
+pub mod Waves

@@ -9,7 +9,7 @@ use Rattle.cm_base.specs.declared.faults.ReadStop.{ReadStop}
 use Rattle.cm_base.specs.declared.faults.ReadStop.TheVariants as stops
 use Rattle.cm_board.specs.Board.{BoardText, SubText}
 use Rattle.cm_board.specs.Versions.{is_wide}
-use Rattle.cm_signal.specs.SignalsPart.{levels_words, record_words, wave_said}
+use Rattle.cm_signal.specs.Wave.{levels_words, record_words, wave_said}
 use Rattle.cm_signal.specs.declared.said.Said.{Said}
 use Rattle.cm_signal.specs.declared.wave.Wave.TheVariants as waves
 

@@ -2,8 +2,8 @@
 use Rattle.std.specs.Prelude.{◌<◌, List, length, slice_get}
 use Rattle.std.specs.List.{All}
 use Rattle.cm_board.specs.Board.{SubText}
+use Rattle.cm_signal.specs.Channel.{level_channels}
 use Rattle.cm_signal.specs.Signals.{SignalsText}
-use Rattle.cm_signal.specs.SignalsPart.{level_channels}
 use Rattle.cm_signal.specs.declared.said.Said.{Said}
 use Rattle.cm_signal.specs.declared.said.Said.TheVariants as said
 use Rattle.cm_signal.specs.declared.signals.IntAt.{IntAt}

@@ -4,11 +4,10 @@ use Rattle.std.specs.Prelude.{◌≤ℤ◌, unsigned_abs, List, [], ◌∷◌, l
 use Rattle.std.specs.Prelude.{if◌then◌else◌, nat_lt, ◌==◌, ◌&&◌}
 use Rattle.std.specs.List.{All, list_any}
 use Rattle.std.specs.List.Sorted.{IsStrictlyIncreasing}
+pub use Rattle.cm_signal.specs.Wave.{IsWave, recorded_in, wave_level}
 use Rattle.cm_signal.specs.declared.signals.IntAt.{IntAt}
 use Rattle.cm_signal.specs.declared.signals.Slope.{Slope}
 use Rattle.cm_signal.specs.declared.signals.Slope.TheVariants as slopes
-use Rattle.cm_signal.specs.declared.wave.Wave.{Wave}
-use Rattle.cm_signal.specs.declared.wave.Wave.TheVariants.{Const, Square, Saw, Table, Record}
 use Rattle.cm_signal.specs.declared.wave.WaveAt.{WaveAt}
 
 -- signals as a plain record
@@ -18,18 +17,6 @@ pub record SignalsText : Type 0 where
   pub edges : List (List ℕ)
   pub falls : List (List ℕ)
   pub ints : List IntAt
-
--- levels of which each lasts one period: there is a period, and at least one level
-abbrev pub AreHeld : ℕ → List ℤ → Type 0
-AreHeld period levels = (1 ≤ period) × (period ≤ 10 ^ 12) × (1 ≤ length levels)
-
--- a wave has a period, a saw rises, and a table and a record have levels
-abbrev pub IsWave : Wave → Type 0
-IsWave (Const level) = Unit {0}
-IsWave (Square low high period) = (1 ≤ period) × (period ≤ 10 ^ 12)
-IsWave (Saw low high period) = (low ≤ℤ high) × (1 ≤ period) × (period ≤ 10 ^ 12)
-IsWave (Table period levels) = AreHeld period levels × (length levels ≤ 64)
-IsWave (Record period levels) = AreHeld period levels
 
 -- edges rise, none is above the horizon, and there aren't too many
 pub record AreEdges (horizon : ℕ) (edges : List ℕ) : Type 0 where
@@ -64,11 +51,6 @@ unfoldable pub have_own : List WaveAt → Bool
 have_own [] = true
 have_own (w ∷ ws) = not (list_any (is_at w.sub w.chan) ws) && have_own ws
 
--- how many recorded levels a wave has
-abbrev pub recorded_in : Wave → ℕ
-recorded_in (Record period levels) = length levels
-recorded_in wave = 0
-
 -- how many recorded levels these waves have together
 abbrev pub recorded_count : List WaveAt → ℕ
 recorded_count [] = 0
@@ -87,14 +69,6 @@ pub record IsSoundSignals (s : SignalsText) : Type 0 where
   pub few_recorded : recorded_count s.waves ≤ 10 ^ 5
   pub ints : All (λ int. int.time ≤ s.horizon) s.ints
   pub few_ints : length s.ints ≤ 1000
-
--- the level of a wave at a time
-abbrev pub wave_level : Wave → ℕ → ℤ
-wave_level (Const level) t = level
-wave_level (Square low high period) t = if nat_lt (2 * (t % period)) period then low else high
-wave_level (Saw low high period) t = low +ℤ pos (unsigned_abs (high -ℤ low) * (t % period) / period)
-wave_level (Table period levels) t = slice_index_or levels (t / period % length levels) (pos 0)
-wave_level (Record period levels) t = slice_index_or levels (min (t / period) (length levels - 1)) (pos 0)
 
 -- the level of a channel: that of its wave, and 0 where it has none
 abbrev pub level_from : List WaveAt → ℕ → ℕ → ℕ → ℤ

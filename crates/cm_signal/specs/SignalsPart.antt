@@ -14,91 +14,15 @@ use Rattle.cm_base.specs.declared.faults.Fault.TheVariants.{Bad, BadLine, BadNum
 use Rattle.cm_base.specs.declared.faults.Refused.{Refused}
 use Rattle.cm_board.specs.Board.{BoardText, SubText, has_levels}
 use Rattle.cm_board.specs.Versions.{is_wide, most_in, most_lines}
+use Rattle.cm_signal.specs.Channel.{period_word}
 use Rattle.cm_signal.specs.Signals.{SignalsText, edge_count, is_at, recorded_count, times_at}
+use Rattle.cm_signal.specs.Wave.{is_fine, recorded_in, wave_words}
 use Rattle.cm_signal.specs.declared.said.Said.{Said}
 use Rattle.cm_signal.specs.declared.said.Said.TheVariants as said
 use Rattle.cm_signal.specs.declared.signals.Slope.{Slope}
 use Rattle.cm_signal.specs.declared.signals.Slope.TheVariants as slopes
 use Rattle.cm_signal.specs.declared.wave.Wave.{Wave}
-use Rattle.cm_signal.specs.declared.wave.Wave.TheVariants as waves
 use Rattle.cm_signal.specs.declared.wave.WaveAt.{WaveAt}
-
--- how many channels with levels a subdevice has
-abbrev pub level_channels : Option SubText → ℕ
-level_channels None = 0
-level_channels (Some sub) = if has_levels sub.kind then sub.channels else 0
-
--- the place of a subdevice with levels
-abbrev pub input_word : List SubText → List ℕ → Result ℕ Fault
-input_word subs word =
-    number_below (length subs) word >>= λ sub. limited (nat_lt 0 (level_channels (slice_get subs sub))) sub
-
--- a channel with levels, by the subdevice's place and its own number
-abbrev pub channel_words : List SubText → List ℕ → List ℕ → Result (ℕ × ℕ) Fault
-channel_words subs sub chan =
-    input_word subs sub >>= λ s. number_below (level_channels (slice_get subs s)) chan >>= λ c. Ok (s, c)
-
--- a line that gives a channel its wave
-abbrev pub wave_said : ℕ × ℕ → Wave → Said
-wave_said at wave = said.Wave (record { sub = at.0; chan = at.1; wave = wave })
-
--- the period of a wave: 1 nanosecond to 1,000 seconds
-abbrev pub period_word : List ℕ → Result ℕ Fault
-period_word = number_in 1 1000000000000
-
--- the forms of `wave SUB CHAN KIND ..`, by the words after the kind
-abbrev pub const_words : List SubText → List ℕ → List ℕ → Form Said
-const_words subs sub chan words =
-    one_word words >>= λ w.
-    channel_words subs sub chan >>= λ at.
-    signed_number w >>= λ v.
-    Ok (wave_said at (waves.Const v))
-
--- a square wave: its low level, its high level and its period
-abbrev pub square_words : List SubText → List ℕ → List ℕ → Form Said
-square_words subs sub chan words =
-    three_words words >>= λ w. channel_words subs sub chan >>= λ at.
-    signed_number w.0 >>= λ low. signed_number w.1 >>= λ high. period_word w.2 >>= λ period.
-    Ok (wave_said at (waves.Square low high period))
-
--- a saw: its low level, its high level and its period
-abbrev pub saw_words : List SubText → List ℕ → List ℕ → Form Said
-saw_words subs sub chan words =
-    three_words words >>= λ w. channel_words subs sub chan >>= λ at.
-    signed_number w.0 >>= λ low. signed_number w.1 >>= λ high. period_word w.2 >>= λ period.
-    Ok (wave_said at (waves.Saw low high period))
-
--- the channel, the period and the levels of a wave whose levels each last one period,
--- of which at most so many may stand
-abbrev pub levels_words : ℕ → List SubText → List ℕ → List ℕ → Form ((ℕ × ℕ) × ℕ × List ℤ)
-levels_words most subs sub chan words =
-    one_and_more words >>= λ w. channel_words subs sub chan >>= λ at.
-    period_word w.0 >>= λ period. values most signed_number [] w.1 >>= λ levels.
-    Ok (at, period, levels)
-
--- a table: its period, and at most 64 levels
-abbrev pub table_words : List SubText → List ℕ → List ℕ → Form Said
-table_words subs sub chan words = levels_words 64 subs sub chan words >>= λ l. Ok (wave_said l.0 (waves.Table l.1 l.2))
-
--- a record: its period, and as many levels as the line has; boards of the wider texts have it
-abbrev pub record_words : BoardText → List ℕ → List ℕ → Form Said
-record_words board sub chan words =
-    if is_wide board.version
-    then (levels_words (length words) board.subs sub chan words >>= λ l. Ok (wave_said l.0 (waves.Record l.1 l.2)))
-    else Err Unknown
-
--- the waves by their names
-abbrev pub wave_forms : BoardText → List (List ℕ × (List ℕ → List ℕ → Form Said))
-wave_forms board =
-    (codes "const", const_words board.subs) ∷
-    (codes "square", square_words board.subs) ∷
-    (codes "saw", saw_words board.subs) ∷
-    (codes "table", table_words board.subs) ∷
-    (codes "record", record_words board) ∷ []
-
--- `wave SUB CHAN KIND ..`
-abbrev pub wave_words : BoardText → Form Said
-wave_words board words = three_and_more words >>= λ w. keyword (wave_forms board) w.2 >>= λ form. form w.0 w.1 w.3
 
 -- the number of an external line
 abbrev pub line_word : ℕ → List ℕ → Result ℕ Fault
@@ -153,11 +77,6 @@ said_words board horizon (key ∷ words) = keyword (signal_forms board horizon) 
 abbrev pub said_line : BoardText → ℕ → LineText → Result Said Fault
 said_line board horizon line = if line.bad then Err BadLine else said_words board horizon line.words
 
--- a saw does not fall
-abbrev pub is_fine : Wave → Bool
-is_fine (waves.Saw low high period) = int_le low high
-is_fine wave = true
-
 -- times that rise strictly, none below `least`
 abbrev pub rises_from : ℕ → List ℕ → Bool
 rises_from least [] = true
@@ -169,10 +88,9 @@ has_room s times =
     list_all (λ time. nat_le time s.horizon) times
     && nat_le (edge_count s.edges + edge_count s.falls + length times) 100000
 
--- a record's levels and all recorded ones before it aren't too many together
+-- a wave's recorded levels and all recorded ones before it aren't too many together
 abbrev pub has_record_room : SignalsText → Wave → Bool
-has_record_room s (waves.Record period levels) = nat_le (recorded_count s.waves + length levels) 100000
-has_record_room s wave = true
+has_record_room s wave = nat_le (recorded_count s.waves + recorded_in wave) 100000
 
 -- whether a channel may have this wave, where there is room for it
 abbrev pub checked_own : SignalsText → WaveAt → Result (Unit {0}) Fault

@@ -17,9 +17,10 @@ impl Signals {
     ghost use Rattle.std.specs.Prelude.{◌≡◌, ◌≤◌, ◌<◌, ◌+◌, ◌^◌, ◌++◌, ◌∷◌, true, false, Ok, IfOk, OnOk, length, slice_set};
     ghost use Rattle.std.specs.List.{list_any};
     ghost use Rattle.cm_base.specs.Reading.{seen};
-    ghost use Rattle.cm_signal.specs.Said.{HasPeriod, IsSaid};
+    ghost use Rattle.cm_signal.specs.Said.{IsSaid};
     ghost use Rattle.cm_signal.specs.Signals.{SignalsText, edge_count, is_at, times_at};
-    ghost use Rattle.cm_signal.specs.SignalsPart.{checked, has_record_room, has_room, is_fine, rises_from, silent, with_said, with_times};
+    ghost use Rattle.cm_signal.specs.SignalsPart.{checked, has_record_room, has_room, rises_from, silent, with_said, with_times};
+    ghost use Rattle.cm_signal.specs.Wave.{HasPeriod, is_fine};
 
     /// No wave, no edge and no trigger up to a horizon.
     pub fn silent(alloc: Global, horizon: u64) -> Result<Signals, AllocError>
@@ -54,23 +55,18 @@ impl Signals {
             Err(Fault::Limit)
         } else if self.has_wave(wave.sub, wave.chan) {
             Err(Fault::Double)
-        } else if is_fine(&wave.wave) {
+        } else if wave.wave.is_fine() {
             Ok(())
         } else {
             Err(Fault::Bad)
         }
     }
 
-    // Whether a record's levels and all recorded ones so far aren't too many together.
+    // Whether its recorded levels and all recorded ones so far aren't too many together.
     fn has_record_room(&self, wave: &Wave) -> bool
         ensures { result ≡ has_record_room self.now wave.now }
     {
-        match wave {
-            Wave::Record(_, levels) => {
-                recorded_count(&self.waves) + levels.as_slice().len() <= 100_000
-            }
-            _ => true,
-        }
+        recorded_count(&self.waves) + wave.recorded() <= 100_000
     }
 
     // Whether a channel has its wave.
@@ -210,16 +206,6 @@ fn recorded_count(waves: &[WaveAt]) -> usize
         count += wave.wave.recorded();
     }
     count
-}
-
-// A saw does not fall.
-fn is_fine(wave: &Wave) -> bool
-    ensures { result ≡ part.is_fine wave.now }
-{
-    match wave {
-        Wave::Saw(low, high, _) => low <= high,
-        _ => true,
-    }
 }
 
 // Whether no time is above a limit.

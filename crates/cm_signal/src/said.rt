@@ -8,22 +8,22 @@ ghost use Rattle.cm_base.specs.ReadStop.{Gives};
 ghost use Rattle.cm_base.specs.Reading.{at_line};
 ghost use Rattle.cm_signal.specs.Fitting.{Fits};
 ghost use Rattle.cm_signal.specs.Said.{IsSaid};
-ghost use Rattle.cm_signal.specs.Signals.{AreHeld};
+ghost use Rattle.cm_signal.specs.Channel as channel;
 ghost use Rattle.cm_signal.specs.SignalsPart as spec;
 
 use crate::signals::{IntAt, Slope};
-use crate::wave::{Wave, WaveAt};
+use crate::wave::WaveAt;
+use crate::wave_words::read_wave;
 use cm_base::faults::{Fault, ReadStop};
 use cm_base::lines::Line;
-use cm_base::lists::{Ints, Times};
+use cm_base::lists::Times;
 use cm_base::numbers::read_u64;
 use cm_base::parts::refused;
 use cm_base::words::{
-    at_line, four, number_below, number_in, one, one_and_more, signed_number, signed_numbers,
-    three, three_and_more, time_in, times_in,
+    at_line, four, number_below, number_in, one_and_more, three, time_in, times_in,
 };
 use cm_board::board::{BoardDesc, Sub};
-use cm_board::versions::{is_wide, most_lines};
+use cm_board::versions::most_lines;
 use std::alloc::{AllocError, Global};
 
 /// What a line of the signals part says.
@@ -84,148 +84,6 @@ fn read_words(
     } else {
         Err(refused(number, Fault::Unknown))
     }
-}
-
-// `wave SUB CHAN KIND ..`
-fn read_wave(
-    alloc: Global,
-    number: u32,
-    board: &BoardDesc,
-    words: &[&[u8]],
-) -> Result<Said, ReadStop>
-    ensures value { Gives (λ said. said) result (at_line number (spec.wave_words board.now (map (λ word. word.now) words.now))) }
-    ensures limits { IfOk result (IsSaid 0) }
-    ensures fits { IfOk result (Fits board.now.subs) }
-{
-    let (sub, chan, kind, words) = at_line(number, three_and_more(words))?;
-    let subs = &board.subs;
-    if kind == b"const".as_slice() {
-        at_line(number, read_const(subs, sub, chan, words))
-    } else if kind == b"square".as_slice() {
-        at_line(number, read_square(subs, sub, chan, words))
-    } else if kind == b"saw".as_slice() {
-        at_line(number, read_saw(subs, sub, chan, words))
-    } else if kind == b"table".as_slice() {
-        read_table(alloc, number, subs, sub, chan, words)
-    } else if kind == b"record".as_slice() {
-        read_record(alloc, number, board, sub, chan, words)
-    } else {
-        Err(refused(number, Fault::Unknown))
-    }
-}
-
-// `wave SUB CHAN const V`
-fn read_const(subs: &[Sub], sub: &[u8], chan: &[u8], words: &[&[u8]]) -> Result<Said, Fault>
-    requires { length subs.now < 2 ^ 32 }
-    ensures value { result ≡ spec.const_words subs.now sub.now chan.now (map (λ word. word.now) words.now) }
-    ensures limits { IfOk result (IsSaid 0) }
-    ensures fits { IfOk result (Fits subs.now) }
-{
-    let level = one(words)?;
-    let (sub, chan) = read_channel(subs, sub, chan)?;
-    let wave = Wave::Const(signed_number(level)?);
-    Ok(Said::Wave(WaveAt { sub, chan, wave }))
-}
-
-// `wave SUB CHAN square LOW HIGH PERIOD`
-fn read_square(subs: &[Sub], sub: &[u8], chan: &[u8], words: &[&[u8]]) -> Result<Said, Fault>
-    requires { length subs.now < 2 ^ 32 }
-    ensures value { result ≡ spec.square_words subs.now sub.now chan.now (map (λ word. word.now) words.now) }
-    ensures limits { IfOk result (IsSaid 0) }
-    ensures fits { IfOk result (Fits subs.now) }
-{
-    let (low, high, period) = three(words)?;
-    let (sub, chan) = read_channel(subs, sub, chan)?;
-    let low = signed_number(low)?;
-    let high = signed_number(high)?;
-    let wave = Wave::Square(low, high, read_period(period)?);
-    Ok(Said::Wave(WaveAt { sub, chan, wave }))
-}
-
-// `wave SUB CHAN saw LOW HIGH PERIOD`
-fn read_saw(subs: &[Sub], sub: &[u8], chan: &[u8], words: &[&[u8]]) -> Result<Said, Fault>
-    requires { length subs.now < 2 ^ 32 }
-    ensures value { result ≡ spec.saw_words subs.now sub.now chan.now (map (λ word. word.now) words.now) }
-    ensures limits { IfOk result (IsSaid 0) }
-    ensures fits { IfOk result (Fits subs.now) }
-{
-    let (low, high, period) = three(words)?;
-    let (sub, chan) = read_channel(subs, sub, chan)?;
-    let low = signed_number(low)?;
-    let high = signed_number(high)?;
-    let wave = Wave::Saw(low, high, read_period(period)?);
-    Ok(Said::Wave(WaveAt { sub, chan, wave }))
-}
-
-// `wave SUB CHAN table PERIOD V..`
-fn read_table(
-    alloc: Global,
-    number: u32,
-    subs: &[Sub],
-    sub: &[u8],
-    chan: &[u8],
-    words: &[&[u8]],
-) -> Result<Said, ReadStop>
-    requires { length subs.now < 2 ^ 32 }
-    ensures value { Gives (λ said. said) result (at_line number (spec.table_words subs.now sub.now chan.now (map (λ word. word.now) words.now))) }
-    ensures limits { IfOk result (IsSaid 0) }
-    ensures fits { IfOk result (Fits subs.now) }
-{
-    let ((sub, chan), period, levels) = read_levels(alloc, number, subs, sub, chan, words, 64)?;
-    let wave = Wave::Table(period, levels);
-    Ok(Said::Wave(WaveAt { sub, chan, wave }))
-}
-
-// `wave SUB CHAN record PERIOD V..`, of boards whose text begins with `zendrouz 1`.
-fn read_record(
-    alloc: Global,
-    number: u32,
-    board: &BoardDesc,
-    sub: &[u8],
-    chan: &[u8],
-    words: &[&[u8]],
-) -> Result<Said, ReadStop>
-    ensures value { Gives (λ said. said) result (at_line number (spec.record_words board.now sub.now chan.now (map (λ word. word.now) words.now))) }
-    ensures limits { IfOk result (IsSaid 0) }
-    ensures fits { IfOk result (Fits board.now.subs) }
-{
-    if !is_wide(board.version) {
-        return Err(refused(number, Fault::Unknown));
-    }
-    let most = words.len();
-    let ((sub, chan), period, levels) = read_levels(
-        alloc,
-        number,
-        &board.subs,
-        sub,
-        chan,
-        words,
-        most,
-    )?;
-    let wave = Wave::Record(period, levels);
-    Ok(Said::Wave(WaveAt { sub, chan, wave }))
-}
-
-// The channel, the period and at most `most` levels of `wave SUB CHAN KIND PERIOD V..`.
-fn read_levels(
-    alloc: Global,
-    number: u32,
-    subs: &[Sub],
-    sub: &[u8],
-    chan: &[u8],
-    words: &[&[u8]],
-    most: usize,
-) -> Result<((u32, u32), u64, Ints), ReadStop>
-    requires { length subs.now < 2 ^ 32 }
-    ensures value { Gives (λ l. (l.0, l.1, l.2)) result (at_line number (spec.levels_words most subs.now sub.now chan.now (map (λ word. word.now) words.now))) }
-    ensures limits { IfOk result (λ l. AreHeld l.1 l.2 × (length l.2 ≤ most)) }
-    ensures fits { IfOk result (λ l. l.0.1 < spec.level_channels (slice_get subs.now l.0.0)) }
-{
-    let (period, levels) = at_line(number, one_and_more(words))?;
-    let at = at_line(number, read_channel(subs, sub, chan))?;
-    let period = at_line(number, read_period(period))?;
-    let levels = signed_numbers(alloc, number, levels, most)?;
-    Ok((at, period, Ints::new(levels)))
 }
 
 // `edges LINE T..` and `falls LINE T..`
@@ -300,10 +158,10 @@ fn read_int(subs: &[Sub], horizon: u64, words: &[&[u8]]) -> Result<Said, Fault>
 }
 
 // A channel with levels.
-fn read_channel(subs: &[Sub], sub: &[u8], chan: &[u8]) -> Result<(u32, u32), Fault>
+pub(crate) fn read_channel(subs: &[Sub], sub: &[u8], chan: &[u8]) -> Result<(u32, u32), Fault>
     requires { length subs.now < 2 ^ 32 }
-    ensures value { result ≡ spec.channel_words subs.now sub.now chan.now }
-    ensures fits { IfOk result (λ at. at.1 < spec.level_channels (slice_get subs.now at.0)) }
+    ensures value { result ≡ channel.channel_words subs.now sub.now chan.now }
+    ensures fits { IfOk result (λ at. at.1 < channel.level_channels (slice_get subs.now at.0)) }
 {
     let sub = read_input(subs, sub)?;
     let chan = number_below(chan, level_channels(subs, sub))?;
@@ -313,7 +171,7 @@ fn read_channel(subs: &[Sub], sub: &[u8], chan: &[u8]) -> Result<(u32, u32), Fau
 // The place of a subdevice with levels.
 fn read_input(subs: &[Sub], word: &[u8]) -> Result<u32, Fault>
     requires { length subs.now < 2 ^ 32 }
-    ensures { result ≡ spec.input_word subs.now word.now }
+    ensures { result ≡ channel.input_word subs.now word.now }
 {
     let sub = number_below(word, subs.len() as u32)?;
     if 0 < level_channels(subs, sub) {
@@ -325,7 +183,7 @@ fn read_input(subs: &[Sub], word: &[u8]) -> Result<u32, Fault>
 
 // How many channels with levels the subdevice at a place has.
 fn level_channels(subs: &[Sub], place: u32) -> u32
-    ensures { result ≡ spec.level_channels (slice_get subs.now place) }
+    ensures { result ≡ channel.level_channels (slice_get subs.now place) }
 {
     match subs.get(place as usize) {
         None => 0,
@@ -335,7 +193,7 @@ fn level_channels(subs: &[Sub], place: u32) -> u32
 
 // How many channels with levels a subdevice has.
 fn channels_with_levels(sub: &Sub) -> u32
-    ensures { result ≡ spec.level_channels (Some sub.now) }
+    ensures { result ≡ channel.level_channels (Some sub.now) }
 {
     if sub.kind.has_levels() {
         sub.channels
@@ -345,8 +203,8 @@ fn channels_with_levels(sub: &Sub) -> u32
 }
 
 // A period in nanoseconds.
-fn read_period(word: &[u8]) -> Result<u64, Fault>
-    ensures value { result ≡ spec.period_word word.now }
+pub(crate) fn read_period(word: &[u8]) -> Result<u64, Fault>
+    ensures value { result ≡ channel.period_word word.now }
     ensures limits { IfOk result (λ period. (1 ≤ period) × (period ≤ 10 ^ 12)) }
 {
     time_in(word, 1, 1_000_000_000_000)

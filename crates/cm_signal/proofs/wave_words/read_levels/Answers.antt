@@ -3,7 +3,7 @@ use Rattle.std.specs.Prelude.{IfOk}
 use Rattle.std.proofs.lemmas.List.{length-map}
 use Rattle.cm_base.specs.Words.{signed_number}
 use Rattle.cm_base.proofs.Values.{at_line_ok, values_few}
-use Rattle.cm_signal.proofs.said.read_levels.Goals as goal
+use Rattle.cm_signal.proofs.wave_words.read_levels.Goals as goal
 
 pub returns-clause-limits : goal.returns-clause-limits
 returns-clause-limits c =

@@ -1,7 +1,7 @@
 use Rattle.std.proofs.Common.{◌≡◌, arith, ◌∙◌, length-set, w64, to_z, of_z}
 use Rattle.std.proofs.lemmas.Int.{to_z-of_z}
 use Rattle.cm_signal.proofs.Progressions.{put_later}
-use Rattle.cm_signal.proofs.shape.put_levels.Goals as goal
+use Rattle.cm_signal.proofs.quick.Quick.put_levels.Goals as goal
 
 pub loop-i-preserved : goal.loop-i-preserved
 loop-i-preserved g c =

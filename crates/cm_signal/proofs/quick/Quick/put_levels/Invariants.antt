@@ -1,6 +1,6 @@
 use Rattle.std.proofs.Common.{◌≡◌, length, take, map}
 use Rattle.cm_signal.specs.SignalsPart.{progression}
-use Rattle.cm_signal.proofs.shape.put_levels.Given as goal
+use Rattle.cm_signal.proofs.quick.Quick.put_levels.Given as goal
 
 -- the levels so far
 abbrev pub invariant-loop-i : goal.invariant-loop-i

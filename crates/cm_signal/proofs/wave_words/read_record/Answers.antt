@@ -7,7 +7,7 @@ use Rattle.cm_board.specs.Board.{BoardText}
 use Rattle.cm_board.specs.Versions.{is_wide}
 use Rattle.cm_signal.proofs.Parts.{gives_err}
 use Rattle.cm_signal.proofs.Records.{as_record, record_is, record_stops}
-use Rattle.cm_signal.proofs.said.read_record.Goals as goal
+use Rattle.cm_signal.proofs.wave_words.read_record.Goals as goal
 
 pub returns-in_err-sub-clause-value : goal.returns-in_err-sub-clause-value
 returns-in_err-sub-clause-value c =
