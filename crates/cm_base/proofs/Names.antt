@@ -1,10 +1,11 @@
 -- A source text name by name.
-use Rattle.std.proofs.Common.{◌≡◌, ℕ, ◌+◌, ◌*◌, Bool, true, false, ◌&&◌, List, [], ◌∷◌, take, drop, refl, ap, ◌∙◌, Some, None, Option, Result, Ok, Err, bit_or}
+use Rattle.std.proofs.Common.{◌≡◌, ℕ, ◌+◌, ◌*◌, Bool, true, false, ◌&&◌, ◌≤◌, nat_le, rules, List, [], ◌∷◌, take, drop, refl, ap, ◌∙◌, Some, None, Option, Result, Ok, Err, bit_or}
 use Rattle.std.specs.Int.Bits.{or_zero_r}
 use Rattle.std.specs.List.{slice_split, position}
 use Rattle.cm_base.specs.Reading.{◌>>=◌}
 use Rattle.std.specs.Prelude.{if◌then◌else◌}
 use Rattle.std.specs.Str.{bytes_eq}
+use Rattle.std.proofs.lemmas.Bool.Decides.{nat_tests}
 use Rattle.std.proofs.lemmas.Slice.Eq.{bytes_eq-Decides}
 use Rattle.cm_base.specs.Source.{bit_named, bit_of, source_names}
 use Rattle.cm_base.specs.Words.{bit_from, bits_of, is_bar, source_of}
@@ -49,3 +50,22 @@ named_alone (source ∷ more) name bit h e = by (bytes_eq name source.1) refl e 
 -- a text that is one name
 pub one_name : (name : List ℕ) (bit : ℕ) → bit_of name ≡ Some bit → source_of name ≡ Ok bit
 one_name name bit e = named_alone source_names name bit refl e
+
+-- each bit of a list is at most 256
+abbrev all_low : List (ℕ × List ℕ) → Bool
+all_low [] = true
+all_low (source ∷ more) = nat_le source.0 256 && all_low more
+
+named_low : (names : List (ℕ × List ℕ)) (name : List ℕ) (bit : ℕ) → all_low names ≡ true → bit_named names name ≡ Some bit → bit ≤ 256
+named_low [] name bit h e = cc
+named_low (source ∷ more) name bit h e = by (bytes_eq name source.1) e (named_low more name bit (both (nat_le source.0 256) (all_low more) h).1)
+  where
+    by : (t : Bool) → (if t then Some source.0 else bit_named more name) ≡ Some bit → (bit_named more name ≡ Some bit → bit ≤ 256) → bit ≤ 256
+    by true e later =
+        let same : source.0 ≡ bit = cc in
+        search (rules, nat_tests, same, (both (nat_le source.0 256) (all_low more) h).0)
+    by false e later = later e
+
+-- a name's bit is at most 256
+pub bit_low : (name : List ℕ) (bit : ℕ) → bit_of name ≡ Some bit → bit ≤ 256
+bit_low name bit e = named_low source_names name bit refl e

@@ -94,11 +94,6 @@ abbrev pub four_words : List (List ℕ) → Result (List ℕ × List ℕ × List
 four_words (v ∷ w ∷ x ∷ y ∷ []) = Ok (v, w, x, y)
 four_words words = Err BadLine
 
--- a line of exactly five words
-abbrev pub five_words : List (List ℕ) → Result (List ℕ × List ℕ × List ℕ × List ℕ × List ℕ) Fault
-five_words (v ∷ w ∷ x ∷ y ∷ z ∷ []) = Ok (v, w, x, y, z)
-five_words words = Err BadLine
-
 -- the forms with no, one, two and more words: what each word has to be, and what they say together
 abbrev pub alone : {X : Type 0} → X → Form X
 alone x words = no_words words >>= λ none. Ok x
@@ -123,19 +118,6 @@ abbrev pub four : {X A B C D : Type 0} → (A → B → C → D → X) → (List
     → Form X
 four make a b c d words =
     four_words words >>= λ w. a w.0 >>= λ x. b w.1 >>= λ y. c w.2 >>= λ z. d w.3 >>= λ u. Ok (make x y z u)
-
--- the form of five words, each read by its own reader, the first one first
-abbrev pub five : {X A B C D E : Type 0} → (A → B → C → D → E → X) → (List ℕ → Result A Fault)
-    → (List ℕ → Result B Fault) → (List ℕ → Result C Fault) → (List ℕ → Result D Fault) → (List ℕ → Result E Fault)
-    → Form X
-five make a b c d e words =
-    five_words words >>= λ w.
-    a w.0 >>= λ x.
-    b w.1 >>= λ y.
-    c w.2 >>= λ z.
-    d w.3 >>= λ u.
-    e w.4 >>= λ v.
-    Ok (make x y z u v)
 
 -- a further word that chooses the form
 abbrev pub chosen : {X : Type 0} → List (List ℕ × Form X) → Form X

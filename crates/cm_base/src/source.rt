@@ -26,6 +26,3 @@ pub const INT: u32 = 0x80;
 
 /// Something else. No board of this project has it.
 pub const OTHER: u32 = 0x100;
-
-/// All nine.
-pub const ALL: u32 = 0x1ff;

@@ -2,7 +2,7 @@
 ghost use Rattle.std.specs.Prelude.{[], map, ◌≡◌, ◌<◌, ◌≤◌, ◌^◌, ◌+◌, length, drop, IfOk, IfSome};
 ghost use Rattle.std.specs.List.{position, slice_split};
 ghost use Rattle.cm_base.specs.Source.{bit_of};
-ghost use Rattle.cm_base.specs.Words.{each_word, up_to, values, number_below, number_in, one_and_more, two_and_more, three_and_more, signed_number, bit_from, bits_of, is_bar, source_of, source_in, sources_in, no_words, one_word, two_words, three_words, four_words, five_words};
+ghost use Rattle.cm_base.specs.Words.{each_word, up_to, values, number_below, number_in, one_and_more, two_and_more, three_and_more, signed_number, bit_from, bits_of, is_bar, source_of, source_in, sources_in, no_words, one_word, two_words, three_words, four_words};
 ghost use Rattle.cm_base.specs.ReadStop.{Gives};
 ghost use Rattle.cm_base.specs.Reading.{at_line, seen};
 
@@ -156,6 +156,7 @@ fn first_bar(word: &[u8]) -> Option<usize>
 }
 
 // The bit of the source with this name, if it is not below `least`.
+#[tactic(auto, using(crate::proofs::Names::bit_low))]
 fn bit_from(name: &[u8], least: u32) -> Result<u32, Fault>
     ensures bit { result ≡ bit_from least name.now }
     ensures low { IfOk result (λ bit. bit ≤ 256) }
@@ -169,7 +170,6 @@ fn bit_from(name: &[u8], least: u32) -> Result<u32, Fault>
 // The bit of the source with this name.
 fn bit_of(name: &[u8]) -> Option<u32>
     ensures bit { result ≡ bit_of name.now }
-    ensures low { IfSome result (λ bit. bit ≤ 256) }
 {
     if name == b"none".as_slice() {
         Some(NONE)
@@ -244,18 +244,6 @@ pub fn four<'a>(words: &[&'a [u8]]) -> Result<(&'a [u8], &'a [u8], &'a [u8], &'a
     }
 }
 
-/// The five words.
-pub fn five<'a>(
-    words: &[&'a [u8]],
-) -> Result<(&'a [u8], &'a [u8], &'a [u8], &'a [u8], &'a [u8]), Fault>
-    ensures { seen (λ w. (w.0.now, w.1.now, w.2.now, w.3.now, w.4.now)) result ≡ five_words (map (λ word. word.now) words.now) }
-{
-    match words {
-        [v, w, x, y, z] => Ok((v, w, x, y, z)),
-        _ => Err(Fault::BadLine),
-    }
-}
-
 /// The first word, and at least one after it.
 pub fn one_and_more<'a, 'b>(words: &'b [&'a [u8]]) -> Result<(&'a [u8], &'b [&'a [u8]]), Fault>
     ensures value { seen (λ w. (w.0.now, map (λ word. word.now) w.1.now)) result ≡ one_and_more (map (λ word. word.now) words.now) }
@@ -281,12 +269,9 @@ pub fn two_and_more<'a, 'b>(
     ensures some { IfOk result (λ w. 1 ≤ length w.2.now) }
 {
     match words {
-        [v, w, more @ ..] => {
-            if more.is_empty() {
-                Err(Fault::BadLine)
-            } else {
-                Ok((v, w, more))
-            }
+        [v, rest @ ..] => {
+            let (w, more) = one_and_more(rest)?;
+            Ok((v, w, more))
         }
         _ => Err(Fault::BadLine),
     }

@@ -18,7 +18,8 @@ munge_words =
 -- the forms of a row of munges, whose lines begin with these words
 abbrev pub munge_forms : ℕ → List WordText → List FormText
 munge_forms row before =
-    map (λ words. record { row = row; words = before ++ (Fixed (codes "munge") ∷ words); rule = rules_of.Free }) munge_words
+    map (λ words. record { row = row; words = before ++ (Fixed (codes "munge") ∷ words); rule = rules_of.Free })
+    munge_words
 
 -- a munge by its number among these forms, where the last shifts by so many bits, 1 to 8
 abbrev pub munge_by_form : ℕ → ℕ → Munge
@@ -73,4 +74,5 @@ IsCode kind maxdata code = (code ≤ maxdata) × (maxdata < 2 ^ 24)
 
 -- munging undoes unmunging
 abbrev pub Undoes : Type 0
-Undoes = (kind : Munge) (maxdata code : ℕ) → IsCode kind maxdata code → munged kind maxdata (unmunged kind maxdata code) ≡ code
+Undoes =
+    (kind : Munge) (maxdata code : ℕ) → IsCode kind maxdata code → munged kind maxdata (unmunged kind maxdata code) ≡ code

@@ -12,11 +12,13 @@ level_channels (Some sub) = if has_levels sub.kind then sub.channels else 0
 
 -- the place of a subdevice with levels
 abbrev pub input_word : List SubText → List ℕ → Result ℕ Fault
-input_word subs word = number_below (length subs) word >>= λ sub. limited (nat_lt 0 (level_channels (slice_get subs sub))) sub
+input_word subs word =
+    number_below (length subs) word >>= λ sub. limited (nat_lt 0 (level_channels (slice_get subs sub))) sub
 
 -- a channel with levels, by the subdevice's place and its own number
 abbrev pub channel_words : List SubText → List ℕ → List ℕ → Result (ℕ × ℕ) Fault
-channel_words subs sub chan = input_word subs sub >>= λ s. number_below (level_channels (slice_get subs s)) chan >>= λ c. Ok (s, c)
+channel_words subs sub chan =
+    input_word subs sub >>= λ s. number_below (level_channels (slice_get subs s)) chan >>= λ c. Ok (s, c)
 
 -- the period of a wave: 1 nanosecond to 1,000 seconds
 abbrev pub period_word : List ℕ → Result ℕ Fault

@@ -1,8 +1,10 @@
 -- What a wave is: the lines that say it, its limits, and its level at each time.
-use Rattle.std.specs.Prelude.{ℕ, ◌-◌, ◌*◌, ◌/◌, ◌%◌, ◌≤◌, ◌^◌, min, nat_lt, Bool, true, ℤ, pos, ◌+ℤ◌, ◌-ℤ◌, ◌≤ℤ◌, int_le, unsigned_abs}
+use Rattle.std.specs.Prelude.{ℕ, ◌-◌, ◌*◌, ◌/◌, ◌%◌, ◌≤◌, ◌^◌, min, nat_lt, Bool, true}
+use Rattle.std.specs.Prelude.{ℤ, pos, ◌+ℤ◌, ◌-ℤ◌, ◌≤ℤ◌, int_le, unsigned_abs}
 use Rattle.std.specs.Prelude.{List, [], ◌∷◌, length, slice_index_or, codes, Ok, Err, if◌then◌else◌}
 use Rattle.cm_base.specs.Reading.{◌>>=◌}
-use Rattle.cm_base.specs.Words.{Form, keyword, one_and_more, one_word, signed_number, three_and_more, three_words, values}
+use Rattle.cm_base.specs.Words.{Form, keyword, one_and_more, one_word, signed_number, three_and_more, three_words}
+use Rattle.cm_base.specs.Words.{values}
 use Rattle.cm_base.specs.declared.faults.Fault.TheVariants.{Unknown}
 use Rattle.cm_board.specs.Board.{BoardText, SubText}
 use Rattle.cm_board.specs.Versions.{is_wide}
@@ -86,7 +88,8 @@ saw_words subs sub chan words =
     signed_number w.0 >>= λ low. signed_number w.1 >>= λ high. period_word w.2 >>= λ period.
     Ok (wave_said at (Saw low high period))
 
--- the channel, the period and the levels of a wave whose levels each last one period, of which at most so many may stand
+-- the channel, the period and the levels of a wave whose levels each last one period,
+-- of which at most so many may stand
 abbrev pub levels_words : ℕ → List SubText → List ℕ → List ℕ → Form ((ℕ × ℕ) × ℕ × List ℤ)
 levels_words most subs sub chan words =
     one_and_more words >>= λ w. channel_words subs sub chan >>= λ at.
