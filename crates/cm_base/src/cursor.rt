@@ -7,7 +7,7 @@ ghost use Rattle.cm_base.specs.LineView.{line_view};
 ghost use Rattle.cm_base.specs.Parts.{begins};
 
 use crate::lines::Line;
-use crate::splitting::{Found, begins_raw, count_lines, find_line, read_line};
+use crate::splitting::{Found, begins_raw, count_lines, find_line, line_of_words};
 use crate::transfer::NoMemory;
 use std::alloc::{AllocError, Global};
 use std::marker::Model;
@@ -141,7 +141,7 @@ impl<'a> Cursor<'a> {
             None => Ok(false),
             Some(found) => {
                 let Line { words, .. } = mem::replace(line, Line::empty(alloc));
-                *line = read_line(alloc, found.number, found.raw, words)?;
+                *line = line_of_words(alloc, found.number, found.raw, words)?;
                 Ok(true)
             }
         }

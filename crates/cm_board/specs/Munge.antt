@@ -75,4 +75,5 @@ IsCode kind maxdata code = (code ≤ maxdata) × (maxdata < 2 ^ 24)
 -- munging undoes unmunging
 abbrev pub Undoes : Type 0
 Undoes =
-    (kind : Munge) (maxdata code : ℕ) → IsCode kind maxdata code → munged kind maxdata (unmunged kind maxdata code) ≡ code
+    (kind : Munge) (maxdata code : ℕ) → IsCode kind maxdata code →
+    munged kind maxdata (unmunged kind maxdata code) ≡ code

@@ -4,10 +4,10 @@ use Rattle.cm_cli.specs.declared.status.Status.{Status}
 use Rattle.cm_cli.specs.declared.status.Status.TheVariants as status
 
 -- the exit status of the process
-abbrev pub number_of : Status → ℕ
-number_of status.Done = 0
-number_of status.Refused = 1
-number_of status.Usage = 2
-number_of status.ReadFault = 3
-number_of status.WriteFault = 4
-number_of status.NoMemory = 5
+abbrev pub exit_status : Status → ℕ
+exit_status status.Done = 0
+exit_status status.Refused = 1
+exit_status status.Usage = 2
+exit_status status.ReadFault = 3
+exit_status status.WriteFault = 4
+exit_status status.NoMemory = 5

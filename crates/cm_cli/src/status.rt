@@ -1,6 +1,6 @@
 // How the program ends.
 ghost use Rattle.std.specs.Prelude.{◌≡◌};
-ghost use Rattle.cm_cli.specs.Statuses.{number_of};
+ghost use Rattle.cm_cli.specs.Statuses.{exit_status};
 
 /// The program's status.
 #[derive(Clone, Copy, Debug, PartialEq, Eq)]
@@ -20,8 +20,8 @@ pub enum Status {
 }
 
 /// The number with which the program ends.
-pub fn number_of(status: Status) -> u8
-    ensures { result ≡ number_of status }
+pub fn exit_status(status: Status) -> u8
+    ensures { result ≡ exit_status status }
 {
     match status {
         Status::Done => 0,

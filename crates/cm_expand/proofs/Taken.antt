@@ -23,8 +23,8 @@ use Rattle.cm_expand.specs.Train.{IsTrain}
 use Rattle.cm_expand.specs.declared.conv.Conv.{Conv}
 use Rattle.cm_expand.specs.declared.course.Course.{Course}
 use Rattle.cm_expand.specs.declared.course.Spot.{Spot}
-use Rattle.cm_expand.specs.declared.item.Item.{Item}
-use Rattle.cm_expand.specs.declared.item.Item.TheVariants.{Same}
+use Rattle.cm_expand.specs.declared.item.EntryWords.{EntryWords}
+use Rattle.cm_expand.specs.declared.item.EntryWords.TheVariants.{Same}
 use Rattle.cm_expand.specs.declared.train.Train.{Train}
 use Rattle.cm_expand.proofs.Conversions.{up_to_is}
 use Rattle.cm_expand.proofs.Raws.{same_raws}
@@ -37,14 +37,14 @@ single f (w ∷ []) word first step one is = ap (λ v. v ∷ []) is
 single f (w ∷ v ∷ words) word first step one is = absurd (cc)
 
 -- what a list entry reads by its item
-pub by_item : (p : PlanText) (items : List Item) (i : ℕ) (words times : List ℕ) → AreItems p items → i < length p.cmd.list →
+pub by_item : (p : PlanText) (items : List EntryWords) (i : ℕ) (words times : List ℕ) → AreItems p items → i < length p.cmd.list →
     IfSome (slice_get items i) (λ item. words ≡ map (item_raw item) times) → words ≡ map (raw_at p i) times
 by_item p items i words times are within by =
     let all = are.all in
     let there = slice_get-get_or items i (Same 0) (omega arith) in
     at (slice_get items i) _ there refl by
   where
-    at : (o : Option Item) (item : Item) → o ≡ Some item → slice_get items i ≡ o → IfSome o (λ item. words ≡ map (item_raw item) times) → words ≡ map (raw_at p i) times
+    at : (o : Option EntryWords) (item : EntryWords) → o ≡ Some item → slice_get items i ≡ o → IfSome o (λ item. words ≡ map (item_raw item) times) → words ≡ map (raw_at p i) times
     at None item e same by = absurd (cc)
     at (Some other) item e same by = by ∙ same_raws (item_raw other) (raw_at p i) times (are.each i other same)
 

@@ -26,8 +26,8 @@ use Rattle.cm_job.specs.Head.{before_commands, word_at}
 use Rattle.cm_job.specs.RunLines.{AreRunLines, CanRun, HasLimits}
 use Rattle.cm_job.specs.RunPart.{accepted, are_codes, directed, directed_sub, drive_of, is_directed, line_after, line_of, next_line, taken_line, values_of}
 use Rattle.cm_job.specs.Sessions.{takes}
-use Rattle.cm_job.specs.declared.asked.Asked.{Asked}
-use Rattle.cm_job.specs.declared.asked.Asked.TheVariants as asks
+use Rattle.cm_job.specs.declared.asked.AskedLine.{AskedLine}
+use Rattle.cm_job.specs.declared.asked.AskedLine.TheVariants as asks
 use Rattle.cm_job.specs.declared.asked.Key.{Key}
 use Rattle.cm_job.specs.declared.asked.Key.TheVariants as keys
 use Rattle.cm_job.specs.declared.asked.Session.{Session}
@@ -38,7 +38,7 @@ use Rattle.cm_job.specs.declared.line.RunLine.TheVariants.{Go, Drive}
 use Rattle.cm_job.proofs.Steps.{IsTake, good-from, limited-from, number-from, numbers-some, same-ok, take-from, then-from}
 
 -- what is asked is within the limits of its words
-abbrev IsAsked : ℕ → Asked → Type 0
+abbrev IsAsked : ℕ → AskedLine → Type 0
 IsAsked horizon (asks.Go mode access t0 most cmd) = (t0 ≤ horizon) × IsTake most
 IsAsked horizon (asks.Drive t0 numbers cmd) = (t0 ≤ horizon) × (1 ≤ length numbers)
 
@@ -53,13 +53,13 @@ head-from horizon words h e =
     let most = take-from (word_at w.0 3) k.0 k.1 in
     subst (λ (x : Mode × Access × ℕ × Option ℕ). (x.2 ≤ horizon) × IsTake x.3) (same-ok (m.0, a.0, t.0, k.0) h k.2) (time.1, most)
 
-go-from : (bounds : Bounds) (line : LineText) (asked : Asked) → go_line bounds line ≡ Ok asked → IsAsked bounds.horizon asked
+go-from : (bounds : Bounds) (line : LineText) (asked : AskedLine) → go_line bounds line ≡ Ok asked → IsAsked bounds.horizon asked
 go-from bounds line asked e =
     let h = then-from (go_head bounds.horizon (drop 1 line.words)) _ asked e in
     let c = then-from (command_of (most_entries bounds.version) (drop 5 line.words)) _ asked h.2 in
     subst (IsAsked bounds.horizon) (same-ok (asks.Go h.0.0 h.0.1 h.0.2 h.0.3 c.0) asked c.2) (head-from bounds.horizon (drop 1 line.words) h.0 h.1)
 
-drive-from : (bounds : Bounds) (line : LineText) (asked : Asked) → drive_line bounds line ≡ Ok asked → IsAsked bounds.horizon asked
+drive-from : (bounds : Bounds) (line : LineText) (asked : AskedLine) → drive_line bounds line ≡ Ok asked → IsAsked bounds.horizon asked
 drive-from bounds line asked e =
     let h = then-from (drive_head bounds.horizon (drop 1 line.words)) _ asked e in
     let n = then-from (numbers_of h.0.1) _ asked h.2 in
@@ -70,7 +70,7 @@ drive-from bounds line asked e =
     let same : t.0 ≡ h.0.0 = ap (λ (x : ℕ × List ℕ). x.0) (same-ok (t.0, (word_at w.0 1)) h.0 t.2) in
     subst (IsAsked bounds.horizon) (same-ok (asks.Drive h.0.0 n.0 c.0) asked c.2) (subst (λ (k : ℕ). k ≤ bounds.horizon) same time.1, numbers-some h.0.1 n.0 n.1)
 
-asked-from : (bounds : Bounds) (line : LineText) (asked : Asked) → asked_of bounds line ≡ Ok asked → IsAsked bounds.horizon asked
+asked-from : (bounds : Bounds) (line : LineText) (asked : AskedLine) → asked_of bounds line ≡ Ok asked → IsAsked bounds.horizon asked
 asked-from bounds line asked e =
     let k = then-from (line_key line) (keyed bounds line) asked e in
     by k.0 k.2
@@ -154,16 +154,16 @@ drive-called board signals t0 numbers cmd line asked e =
       (subst (λ (s : SubText). is_output s.kind ≡ true) (sym f.there) f.directed, asked.1, few, codes),
     )
 
-line-called : (board : BoardText) (signals : SignalsText) (asked : Asked) (line : RunLine) → IsAsked signals.horizon asked → line_of board asked ≡ Ok line → IsCalled board signals line
+line-called : (board : BoardText) (signals : SignalsText) (asked : AskedLine) (line : RunLine) → IsAsked signals.horizon asked → line_of board asked ≡ Ok line → IsCalled board signals line
 line-called board signals (asks.Go mode access t0 most cmd) line asked e = go-called board signals mode access t0 most cmd line asked e
 line-called board signals (asks.Drive t0 numbers cmd) line asked e = drive-called board signals t0 numbers cmd line asked e
 
 -- what a session takes
-pub record IsTaken (session : Session) (board : BoardText) (asked : Asked) (line : RunLine) : Type 0 where
+pub record IsTaken (session : Session) (board : BoardText) (asked : AskedLine) (line : RunLine) : Type 0 where
   pub takes : takes session board asked ≡ true
   pub said : line_of board asked ≡ Ok line
 
-pub taken-from : (session : Session) (board : BoardText) (asked : Asked) (line : RunLine) → taken_line session board asked ≡ Ok line → IsTaken session board asked line
+pub taken-from : (session : Session) (board : BoardText) (asked : AskedLine) (line : RunLine) → taken_line session board asked ≡ Ok line → IsTaken session board asked line
 taken-from session board asked line e = by (takes session board asked) refl e
   where
     by : (b : Bool) → takes session board asked ≡ b → (if b then line_of board asked else Err Bad) ≡ Ok line → IsTaken session board asked line

@@ -23,11 +23,11 @@ use Rattle.cm_job.specs.LoopForms.{after_loop, asked_of, loop_head}
 use Rattle.cm_job.specs.LoopJob.{IsCalled, IsLoopJob}
 use Rattle.cm_job.specs.Later.{are_later}
 use Rattle.cm_job.specs.LoopPart.{called_of, input_at, is_matched, is_short, job_of, loop_line, output_at, ruled}
-use Rattle.cm_job.specs.declared.loop_asked.Asked.{Asked}
+use Rattle.cm_job.specs.declared.loop_asked.AskedLoop.{AskedLoop}
 use Rattle.cm_job.specs.declared.loop_line.LoopLine.{LoopLine}
 
 -- the times and the window are within their limits
-pub record IsAsked (horizon : ℕ) (a : Asked) : Type 0 where
+pub record IsAsked (horizon : ℕ) (a : AskedLoop) : Type 0 where
   pub t_in : a.t_in ≤ horizon
   pub t_out : a.t_out ≤ horizon
   pub window : (1 ≤ a.window) × (a.window ≤ 16)
@@ -48,19 +48,19 @@ head-from horizon line h e =
     let window = number-from 1 16 (word_at w.0 2) n.0 n.1 in
     subst (IsHead horizon) (same-ok (i.0, o.0, n.0) h n.2) (t_in.1, t_out.1, window.0, window.1)
 
-pub asked-from : (bounds : Bounds) (line : LineText) (a : Asked) → asked_of bounds line ≡ Ok a → IsAsked bounds.horizon a
+pub asked-from : (bounds : Bounds) (line : LineText) (a : AskedLoop) → asked_of bounds line ≡ Ok a → IsAsked bounds.horizon a
 unfolding IsHead
 asked-from bounds line a e =
     let h = then-from (loop_head bounds.horizon line) _ a e in
     let i = then-from (command_of (most_entries bounds.version) (take 8 (drop 4 line.words))) _ a h.2 in
     let o = then-from (command_of (most_entries bounds.version) (drop 12 line.words)) _ a i.2 in
     let head = head-from bounds.horizon line h.0 h.1 in
-    let made : Asked = record { t_in = h.0.0; t_out = h.0.1; window = h.0.2; input = i.0; output = o.0 } in
+    let made : AskedLoop = record { t_in = h.0.0; t_out = h.0.1; window = h.0.2; input = i.0; output = o.0 } in
     let is : IsAsked bounds.horizon made = record { t_in = head.0; t_out = head.1; window = (head.2, head.3) } in
     subst (IsAsked bounds.horizon) (same-ok made a o.2) is
 
 -- both commands of a line can be called
-pub record AreCalled (board : BoardText) (signals : SignalsText) (a : Asked) (line : LoopLine) : Type 0 where
+pub record AreCalled (board : BoardText) (signals : SignalsText) (a : AskedLoop) (line : LoopLine) : Type 0 where
   pub input : IsCalled board signals false line.t_in line.input
   pub output : IsCalled board signals true line.t_out line.output
   pub window : a.window ≡ line.window
@@ -70,7 +70,7 @@ call-from board signals out t0 cmd next time e =
     let f = accepted-from board out cmd next e in
     subst (IsCalled board signals out t0) f.same (record { within = f.within; directed = f.directed; passes = f.passes; time = time })
 
-pub called-from : (board : BoardText) (signals : SignalsText) (a : Asked) (line : LoopLine) → a.t_in ≤ signals.horizon → a.t_out ≤ signals.horizon → called_of board a ≡ Ok line → AreCalled board signals a line
+pub called-from : (board : BoardText) (signals : SignalsText) (a : AskedLoop) (line : LoopLine) → a.t_in ≤ signals.horizon → a.t_out ≤ signals.horizon → called_of board a ≡ Ok line → AreCalled board signals a line
 called-from board signals a line t_in t_out e =
     let i = then-from (accepted board false a.input) _ line e in
     let o = then-from (accepted board true a.output) _ line i.2 in

@@ -16,7 +16,7 @@ use Rattle.cm_signal.specs.declared.bounds.Bounds.{Bounds}
 use Rattle.cm_test.specs.Accepting.{passed}
 use Rattle.cm_job.specs.Forms.{asked_of}
 use Rattle.cm_job.specs.RunPart.{directed_sub, drive_of, next_line, taken_line, values_of}
-use Rattle.cm_job.specs.declared.asked.Asked.{Asked}
+use Rattle.cm_job.specs.declared.asked.AskedLine.{AskedLine}
 use Rattle.cm_job.specs.declared.asked.Session.{Session}
 use Rattle.cm_job.specs.declared.line.RunLine.TheVariants.{Drive}
 use Rattle.cm_job.proofs.Steps.{then-reads, then-stops}
@@ -28,21 +28,21 @@ next-stops session board h bounds count number line stop same e =
     (subst (λ (k : Bounds). Stops stop (at_line number (asked_of k line))) same e)
 
 -- the line where its words are read
-next-by : (session : Session) (board : BoardText) (h bounds : Bounds) (count number : ℕ) (line : LineText) (asked : Asked) → h ≡ bounds → at_line number (asked_of h line) ≡ Ok asked →
+next-by : (session : Session) (board : BoardText) (h bounds : Bounds) (count number : ℕ) (line : LineText) (asked : AskedLine) → h ≡ bounds → at_line number (asked_of h line) ≡ Ok asked →
     at_line number (next_line session board bounds count line) ≡ at_line number (limited (nat_lt count 16) asked >>= λ asked. taken_line session board asked)
 next-by session board h bounds count number line asked same e =
     then-reads number (asked_of bounds line) (λ asked. limited (nat_lt count 16) asked >>= λ asked. taken_line session board asked) asked
     (subst (λ (k : Bounds). at_line number (asked_of k line) ≡ Ok asked) same e)
 
 -- a line that is one too many
-pub next-full : (session : Session) (board : BoardText) (h bounds : Bounds) (count number : ℕ) (line : LineText) (asked : Asked) (stop : ReadStop) → h ≡ bounds → at_line number (asked_of h line) ≡ Ok asked → 16 ≤ count →
+pub next-full : (session : Session) (board : BoardText) (h bounds : Bounds) (count number : ℕ) (line : LineText) (asked : AskedLine) (stop : ReadStop) → h ≡ bounds → at_line number (asked_of h line) ≡ Ok asked → 16 ≤ count →
     stop ≡ stops.Refused (record { line = number; cause = Limit }) → Stops stop (at_line number (next_line session board bounds count line))
 next-full session board h bounds count number line asked stop same e full is =
     let refused = next-by session board h bounds count number line asked same e ∙ ap (λ (b : Bool). at_line number (limited b asked >>= λ asked. taken_line session board asked)) (le-ltb count 16 full) in
     subst (λ (s : ReadStop). Stops s (at_line number (next_line session board bounds count line))) (sym is) refused
 
 -- and one that isn't
-pub next-there : (session : Session) (board : BoardText) (h bounds : Bounds) (count number : ℕ) (line : LineText) (asked : Asked) → h ≡ bounds → at_line number (asked_of h line) ≡ Ok asked → count < 16 →
+pub next-there : (session : Session) (board : BoardText) (h bounds : Bounds) (count number : ℕ) (line : LineText) (asked : AskedLine) → h ≡ bounds → at_line number (asked_of h line) ≡ Ok asked → count < 16 →
     at_line number (next_line session board bounds count line) ≡ at_line number (taken_line session board asked)
 next-there session board h bounds count number line asked same e few =
     next-by session board h bounds count number line asked same e ∙ ap (λ (b : Bool). at_line number (limited b asked >>= λ asked. taken_line session board asked)) (lt-ltb count 16 few)

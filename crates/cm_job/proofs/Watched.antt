@@ -25,8 +25,8 @@ use Rattle.cm_job.specs.RunLines.{AreRunLines}
 use Rattle.cm_job.specs.RunPart.{accepted, line_after, line_of, next_line, taken_line, watch_of}
 use Rattle.cm_job.specs.Sessions.{holds_scan, is_paced, is_watched}
 use Rattle.cm_job.specs.WatchLines.{AreWatchLines, IsWatched}
-use Rattle.cm_job.specs.declared.asked.Asked.{Asked}
-use Rattle.cm_job.specs.declared.asked.Asked.TheVariants as asks
+use Rattle.cm_job.specs.declared.asked.AskedLine.{AskedLine}
+use Rattle.cm_job.specs.declared.asked.AskedLine.TheVariants as asks
 use Rattle.cm_job.specs.declared.asked.Session.TheVariants as sessions
 use Rattle.cm_job.specs.declared.line.Access.{Access}
 use Rattle.cm_job.specs.declared.line.Mode.{Mode}
@@ -80,7 +80,7 @@ go-watched board mode access t0 most cmd line takes e =
       leb-true (length cmd.list) (sub_at board cmd.sub).buffer held.1,
     )
 
-asked-watched : (board : BoardText) (asked : Asked) (line : RunLine) → is_watched board asked ≡ true → line_of board asked ≡ Ok line → IsWatched board line
+asked-watched : (board : BoardText) (asked : AskedLine) (line : RunLine) → is_watched board asked ≡ true → line_of board asked ≡ Ok line → IsWatched board line
 asked-watched board (asks.Go mode access t0 most cmd) line takes e = go-watched board mode access t0 most cmd line takes e
 asked-watched board (asks.Drive t0 numbers cmd) line takes e = absurd (cc)
 

@@ -13,8 +13,8 @@ use Rattle.cm_cmd.specs.CommandText.{command_of}
 use Rattle.cm_cmd.specs.ListText.{is_byte}
 use Rattle.cm_signal.specs.declared.bounds.Bounds.{Bounds}
 use Rattle.cm_job.specs.Head.{before_commands, word_at}
-use Rattle.cm_job.specs.declared.asked.Asked.{Asked}
-use Rattle.cm_job.specs.declared.asked.Asked.TheVariants as asks
+use Rattle.cm_job.specs.declared.asked.AskedLine.{AskedLine}
+use Rattle.cm_job.specs.declared.asked.AskedLine.TheVariants as asks
 use Rattle.cm_job.specs.declared.asked.Key.{Key}
 use Rattle.cm_job.specs.declared.asked.Key.TheVariants as keys
 use Rattle.cm_job.specs.declared.line.Access.{Access}
@@ -23,7 +23,7 @@ use Rattle.cm_job.specs.declared.line.Mode.{Mode}
 use Rattle.cm_job.specs.declared.line.Mode.TheVariants as modes
 
 -- the command that is asked for
-abbrev pub asked_cmd : Asked → CmdText
+abbrev pub asked_cmd : AskedLine → CmdText
 asked_cmd (asks.Go mode access t0 most cmd) = cmd
 asked_cmd (asks.Drive t0 numbers cmd) = cmd
 
@@ -54,7 +54,7 @@ go_head horizon words =
     Ok (mode, access, t0, most)
 
 -- `go MODE READER CALL TAKE COMMAND`
-abbrev pub go_line : Bounds → LineText → Result Asked Fault
+abbrev pub go_line : Bounds → LineText → Result AskedLine Fault
 go_line bounds line =
     go_head bounds.horizon (drop 1 line.words) >>= λ h.
     command_of (most_entries bounds.version) (drop 5 line.words) >>= λ cmd.
@@ -66,7 +66,7 @@ drive_head horizon words =
     before_commands 2 8 words >>= λ w. number_in 0 horizon (word_at w 0) >>= λ t0. Ok (t0, word_at w 1)
 
 -- `drive CALL VALUES COMMAND`
-abbrev pub drive_line : Bounds → LineText → Result Asked Fault
+abbrev pub drive_line : Bounds → LineText → Result AskedLine Fault
 drive_line bounds line =
     drive_head bounds.horizon (drop 1 line.words) >>= λ h.
     numbers_of h.1 >>= λ numbers.
@@ -87,10 +87,10 @@ abbrev pub line_key : LineText → Result Key Fault
 line_key line = if line.bad then Err BadLine else key_of line.words
 
 -- a line of this form
-abbrev pub keyed : Bounds → LineText → Key → Result Asked Fault
+abbrev pub keyed : Bounds → LineText → Key → Result AskedLine Fault
 keyed bounds line keys.Go = go_line bounds line
 keyed bounds line keys.Drive = drive_line bounds line
 
 -- what the words of a line ask
-abbrev pub asked_of : Bounds → LineText → Result Asked Fault
+abbrev pub asked_of : Bounds → LineText → Result AskedLine Fault
 asked_of bounds line = line_key line >>= λ key. keyed bounds line key

@@ -8,7 +8,7 @@ use Rattle.cm_board.specs.Versions.{most_entries}
 use Rattle.cm_cmd.specs.CommandText.{command_of}
 use Rattle.cm_signal.specs.declared.bounds.Bounds.{Bounds}
 use Rattle.cm_job.specs.Head.{before_commands, only_word, word_at}
-use Rattle.cm_job.specs.declared.loop_asked.Asked.{Asked}
+use Rattle.cm_job.specs.declared.loop_asked.AskedLoop.{AskedLoop}
 
 -- the words after the one word that may begin the line
 abbrev pub after_loop : LineText → Result (List (List ℕ)) Fault
@@ -26,7 +26,7 @@ loop_head horizon line =
     Ok (t_in, t_out, window)
 
 -- what the words of a line ask
-abbrev pub asked_of : Bounds → LineText → Result Asked Fault
+abbrev pub asked_of : Bounds → LineText → Result AskedLoop Fault
 asked_of bounds line =
     loop_head bounds.horizon line >>= λ h.
     command_of (most_entries bounds.version) (take 8 (drop 4 line.words)) >>= λ input.

@@ -18,7 +18,7 @@ use Rattle.cm_job.specs.RunPart.{accepted}
 use Rattle.cm_job.specs.LoopForms.{asked_of}
 use Rattle.cm_job.specs.Later.{are_later}
 use Rattle.cm_job.specs.LoopJob.{LoopJobText}
-use Rattle.cm_job.specs.declared.loop_asked.Asked.{Asked}
+use Rattle.cm_job.specs.declared.loop_asked.AskedLoop.{AskedLoop}
 use Rattle.cm_job.specs.declared.loop_line.LoopLine.{LoopLine}
 
 -- the plan of a line's input command
@@ -47,13 +47,13 @@ ruled board signals line =
     else Err Bad))
 
 -- the line that asks for two commands, of an input and of an output, which their subdevices accept
-abbrev pub called_of : BoardText → Asked → Result LoopLine Fault
+abbrev pub called_of : BoardText → AskedLoop → Result LoopLine Fault
 called_of board a =
     accepted board false a.input >>= λ input. accepted board true a.output >>= λ output.
     Ok (record { t_in = a.t_in; t_out = a.t_out; window = a.window; input = input; output = output })
 
 -- such a line, where it keeps the rules
-abbrev pub line_of : BoardText → SignalsText → Asked → Result LoopLine Fault
+abbrev pub line_of : BoardText → SignalsText → AskedLoop → Result LoopLine Fault
 line_of board signals a = called_of board a >>= λ line. ruled board signals line
 
 -- the line that a text says

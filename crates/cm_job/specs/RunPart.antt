@@ -18,8 +18,8 @@ use Rattle.cm_expand.specs.Totals.{has_room, length_of, length_of_all}
 use Rattle.cm_expand.specs.Rule.{entry_at}
 use Rattle.cm_job.specs.Forms.{asked_of}
 use Rattle.cm_job.specs.Sessions.{takes}
-use Rattle.cm_job.specs.declared.asked.Asked.{Asked}
-use Rattle.cm_job.specs.declared.asked.Asked.TheVariants as asks
+use Rattle.cm_job.specs.declared.asked.AskedLine.{AskedLine}
+use Rattle.cm_job.specs.declared.asked.AskedLine.TheVariants as asks
 use Rattle.cm_job.specs.declared.asked.Session.{Session}
 use Rattle.cm_job.specs.declared.asked.Session.TheVariants as sessions
 use Rattle.cm_job.specs.declared.line.RunLine.{RunLine}
@@ -70,12 +70,12 @@ drive_of board t0 numbers cmd =
     Ok (Drive t0 values cmd)
 
 -- a line that asks for a command which its subdevice accepts: an input's for `go`, an output's for `drive`
-abbrev pub line_of : BoardText → Asked → Result RunLine Fault
+abbrev pub line_of : BoardText → AskedLine → Result RunLine Fault
 line_of board (asks.Go mode access t0 most cmd) = accepted board false cmd >>= λ cmd. Ok (Go mode access t0 most cmd)
 line_of board (asks.Drive t0 numbers cmd) = drive_of board t0 numbers cmd
 
 -- such a line, where the session takes what it asks
-abbrev pub taken_line : Session → BoardText → Asked → Result RunLine Fault
+abbrev pub taken_line : Session → BoardText → AskedLine → Result RunLine Fault
 taken_line session board asked = if takes session board asked then line_of board asked else Err Bad
 
 -- the line that a text says after so many others, of which there may be 16

@@ -10,7 +10,7 @@ ghost use Rattle.cm_job.specs.Forms.{asked_cmd};
 ghost use Rattle.cm_job.specs.RunPart as spec;
 ghost use Rattle.cm_job.specs.Sessions as sessions;
 
-use crate::asked::{Asked, Session};
+use crate::asked::{AskedLine, Session};
 use crate::line::{Mode, RunLine};
 use cm_base::faults::{Fault, ReadStop};
 use cm_base::lists::{Nums, Times};
@@ -34,7 +34,7 @@ pub(crate) fn take_line(
     session: Session,
     board: &BoardDesc,
     number: u32,
-    asked: Asked,
+    asked: AskedLine,
 ) -> Result<RunLine, ReadStop>
     requires { length (asked_cmd asked).list ≤ 1024 }
     ensures { Gives (λ line. line) result (at_line number (spec.taken_line session board.now asked)) }
@@ -47,7 +47,7 @@ pub(crate) fn take_line(
 }
 
 // Whether a session takes what a line asks.
-fn takes(session: Session, board: &BoardDesc, asked: &Asked) -> bool
+fn takes(session: Session, board: &BoardDesc, asked: &AskedLine) -> bool
     ensures { result ≡ sessions.takes session board.now asked.now }
 {
     match session {
@@ -57,17 +57,17 @@ fn takes(session: Session, board: &BoardDesc, asked: &Asked) -> bool
 }
 
 // Whether a line is a paced one that takes all samples, in whole scans.
-fn is_watched(board: &BoardDesc, asked: &Asked) -> bool
+fn is_watched(board: &BoardDesc, asked: &AskedLine) -> bool
     ensures { result ≡ sessions.is_watched board.now asked.now }
 {
     match asked {
-        Asked::Go {
+        AskedLine::Go {
             mode,
             take,
             cmd,
             ..
         } => *mode == Mode::Paced && take.is_none() && holds_scan(board, cmd),
-        Asked::Drive { .. } => false,
+        AskedLine::Drive { .. } => false,
     }
 }
 
@@ -90,13 +90,13 @@ fn accept_line(
     alloc: Global,
     board: &BoardDesc,
     number: u32,
-    asked: Asked,
+    asked: AskedLine,
 ) -> Result<RunLine, ReadStop>
     requires { length (asked_cmd asked).list ≤ 1024 }
     ensures { Gives (λ line. line) result (at_line number (spec.line_of board.now asked)) }
 {
     match asked {
-        Asked::Go {
+        AskedLine::Go {
             mode,
             access,
             t0,
@@ -112,7 +112,7 @@ fn accept_line(
                 cmd,
             })
         }
-        Asked::Drive { t0, numbers, cmd } => {
+        AskedLine::Drive { t0, numbers, cmd } => {
             accept_drive(alloc, board, number, t0, &numbers, cmd)
         }
     }

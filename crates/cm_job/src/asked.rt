@@ -26,7 +26,7 @@ const ANY_NUMBER: u64 = 999_999_999_999_999_999;
 
 /// What the words of a line ask.
 #[derive(Drop)]
-pub enum Asked {
+pub enum AskedLine {
     Go {
         mode: Mode,
         access: Access,
@@ -59,7 +59,11 @@ pub enum Key {
 }
 
 /// What the words of a line ask, or the first fault of them from left to right.
-pub(crate) fn read_asked(alloc: Global, bounds: Bounds, line: &Line<'_>) -> Result<Asked, ReadStop>
+pub(crate) fn read_asked(
+    alloc: Global,
+    bounds: Bounds,
+    line: &Line<'_>,
+) -> Result<AskedLine, ReadStop>
     ensures value { Gives (λ asked. asked) result (at_line line.now.number (spec.asked_of bounds (line_view line.now))) }
     ensures few { IfOk result (λ asked. length (spec.asked_cmd asked).list ≤ 1024) }
 {
@@ -96,7 +100,7 @@ fn key_of(word: &[u8]) -> Result<Key, Fault>
 }
 
 // What `go MODE READER CALL TAKE COMMAND` asks.
-fn read_go(alloc: Global, bounds: Bounds, line: &Line<'_>) -> Result<Asked, ReadStop>
+fn read_go(alloc: Global, bounds: Bounds, line: &Line<'_>) -> Result<AskedLine, ReadStop>
     ensures value { Gives (λ asked. asked) result (at_line line.now.number (spec.go_line bounds (line_view line.now))) }
     ensures few { IfOk result (λ asked. length (spec.asked_cmd asked).list ≤ 1024) }
 {
@@ -105,7 +109,7 @@ fn read_go(alloc: Global, bounds: Bounds, line: &Line<'_>) -> Result<Asked, Read
         go_head(bounds.horizon, after_key(line.words.as_slice())),
     )?;
     let cmd = read_command(alloc, bounds.version, line, 5)?;
-    Ok(Asked::Go {
+    Ok(AskedLine::Go {
         mode,
         access,
         t0,
@@ -164,7 +168,7 @@ fn take_of(word: &[u8]) -> Result<Option<u64>, Fault>
 }
 
 // What `drive CALL VALUES COMMAND` asks.
-fn read_drive(alloc: Global, bounds: Bounds, line: &Line<'_>) -> Result<Asked, ReadStop>
+fn read_drive(alloc: Global, bounds: Bounds, line: &Line<'_>) -> Result<AskedLine, ReadStop>
     ensures value { Gives (λ asked. asked) result (at_line line.now.number (spec.drive_line bounds (line_view line.now))) }
     ensures few { IfOk result (λ asked. length (spec.asked_cmd asked).list ≤ 1024) }
 {
@@ -174,7 +178,7 @@ fn read_drive(alloc: Global, bounds: Bounds, line: &Line<'_>) -> Result<Asked, R
     )?;
     let numbers = read_numbers(alloc, line.number, values)?;
     let cmd = read_command(alloc, bounds.version, line, 3)?;
-    Ok(Asked::Drive { t0, numbers, cmd })
+    Ok(AskedLine::Drive { t0, numbers, cmd })
 }
 
 // The time and the word of the values of a `drive` line.

@@ -8,7 +8,7 @@ ghost use Rattle.cm_job.specs.LoopPart as spec;
 
 use crate::accepting::accepted;
 use crate::ahead::{MOST, is_ahead};
-use crate::loop_asked::Asked;
+use crate::loop_asked::AskedLoop;
 use crate::loop_line::LoopLine;
 use cm_base::faults::Fault;
 use cm_board::board::BoardDesc;
@@ -24,7 +24,7 @@ use cm_signal::signals::Signals;
 pub(crate) fn accept_loop(
     board: &BoardDesc,
     signals: &Signals,
-    asked: Asked,
+    asked: AskedLoop,
 ) -> Result<LoopLine, Fault>
     requires input { length asked.input.list ≤ 1024 }
     requires output { length asked.output.list ≤ 1024 }
@@ -38,12 +38,12 @@ pub(crate) fn accept_loop(
 }
 
 // The line, where the subdevices accept both commands.
-fn accept_both(board: &BoardDesc, asked: Asked) -> Result<LoopLine, Fault>
+fn accept_both(board: &BoardDesc, asked: AskedLoop) -> Result<LoopLine, Fault>
     requires input { length asked.input.list ≤ 1024 }
     requires output { length asked.output.list ≤ 1024 }
     ensures { result ≡ spec.called_of board.now asked }
 {
-    let Asked {
+    let AskedLoop {
         t_in,
         t_out,
         window,

@@ -29,7 +29,7 @@ const OUTPUT_AT: usize = INPUT_AT + COMMAND;
 
 /// What the words of a line ask.
 #[derive(Drop)]
-pub struct Asked {
+pub struct AskedLoop {
     pub t_in: u64,
     pub t_out: u64,
     pub window: u32,
@@ -43,7 +43,7 @@ pub(crate) fn read_asked(
     board: &BoardDesc,
     signals: &Signals,
     line: &Line<'_>,
-) -> Result<Asked, ReadStop>
+) -> Result<AskedLoop, ReadStop>
     ensures value { Gives (λ asked. asked) result (at_line line.now.number (spec.asked_of (bounds_of board.now signals.now) (line_view line.now))) }
     ensures input { IfOk result (λ asked. length asked.input.list ≤ 1024) }
     ensures output { IfOk result (λ asked. length asked.output.list ≤ 1024) }
@@ -52,7 +52,7 @@ pub(crate) fn read_asked(
 }
 
 // What the words of a line ask within these bounds.
-fn read_words(alloc: Global, bounds: Bounds, line: &Line<'_>) -> Result<Asked, ReadStop>
+fn read_words(alloc: Global, bounds: Bounds, line: &Line<'_>) -> Result<AskedLoop, ReadStop>
     ensures value { Gives (λ asked. asked) result (at_line line.now.number (spec.asked_of bounds (line_view line.now))) }
     ensures input { IfOk result (λ asked. length asked.input.list ≤ 1024) }
     ensures output { IfOk result (λ asked. length asked.output.list ≤ 1024) }
@@ -60,7 +60,7 @@ fn read_words(alloc: Global, bounds: Bounds, line: &Line<'_>) -> Result<Asked, R
     let (t_in, t_out, window) = at_line(line.number, loop_head(bounds.horizon, line))?;
     let input = read_input(alloc, bounds.version, line)?;
     let output = read_command(alloc, bounds.version, line, OUTPUT_AT)?;
-    Ok(Asked {
+    Ok(AskedLoop {
         t_in,
         t_out,
         window,

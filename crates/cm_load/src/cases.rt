@@ -15,7 +15,7 @@ use std::time::Instant;
 
 /// What is asked of a run.
 #[derive(Clone, Copy, Drop)]
-pub struct Asked {
+pub struct Load {
     /// How many samples go through the rings: a tenth of them through one of 64 cells, and a
     /// thousandth through one of fewer.
     pub samples: u32,
@@ -32,7 +32,7 @@ const BASES: [u32; 3] = [0, 4_294_967_290, 4_294_967_295];
 pub fn run_round<R: Threads + Wait + Sync + Print + Clock>(
     rt: &R,
     alloc: Global,
-    asked: Asked,
+    asked: Load,
 ) -> io::Result<bool> {
     // A ring of few cells costs a change of threads each time that it is full.
     let few = (asked.samples / 1000).max(1);
@@ -50,7 +50,7 @@ pub fn run_round<R: Threads + Wait + Sync + Print + Clock>(
 fn run_size<R: Threads + Wait + Sync + Print + Clock>(
     rt: &R,
     alloc: Global,
-    asked: Asked,
+    asked: Load,
     size: u32,
     samples: u32,
 ) -> io::Result<bool>
@@ -76,7 +76,7 @@ fn run_size<R: Threads + Wait + Sync + Print + Clock>(
 fn run_four<R: Threads + Wait + Sync + Print + Clock>(
     rt: &R,
     alloc: Global,
-    asked: Asked,
+    asked: Load,
 ) -> io::Result<bool> {
     let places = Stretch {
         first: 0,
@@ -100,7 +100,7 @@ fn moved(came: Result<Came, NoMemory>) -> io::Result<Came> {
 // Prints what came of so many samples, and says whether all of them came in order.
 fn report<R: Print + Clock>(
     rt: &R,
-    asked: Asked,
+    asked: Load,
     samples: u32,
     came: Came,
     start: Instant,

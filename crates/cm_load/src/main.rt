@@ -7,7 +7,7 @@ mod moving;
 mod reading;
 mod words;
 
-use cases::{Asked, run_round};
+use cases::{Load, run_round};
 use std::process::ExitCode;
 use std::{env, io};
 
@@ -18,7 +18,7 @@ const USAGE: u8 = 2;
 const LOST: u8 = 3;
 
 // What is asked by the words after the program's name, or the words are wrong.
-fn asked_by(words: &[String]) -> Option<Asked> {
+fn asked_by(words: &[String]) -> Option<Load> {
     let samples = match words.first() {
         None => 100_000,
         Some(word) => word.parse::<u32>().ok()?,
@@ -35,7 +35,7 @@ fn asked_by(words: &[String]) -> Option<Asked> {
     if words.len() > 3 {
         return None;
     }
-    Some(Asked {
+    Some(Load {
         samples,
         rounds,
         times,

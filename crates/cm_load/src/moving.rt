@@ -5,7 +5,7 @@ ghost use Rattle.cm_load.specs.Coming.{IsFresh, HasCome};
 ghost use Rattle.cm_board.specs.declared.munge.Munge.TheVariants.{Offset};
 ghost use Rattle.cm_sample.specs.Rule.{IsRule, rule_text};
 
-use crate::reading::{Came, read_all};
+use crate::reading::{Came, compare_all};
 use crate::words::Stretch;
 use cm_base::transfer::NoMemory;
 use cm_board::board::Munge;
@@ -110,7 +110,7 @@ fn read_beside<R: Threads + Wait + Sync, P: Planned + Send + Sync>(
         move || -> Came
             requires { IsFresh reader }
             ensures { HasCome reader.ring result }
-        { read_all(rt, reader, first, maxdata) },
+        { compare_all(rt, reader, first, maxdata) },
     );
     came
 }

@@ -77,7 +77,7 @@ fn read_piece<P: Planned>(reader: &mut Reader<P>, came: &mut Came, first: u32, m
 
 /// Reads to the end, and compares each sample with that of its place: the first one is that of the
 /// place `first`.
-pub fn read_all<R: Wait + Sync, P: Planned>(
+pub fn compare_all<R: Wait + Sync, P: Planned>(
     rt: &R,
     mut reader: Reader<P>,
     first: u32,

@@ -10,7 +10,7 @@ ghost use Rattle.cm_page.specs.Page.{Answered, command_at};
 use cm_base::memory::{MemSink, MemSource};
 use cm_base::transfer::NoMemory;
 use cm_cli::answer::answer;
-use cm_cli::status::{Status, number_of};
+use cm_cli::status::{Status, exit_status};
 use std::alloc::Global;
 
 /// Does the command with this number with a job, puts the answer at the start of `out`, and gives the program's exit
@@ -29,7 +29,7 @@ pub extern "C" fn answer_of(
 {
     let (status, len) = put_answer(alloc, command, job, out);
     *count = len as u64;
-    number_of(status) as u32
+    exit_status(status) as u32
 }
 
 // Puts the answer into `out`, and gives the status and the number of bytes. A sink takes no more than it has room for,

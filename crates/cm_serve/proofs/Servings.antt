@@ -18,7 +18,7 @@ use Rattle.cm_serve.specs.Served.{Declines, Holds, IsCutShort, IsHeld, IsNearlyH
 use Rattle.cm_serve.specs.Serving.{conversation, follows, setting_of, setting_said}
 use Rattle.cm_serve.specs.Stops.{read_stop, too_long}
 use Rattle.cm_serve.specs.Turns.{Turn, Answer, Line, Says}
-use Rattle.cm_serve.specs.declared.heading.Head.{Head}
+use Rattle.cm_serve.specs.declared.heading.DialogueHead.{DialogueHead}
 use Rattle.cm_serve.specs.declared.serving.Served.{Served}
 use Rattle.cm_serve.specs.declared.serving.Served.TheVariants as served
 use Rattle.cm_serve.specs.declared.stop.ServeStop.{ServeStop}
@@ -68,7 +68,7 @@ after_lines ahead left lines true came ends = ((others left).0, came-ahead ahead
 after_lines ahead left lines false came ends = ([], subst (λ (ls : List (List ℕ)). AreAhead ls ahead) (sym (append-nil lines)) (ends refl), λ f. refl)
 
 -- and after it
-cut_after : (ahead left : Option (List (List ℕ))) (old new : Option (List Turn)) (text : List ℕ) (head : Head) → HasHead (Ok head) ahead left old new text → IsCutShort ahead old new
+cut_after : (ahead left : Option (List (List ℕ))) (old new : Option (List Turn)) (text : List ℕ) (head : DialogueHead) → HasHead (Ok head) ahead left old new text → IsCutShort ahead old new
 cut_after ahead left old new text head h =
     let after = after_lines ahead left h.lines head.goes_on h.came h.ends in
     cut_head NoMemory ahead old new text
@@ -107,7 +107,7 @@ whole_head true lines more f none = head-follows lines more f
 whole_head false lines more f none = ap (λ (rest : List (List ℕ)). head_of (lines ++ rest)) (none refl) ∙ ap head_of (append-nil lines) ∙ later-head lines f
 
 -- the head's text is refused
-pub head-refused : (ahead left : Option (List (List ℕ))) (old new : Option (List Turn)) (text same : List ℕ) (head : Head) (r : Result (Unit {0}) ServeStop) (stop : ReadStop) → IsErrAnd r (λ e. e ≡ read_stop stop) → same ≡ text →
+pub head-refused : (ahead left : Option (List (List ℕ))) (old new : Option (List Turn)) (text same : List ℕ) (head : DialogueHead) (r : Result (Unit {0}) ServeStop) (stop : ReadStop) → IsErrAnd r (λ e. e ≡ read_stop stop) → same ≡ text →
     Stops stop (setting_of same) → HasHead (Ok head) ahead left old new text → Holds r ahead old new
 head-refused ahead left old new text same head (Ok done) stop e s refused h = absurd e
 head-refused ahead left old new text same head (Err other) stop e s refused h = subst (λ (s : ServeStop). Holds (Err s) ahead old new) (sym e) (by stop refused)
@@ -140,7 +140,7 @@ setting_is : (text same : List ℕ) (lines : List (List ℕ)) (s : Setting) → 
 setting_is text same lines s e is t = ap setting_of (sym t ∙ sym e) ∙ is
 
 -- the input ended before the session
-pub head-alone : (ahead left : Option (List (List ℕ))) (old new : Option (List Turn)) (text same : List ℕ) (head : Head) (s : Setting) → head.goes_on ≡ false → same ≡ text → setting_of same ≡ Ok s → HasHead (Ok head) ahead left old new text →
+pub head-alone : (ahead left : Option (List (List ℕ))) (old new : Option (List Turn)) (text same : List ℕ) (head : DialogueHead) (s : Setting) → head.goes_on ≡ false → same ≡ text → setting_of same ≡ Ok s → HasHead (Ok head) ahead left old new text →
     IsHeld ahead old new
 head-alone ahead left old new text same head s ends e is h = (
   h.lines,
@@ -176,7 +176,7 @@ whole_session lines more s first count f is n k =
     ∙ ap (λ (m : ℕ). map Line lines ++ dialogue (first_play s) m more) (sym (n ∙ ap (λ (m : ℕ). m + 1) k))
 
 -- the session was held to its end
-pub session-held : (ahead left : Option (List (List ℕ))) (old now new : Option (List Turn)) (text same : List ℕ) (head : Head) (s : Setting) (first : ℕ) → head.goes_on ≡ true → same ≡ text → setting_of same ≡ Ok s → first ≡ head.count + 1 →
+pub session-held : (ahead left : Option (List (List ℕ))) (old now new : Option (List Turn)) (text same : List ℕ) (head : DialogueHead) (s : Setting) (first : ℕ) → head.goes_on ≡ true → same ≡ text → setting_of same ≡ Ok s → first ≡ head.count + 1 →
     HasHead (Ok head) ahead left old now text → Converses (Ok tt) left now new (first_play s) first → IsHeld ahead old new
 session-held ahead left old now new text same head s first goes e is n h held =
     let lines : List (List ℕ) = h.lines in
@@ -200,7 +200,7 @@ dialogue_first p first (line ∷ heard) more =
     (further.0, ap (λ (turns : List Turn). Line line ∷ Answer (reply p first line).text ∷ turns) further.1)
 
 -- or it was cut short
-pub session-cut : (ahead left : Option (List (List ℕ))) (old now new : Option (List Turn)) (text same : List ℕ) (head : Head) (s : Setting) (first : ℕ) (r : Result (Unit {0}) ServeStop) (stop : TalkStop) → IsErrAnd r (λ e. e ≡ serves.Cut stop) →
+pub session-cut : (ahead left : Option (List (List ℕ))) (old now new : Option (List Turn)) (text same : List ℕ) (head : DialogueHead) (s : Setting) (first : ℕ) (r : Result (Unit {0}) ServeStop) (stop : TalkStop) → IsErrAnd r (λ e. e ≡ serves.Cut stop) →
     head.goes_on ≡ true → same ≡ text → setting_of same ≡ Ok s → first ≡ head.count + 1 → HasHead (Ok head) ahead left old now text → Converses (Err stop) left now new (first_play s) first → Holds r ahead old new
 session-cut ahead left old now new text same head s first r stop was goes e is n h held =
     let lines : List (List ℕ) = h.lines in

@@ -8,7 +8,7 @@ use Rattle.cm_serve.specs.Ahead.{AreAhead, BeginsLong, Came, IsLine}
 use Rattle.cm_serve.specs.Turns.{Turn, Line, Says}
 use Rattle.cm_serve.specs.declared.stop.TalkStop.{TalkStop}
 use Rattle.cm_serve.specs.declared.stop.TalkStop.TheVariants.{TooLong}
-use Rattle.cm_serve.specs.declared.heading.Head.{Head}
+use Rattle.cm_serve.specs.declared.heading.DialogueHead.{DialogueHead}
 
 -- the line after which the session starts
 abbrev pub starts_session : List ℕ → Bool
@@ -46,7 +46,8 @@ IsLongHead heard more = (1048576 < length (text_of heard)) ⊎ (StartsLater hear
 
 -- these lines were heard, and are the text; where no session follows, they are all that came
 pub record IsHeadHeard
-    (head : Head) (ahead left : Option (List (List ℕ))) (old new : Option (List Turn)) (text : List ℕ) : Type 0 where
+    (head : DialogueHead) (ahead left : Option (List (List ℕ))) (old new : Option (List Turn))
+    (text : List ℕ) : Type 0 where
   pub lines : List (List ℕ)
   pub single : All IsLine lines
   pub says : Says old new (map Line lines)
@@ -67,7 +68,8 @@ pub record IsHeadCut (stop : TalkStop) (ahead : Option (List (List ℕ))) (old n
 
 -- what was read, said and left of a head, whether it was heard whole or cut off
 abbrev pub HasHead :
-    Result Head TalkStop → Option (List (List ℕ)) → Option (List (List ℕ)) → Option (List Turn) → Option (List Turn)
+    Result DialogueHead TalkStop → Option (List (List ℕ)) → Option (List (List ℕ)) → Option (List Turn) →
+    Option (List Turn)
     → List ℕ → Type 0
 HasHead (Ok head) ahead left old new text = IsHeadHeard head ahead left old new text
 HasHead (Err stop) ahead left old new text = IsHeadCut stop ahead old new

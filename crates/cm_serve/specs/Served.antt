@@ -94,9 +94,9 @@ Declines served.NoMemory refused old new = new ≡ old
 Declines other refused old new = ⊥
 
 -- the numbers with which a program ends, as those of `comedi`
-abbrev pub number_of : Served → ℕ
-number_of served.Done = 0
-number_of served.Refused = 1
-number_of served.ReadFault = 3
-number_of served.WriteFault = 4
-number_of served.NoMemory = 5
+abbrev pub exit_status : Served → ℕ
+exit_status served.Done = 0
+exit_status served.Refused = 1
+exit_status served.ReadFault = 3
+exit_status served.WriteFault = 4
+exit_status served.NoMemory = 5

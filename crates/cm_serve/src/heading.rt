@@ -24,7 +24,7 @@ fn starts_session(alloc: Global, bytes: &[u8]) -> Result<bool, NoMemory>
 
 /// The part of a dialogue before its session: how many lines it has, and whether the session follows.
 #[derive(Clone, Copy, Debug, PartialEq, Eq)]
-pub(crate) struct Head {
+pub(crate) struct DialogueHead {
     pub count: u32,
     pub goes_on: bool,
 }
@@ -35,7 +35,7 @@ pub(crate) fn hear_head<C: Client>(
     alloc: Global,
     client: &mut C,
     text: &mut Vec<u8>,
-) -> Result<Head, TalkStop>
+) -> Result<DialogueHead, TalkStop>
     requires { text.old.items ≡ [] }
     ensures head { HasHead result (C.ahead client.old) (C.ahead client.new) (C.turns client.old) (C.turns client.new) text.new.items }
     ensures short { IfOk result (λ _. length text.new.items ≤ 1048576) }
@@ -49,7 +49,7 @@ pub(crate) fn hear_head<C: Client>(
     loop {
         line.clear();
         if !client.hear(&mut line)? {
-            return Ok(Head {
+            return Ok(DialogueHead {
                 count,
                 goes_on: false,
             });
@@ -57,7 +57,7 @@ pub(crate) fn hear_head<C: Client>(
         put_line(text, &line)?;
         count += 1;
         if starts_session(alloc, &line)? {
-            return Ok(Head {
+            return Ok(DialogueHead {
                 count,
                 goes_on: true,
             });

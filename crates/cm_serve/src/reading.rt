@@ -15,7 +15,7 @@ use cm_base::parts::{begins, refused};
 use cm_base::words::{at_line, four, none, number_in};
 use cm_board::versions::{is_wide, most_entries};
 use cm_cmd::reading::read_cmd_up_to;
-use cm_session::forms::{Head, Start, number_words, place, sub_words};
+use cm_session::forms::{LineHead, Start, number_words, place, sub_words};
 use cm_session::op::BoxedCmd;
 use cm_session::reading::read_line;
 use cm_signal::bounds::Bounds;
@@ -113,7 +113,7 @@ fn read_timed(
 }
 
 // The file, the subdevice, and the two numbers of `T KEY F SUB I N`.
-fn ranged_words(start: &Start<'_>, words: &[&[u8]]) -> Result<(Head, u32, u32, u32), Fault>
+fn ranged_words(start: &Start<'_>, words: &[&[u8]]) -> Result<(LineHead, u32, u32, u32), Fault>
     ensures value { result ≡ spec.ranged_words start.now.bounds start.now.time.now (map (λ word. word.now) words.now) }
     ensures within { IfOk result (λ w. w.0.time ≤ start.now.bounds.horizon) }
     ensures few { IfOk result (λ w. w.3 ≤ 65536) }
@@ -146,7 +146,7 @@ fn read_next(alloc: Global, bounds: Bounds, before: u64, line: &Line<'_>) -> Res
 }
 
 // A question after a line of the time `before`.
-fn asked_after(before: u64, head: Head, sub: u32, question: Question) -> Result<Said, Fault>
+fn asked_after(before: u64, head: LineHead, sub: u32, question: Question) -> Result<Said, Fault>
     ensures value { result ≡ spec.asked_after before (spec.asked_by head sub question) }
 {
     if before <= head.time {
@@ -162,7 +162,7 @@ fn asked_after(before: u64, head: Head, sub: u32, question: Question) -> Result<
 }
 
 // A fetch after a line of the time `before`.
-fn fetch_after(before: u64, head: Head, sub: u32, wanted: u32, n: u32) -> Result<Said, Fault>
+fn fetch_after(before: u64, head: LineHead, sub: u32, wanted: u32, n: u32) -> Result<Said, Fault>
     ensures { result ≡ spec.fetch_after before (record { time = head.time; file = head.file; sub = sub; wanted = wanted; n = n }) }
 {
     if before <= head.time {

@@ -3,7 +3,7 @@ ghost use Rattle.std.specs.Prelude.{◌≡◌, ◌≤◌, length, IfOk, IsErrOf}
 ghost use Rattle.cm_base.specs.Causes.{Rose};
 ghost use Rattle.cm_base.specs.ReadStop.{Gives};
 ghost use Rattle.cm_signal.specs.Fitting.{FitBoard};
-ghost use Rattle.cm_serve.specs.Served.{Declines, Holds, Serves, number_of};
+ghost use Rattle.cm_serve.specs.Served.{Declines, Holds, Serves, exit_status};
 ghost use Rattle.cm_serve.specs.Serving.{setting_of};
 
 use crate::client::Client;
@@ -103,8 +103,8 @@ fn decline<C: Client>(alloc: Global, client: &mut C, refused: Refused) -> Served
 }
 
 /// The number with which a program ends that has held a dialogue.
-pub fn number_of(served: Served) -> u8
-    ensures { result ≡ number_of served }
+pub fn exit_status(served: Served) -> u8
+    ensures { result ≡ exit_status served }
 {
     match served {
         Served::Done => 0,

@@ -18,7 +18,7 @@ use Rattle.cm_cmd.specs.CommandText.{command_of}
 use Rattle.cm_session.specs.Forms.{command_words, data_word, file_word, head_of}
 use Rattle.cm_session.specs.SessionPart.{after_time, line_after, line_words}
 use Rattle.cm_signal.specs.declared.bounds.Bounds.{Bounds}
-use Rattle.cm_session.specs.declared.forms.Head.{Head}
+use Rattle.cm_session.specs.declared.forms.LineHead.{LineHead}
 use Rattle.cm_session.specs.declared.op.SessionLine.{SessionLine}
 
 -- what stops a step stops all that come after it
@@ -61,19 +61,19 @@ line_before only bounds before line next stop good e below is =
     subst (λ (s : ReadStop). Stops s (at_line line.number (line_after only bounds before line))) (sym is) refused
 
 -- the words of a command, whose file and head are read
-command_here : (number : ℕ) (bounds : Bounds) (time file : List ℕ) (words : List (List ℕ)) (head : Head) → file_word words ≡ Ok file → head_of bounds time file ≡ Ok head →
+command_here : (number : ℕ) (bounds : Bounds) (time file : List ℕ) (words : List (List ℕ)) (head : LineHead) → file_word words ≡ Ok file → head_of bounds time file ≡ Ok head →
     at_line number (command_words bounds time words) ≡ at_line number (command_of (most_entries bounds.version) (drop 1 words) >>= λ cmd. Ok (head, cmd))
 command_here number bounds time file words head f h =
     ap (λ (r : Result (List ℕ) Fault). at_line number (r >>= λ file. head_of bounds time file >>= λ head. command_of (most_entries bounds.version) (drop 1 words) >>= λ cmd. Ok (head, cmd))) f
-    ∙ ap (λ (r : Result Head Fault). at_line number (r >>= λ head. command_of (most_entries bounds.version) (drop 1 words) >>= λ cmd. Ok (head, cmd))) h
+    ∙ ap (λ (r : Result LineHead Fault). at_line number (r >>= λ head. command_of (most_entries bounds.version) (drop 1 words) >>= λ cmd. Ok (head, cmd))) h
 
-pub command_stops : (number : ℕ) (bounds : Bounds) (time file : List ℕ) (words : List (List ℕ)) (head : Head) (stop : ReadStop) → file_word words ≡ Ok file → head_of bounds time file ≡ Ok head →
+pub command_stops : (number : ℕ) (bounds : Bounds) (time file : List ℕ) (words : List (List ℕ)) (head : LineHead) (stop : ReadStop) → file_word words ≡ Ok file → head_of bounds time file ≡ Ok head →
     Stops stop (at_line number (command_of (most_entries bounds.version) (drop 1 words))) → Stops stop (at_line number (command_words bounds time words))
 command_stops number bounds time file words head stop f h e =
     stops-along stop _ _ (command_here number bounds time file words head f h)
     (then_stops stop number (command_of (most_entries bounds.version) (drop 1 words)) (λ cmd. Ok (head, cmd)) e)
 
-pub command_read : (number : ℕ) (bounds : Bounds) (time file : List ℕ) (words : List (List ℕ)) (head : Head) (cmd : CmdText) → file_word words ≡ Ok file → head_of bounds time file ≡ Ok head →
+pub command_read : (number : ℕ) (bounds : Bounds) (time file : List ℕ) (words : List (List ℕ)) (head : LineHead) (cmd : CmdText) → file_word words ≡ Ok file → head_of bounds time file ≡ Ok head →
     at_line number (command_of (most_entries bounds.version) (drop 1 words)) ≡ Ok cmd → at_line number (command_words bounds time words) ≡ Ok (head, cmd)
 command_read number bounds time file words head cmd f h e =
     command_here number bounds time file words head f h

@@ -8,7 +8,7 @@ use Rattle.cm_board.specs.Versions.{most_entries}
 use Rattle.cm_cmd.specs.Command.{CmdText}
 use Rattle.cm_cmd.specs.CommandText.{command_of}
 use Rattle.cm_signal.specs.declared.bounds.Bounds.{Bounds}
-use Rattle.cm_session.specs.declared.forms.Head.{Head}
+use Rattle.cm_session.specs.declared.forms.LineHead.{LineHead}
 use Rattle.cm_session.specs.declared.op.Op.{Op}
 use Rattle.cm_session.specs.declared.op.SessionLine.{SessionLine}
 
@@ -17,12 +17,12 @@ abbrev pub LineForm : Type 0
 LineForm = Bounds → List ℕ → Form SessionLine
 
 -- the time of a line and its file, which is one of 16
-abbrev pub head_of : Bounds → List ℕ → List ℕ → Result Head Fault
+abbrev pub head_of : Bounds → List ℕ → List ℕ → Result LineHead Fault
 head_of bounds time file =
     number_in 0 bounds.horizon time >>= λ t. number_in 0 15 file >>= λ f. Ok (record { time = t; file = f })
 
 -- a line with this time and file
-abbrev pub line_by : Head → Op → SessionLine
+abbrev pub line_by : LineHead → Op → SessionLine
 line_by head op = record { time = head.time; file = head.file; op = op }
 
 -- the number of a subdevice
@@ -34,19 +34,19 @@ abbrev pub data_word : List ℕ → Result ℕ Fault
 data_word = number_in 0 4294967295
 
 -- the file of `T KEY F`
-abbrev pub file_words : Bounds → List ℕ → Form Head
+abbrev pub file_words : Bounds → List ℕ → Form LineHead
 file_words bounds time words = one_word words >>= λ file. head_of bounds time file
 
 -- the time, the file and the subdevice where these words stand for them
-abbrev pub place_of : Bounds → List ℕ → List ℕ → List ℕ → Result (Head × ℕ) Fault
+abbrev pub place_of : Bounds → List ℕ → List ℕ → List ℕ → Result (LineHead × ℕ) Fault
 place_of bounds time file sub = head_of bounds time file >>= λ head. sub_word sub >>= λ s. Ok (head, s)
 
 -- those of `T KEY F SUB`
-abbrev pub sub_words : Bounds → List ℕ → Form (Head × ℕ)
+abbrev pub sub_words : Bounds → List ℕ → Form (LineHead × ℕ)
 sub_words bounds time words = two_words words >>= λ w. place_of bounds time w.0 w.1
 
 -- those of `T KEY F SUB N`, with a number up to a limit
-abbrev pub number_words : ℕ → Bounds → List ℕ → Form (Head × ℕ × ℕ)
+abbrev pub number_words : ℕ → Bounds → List ℕ → Form (LineHead × ℕ × ℕ)
 number_words most bounds time words =
     three_words words >>= λ w.
     place_of bounds time w.0 w.1 >>= λ at.
@@ -54,7 +54,7 @@ number_words most bounds time words =
     Ok (at.0, at.1, n)
 
 -- those of `T KEY F SUB V..`, with up to 1,024 values
-abbrev pub values_words : Bounds → List ℕ → Form (Head × ℕ × List ℕ)
+abbrev pub values_words : Bounds → List ℕ → Form (LineHead × ℕ × List ℕ)
 values_words bounds time words =
     two_and_more words >>= λ w.
     place_of bounds time w.0 w.1 >>= λ at.
@@ -66,7 +66,7 @@ abbrev pub file_word : List (List ℕ) → Result (List ℕ) Fault
 file_word words = if length words == 9 then Ok (slice_index_or words 0 []) else Err BadLine
 
 -- the file and the command of `T cmd F COMMAND`
-abbrev pub command_words : Bounds → List ℕ → Form (Head × CmdText)
+abbrev pub command_words : Bounds → List ℕ → Form (LineHead × CmdText)
 command_words bounds time words =
     file_word words >>= λ file.
     head_of bounds time file >>= λ head.

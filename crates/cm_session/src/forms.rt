@@ -27,12 +27,12 @@ pub struct Start<'a> {
 
 /// The time of a line in nanoseconds, and its file.
 #[derive(Clone, Copy)]
-pub struct Head {
+pub struct LineHead {
     pub time: u64,
     pub file: u32,
 }
 
-impl Head {
+impl LineHead {
     /// The line that asks this.
     pub(crate) fn line(self, op: Op) -> SessionLine
         ensures { result ≡ spec.line_by self op }
@@ -46,17 +46,17 @@ impl Head {
 }
 
 // The time and the file.
-fn read_head(start: &Start<'_>, file: &[u8]) -> Result<Head, Fault>
+fn read_head(start: &Start<'_>, file: &[u8]) -> Result<LineHead, Fault>
     ensures value { result ≡ spec.head_of start.now.bounds start.now.time.now file.now }
     ensures within { IfOk result (λ head. head.time ≤ start.now.bounds.horizon) }
 {
     let time = time_in(start.time, 0, start.bounds.horizon)?;
     let file = number_in(file, 0, 15)?;
-    Ok(Head { time, file })
+    Ok(LineHead { time, file })
 }
 
 /// The time, the file and the subdevice.
-pub fn place(start: &Start<'_>, file: &[u8], sub: &[u8]) -> Result<(Head, u32), Fault>
+pub fn place(start: &Start<'_>, file: &[u8], sub: &[u8]) -> Result<(LineHead, u32), Fault>
     ensures value { result ≡ spec.place_of start.now.bounds start.now.time.now file.now sub.now }
     ensures within { IfOk result (λ place. place.0.time ≤ start.now.bounds.horizon) }
 {
@@ -66,7 +66,7 @@ pub fn place(start: &Start<'_>, file: &[u8], sub: &[u8]) -> Result<(Head, u32), 
 }
 
 /// The file of `T KEY F`.
-pub(crate) fn file_words(start: &Start<'_>, words: &[&[u8]]) -> Result<Head, Fault>
+pub(crate) fn file_words(start: &Start<'_>, words: &[&[u8]]) -> Result<LineHead, Fault>
     ensures value { result ≡ spec.file_words start.now.bounds start.now.time.now (map (λ word. word.now) words.now) }
     ensures within { IfOk result (λ head. head.time ≤ start.now.bounds.horizon) }
 {
@@ -75,7 +75,7 @@ pub(crate) fn file_words(start: &Start<'_>, words: &[&[u8]]) -> Result<Head, Fau
 }
 
 /// The file and the subdevice of `T KEY F SUB`.
-pub fn sub_words(start: &Start<'_>, words: &[&[u8]]) -> Result<(Head, u32), Fault>
+pub fn sub_words(start: &Start<'_>, words: &[&[u8]]) -> Result<(LineHead, u32), Fault>
     ensures value { result ≡ spec.sub_words start.now.bounds start.now.time.now (map (λ word. word.now) words.now) }
     ensures within { IfOk result (λ place. place.0.time ≤ start.now.bounds.horizon) }
 {
@@ -88,7 +88,7 @@ pub fn number_words(
     start: &Start<'_>,
     words: &[&[u8]],
     most: u32,
-) -> Result<(Head, u32, u32), Fault>
+) -> Result<(LineHead, u32, u32), Fault>
     ensures value { result ≡ spec.number_words most start.now.bounds start.now.time.now (map (λ word. word.now) words.now) }
     ensures within { IfOk result (λ w. (w.0.time ≤ start.now.bounds.horizon) × (w.2 ≤ most)) }
 {
@@ -103,7 +103,7 @@ pub(crate) fn values_words(
     alloc: Global,
     start: &Start<'_>,
     words: &[&[u8]],
-) -> Result<(Head, u32, Nums), ReadStop>
+) -> Result<(LineHead, u32, Nums), ReadStop>
     ensures value { Gives (λ w. (w.0, w.1, w.2)) result (at_line start.now.number (spec.values_words start.now.bounds start.now.time.now (map (λ word. word.now) words.now))) }
     ensures within { IfOk result (λ w. (w.0.time ≤ start.now.bounds.horizon) × (length w.2 ≤ 1024)) }
 {
@@ -144,7 +144,7 @@ pub(crate) fn command_words(
     start: &Start<'_>,
     line: &Line<'_>,
     words: &[&[u8]],
-) -> Result<(Head, BoxedCmd), ReadStop>
+) -> Result<(LineHead, BoxedCmd), ReadStop>
     requires number { start.now.number ≡ line.now.number }
     requires words { drop 2 (line_view line.now).words ≡ map (λ word. word.now) words.now }
     ensures value { Gives (λ w. (w.0, w.1)) result (at_line start.now.number (spec.command_words start.now.bounds start.now.time.now (map (λ word. word.now) words.now))) }

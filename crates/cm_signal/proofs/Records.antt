@@ -10,11 +10,11 @@ use Rattle.cm_base.specs.declared.faults.ReadStop.TheVariants as stops
 use Rattle.cm_board.specs.Board.{BoardText, SubText}
 use Rattle.cm_board.specs.Versions.{is_wide}
 use Rattle.cm_signal.specs.Wave.{levels_words, record_words, wave_said}
-use Rattle.cm_signal.specs.declared.said.Said.{Said}
+use Rattle.cm_signal.specs.declared.said.SignalLine.{SignalLine}
 use Rattle.cm_signal.specs.declared.wave.Wave.TheVariants as waves
 
 -- what levels say as a record
-abbrev pub as_record : Result ((ℕ × ℕ) × ℕ × List ℤ) Fault → Result Said Fault
+abbrev pub as_record : Result ((ℕ × ℕ) × ℕ × List ℤ) Fault → Result SignalLine Fault
 as_record levels = levels >>= λ l. Ok (wave_said l.0 (waves.Record l.1 l.2))
 
 -- on a board that has records

@@ -4,8 +4,8 @@ use Rattle.std.specs.List.{All}
 use Rattle.cm_board.specs.Board.{SubText}
 use Rattle.cm_signal.specs.Channel.{level_channels}
 use Rattle.cm_signal.specs.Signals.{SignalsText}
-use Rattle.cm_signal.specs.declared.said.Said.{Said}
-use Rattle.cm_signal.specs.declared.said.Said.TheVariants as said
+use Rattle.cm_signal.specs.declared.said.SignalLine.{SignalLine}
+use Rattle.cm_signal.specs.declared.said.SignalLine.TheVariants as said
 use Rattle.cm_signal.specs.declared.signals.IntAt.{IntAt}
 use Rattle.cm_signal.specs.declared.wave.WaveAt.{WaveAt}
 
@@ -18,7 +18,7 @@ abbrev pub HasSub : List SubText → IntAt → Type 0
 HasSub subs int = int.sub < length subs
 
 -- a line names a channel with levels, or a subdevice, that the board has
-abbrev pub Fits : List SubText → Said → Type 0
+abbrev pub Fits : List SubText → SignalLine → Type 0
 Fits subs (said.Wave w) = HasChannel subs w
 Fits subs (said.Edges slope line times) = Unit {0}
 Fits subs (said.Int int) = HasSub subs int

@@ -1,11 +1,11 @@
 -- The limits that the words of a line keep.
 use Rattle.std.specs.Prelude.{ℕ, ◌<◌, ◌≤◌, ◌^◌, length}
 use Rattle.cm_signal.specs.Wave.{HasPeriod}
-use Rattle.cm_signal.specs.declared.said.Said.{Said}
-use Rattle.cm_signal.specs.declared.said.Said.TheVariants as said
+use Rattle.cm_signal.specs.declared.said.SignalLine.{SignalLine}
+use Rattle.cm_signal.specs.declared.said.SignalLine.TheVariants as said
 
 -- a wave with its period, one of the 64 lines, or a trigger up to the horizon
-abbrev pub IsSaid : ℕ → Said → Type 0
+abbrev pub IsSaid : ℕ → SignalLine → Type 0
 IsSaid horizon (said.Wave w) = HasPeriod w.wave
 IsSaid horizon (said.Edges slope line times) = line < 64
 IsSaid horizon (said.Int int) = int.time ≤ horizon

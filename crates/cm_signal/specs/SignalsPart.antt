@@ -17,8 +17,8 @@ use Rattle.cm_board.specs.Versions.{is_wide, most_in, most_lines}
 use Rattle.cm_signal.specs.Channel.{period_word}
 use Rattle.cm_signal.specs.Signals.{SignalsText, edge_count, is_at, recorded_count, times_at}
 use Rattle.cm_signal.specs.Wave.{is_fine, recorded_in, wave_words}
-use Rattle.cm_signal.specs.declared.said.Said.{Said}
-use Rattle.cm_signal.specs.declared.said.Said.TheVariants as said
+use Rattle.cm_signal.specs.declared.said.SignalLine.{SignalLine}
+use Rattle.cm_signal.specs.declared.said.SignalLine.TheVariants as said
 use Rattle.cm_signal.specs.declared.signals.Slope.{Slope}
 use Rattle.cm_signal.specs.declared.signals.Slope.TheVariants as slopes
 use Rattle.cm_signal.specs.declared.wave.Wave.{Wave}
@@ -29,7 +29,7 @@ abbrev pub line_word : ℕ → List ℕ → Result ℕ Fault
 line_word version = number_below (most_lines version)
 
 -- `edges LINE T..` and `falls LINE T..`
-abbrev pub edges_words : Slope → ℕ → ℕ → Form Said
+abbrev pub edges_words : Slope → ℕ → ℕ → Form SignalLine
 edges_words slope version horizon words =
     one_and_more words >>= λ w.
     line_word version w.0 >>= λ line.
@@ -48,12 +48,12 @@ every_numbers version words =
     period_word w.2 >>= λ period. number_in 1 100000 w.3 >>= λ count. Ok (line, first, period, count)
 
 -- rises at equal distances
-abbrev pub every_words : ℕ → Form Said
+abbrev pub every_words : ℕ → Form SignalLine
 every_words version words =
     every_numbers version words >>= λ n. Ok (said.Edges slopes.Rise n.0 (progression n.1 n.2 n.3))
 
 -- `int SUB T ARG`
-abbrev pub int_words : List SubText → ℕ → Form Said
+abbrev pub int_words : List SubText → ℕ → Form SignalLine
 int_words subs horizon words =
     three_words words >>= λ w.
     number_below (length subs) w.0 >>= λ sub.
@@ -62,19 +62,19 @@ int_words subs horizon words =
     Ok (said.Int (record { sub = sub; time = time; arg = arg }))
 
 -- the lines of the part, by their first word
-abbrev pub signal_forms : BoardText → ℕ → List (List ℕ × Form Said)
+abbrev pub signal_forms : BoardText → ℕ → List (List ℕ × Form SignalLine)
 signal_forms board horizon =
     (codes "wave", wave_words board) ∷ (codes "edges", edges_words slopes.Rise board.version horizon) ∷
     (codes "falls", edges_words slopes.Fall board.version horizon) ∷ (codes "every", every_words board.version) ∷
     (codes "int", int_words board.subs horizon) ∷ []
 
 -- what a line of the signals part says
-abbrev pub said_words : BoardText → ℕ → List (List ℕ) → Result Said Fault
+abbrev pub said_words : BoardText → ℕ → List (List ℕ) → Result SignalLine Fault
 said_words board horizon [] = Err BadLine
 said_words board horizon (key ∷ words) = keyword (signal_forms board horizon) key >>= λ form. form words
 
 -- what a line of the part says by itself
-abbrev pub said_line : BoardText → ℕ → LineText → Result Said Fault
+abbrev pub said_line : BoardText → ℕ → LineText → Result SignalLine Fault
 said_line board horizon line = if line.bad then Err BadLine else said_words board horizon line.words
 
 -- times that rise strictly, none below `least`
@@ -111,7 +111,7 @@ abbrev pub checked_int : SignalsText → Result (Unit {0}) Fault
 checked_int s = limited (nat_lt (length s.ints) 1000) tt
 
 -- whether a line may stand after those before it
-abbrev pub checked : SignalsText → Said → Result (Unit {0}) Fault
+abbrev pub checked : SignalsText → SignalLine → Result (Unit {0}) Fault
 checked s (said.Wave w) = checked_wave s w
 checked s (said.Edges slope line times) = checked_edges s slope line times
 checked s (said.Int int) = checked_int s
@@ -122,7 +122,7 @@ with_times s slopes.Rise line times = record s { edges = slice_set s.edges line 
 with_times s slopes.Fall line times = record s { falls = slice_set s.falls line times }
 
 -- the signals with one line more
-abbrev pub with_said : SignalsText → Said → SignalsText
+abbrev pub with_said : SignalsText → SignalLine → SignalsText
 with_said s (said.Wave w) = record s { waves = s.waves ++ w ∷ [] }
 with_said s (said.Edges slope line times) = with_times s slope line (times_at s slope line ++ times)
 with_said s (said.Int int) = record s { ints = s.ints ++ int ∷ [] }

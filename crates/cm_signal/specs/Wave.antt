@@ -11,8 +11,8 @@ use Rattle.cm_board.specs.Versions.{is_wide}
 use Rattle.cm_signal.specs.Channel.{channel_words, period_word}
 use Rattle.cm_signal.specs.declared.quick.Kind.{Kind}
 use Rattle.cm_signal.specs.declared.quick.Kind.TheVariants as kinds
-use Rattle.cm_signal.specs.declared.said.Said.{Said}
-use Rattle.cm_signal.specs.declared.said.Said.TheVariants as said
+use Rattle.cm_signal.specs.declared.said.SignalLine.{SignalLine}
+use Rattle.cm_signal.specs.declared.said.SignalLine.TheVariants as said
 use Rattle.cm_signal.specs.declared.wave.Wave.{Wave}
 use Rattle.cm_signal.specs.declared.wave.Wave.TheVariants.{Const, Square, Saw, Table, Record}
 
@@ -63,11 +63,11 @@ wave_of (kinds.Table s) = Table s.period.by s.levels.now
 wave_of (kinds.Record s) = Record s.period.by s.levels.now
 
 -- a line that gives a channel its wave
-abbrev pub wave_said : ℕ × ℕ → Wave → Said
+abbrev pub wave_said : ℕ × ℕ → Wave → SignalLine
 wave_said at wave = said.Wave (record { sub = at.0; chan = at.1; wave = wave })
 
 -- the forms of `wave SUB CHAN KIND ..`, by the words after the kind
-abbrev pub const_words : List SubText → List ℕ → List ℕ → Form Said
+abbrev pub const_words : List SubText → List ℕ → List ℕ → Form SignalLine
 const_words subs sub chan words =
     one_word words >>= λ w.
     channel_words subs sub chan >>= λ at.
@@ -75,14 +75,14 @@ const_words subs sub chan words =
     Ok (wave_said at (Const v))
 
 -- a square wave: its low level, its high level and its period
-abbrev pub square_words : List SubText → List ℕ → List ℕ → Form Said
+abbrev pub square_words : List SubText → List ℕ → List ℕ → Form SignalLine
 square_words subs sub chan words =
     three_words words >>= λ w. channel_words subs sub chan >>= λ at.
     signed_number w.0 >>= λ low. signed_number w.1 >>= λ high. period_word w.2 >>= λ period.
     Ok (wave_said at (Square low high period))
 
 -- a saw: its low level, its high level and its period
-abbrev pub saw_words : List SubText → List ℕ → List ℕ → Form Said
+abbrev pub saw_words : List SubText → List ℕ → List ℕ → Form SignalLine
 saw_words subs sub chan words =
     three_words words >>= λ w. channel_words subs sub chan >>= λ at.
     signed_number w.0 >>= λ low. signed_number w.1 >>= λ high. period_word w.2 >>= λ period.
@@ -97,18 +97,18 @@ levels_words most subs sub chan words =
     Ok (at, period, levels)
 
 -- a table: its period, and at most 64 levels
-abbrev pub table_words : List SubText → List ℕ → List ℕ → Form Said
+abbrev pub table_words : List SubText → List ℕ → List ℕ → Form SignalLine
 table_words subs sub chan words = levels_words 64 subs sub chan words >>= λ l. Ok (wave_said l.0 (Table l.1 l.2))
 
 -- a record: its period, and as many levels as the line has; boards of the wider texts have it
-abbrev pub record_words : BoardText → List ℕ → List ℕ → Form Said
+abbrev pub record_words : BoardText → List ℕ → List ℕ → Form SignalLine
 record_words board sub chan words =
     if is_wide board.version
     then (levels_words (length words) board.subs sub chan words >>= λ l. Ok (wave_said l.0 (Record l.1 l.2)))
     else Err Unknown
 
 -- the waves by their names
-abbrev pub wave_forms : BoardText → List (List ℕ × (List ℕ → List ℕ → Form Said))
+abbrev pub wave_forms : BoardText → List (List ℕ × (List ℕ → List ℕ → Form SignalLine))
 wave_forms board =
     (codes "const", const_words board.subs) ∷
     (codes "square", square_words board.subs) ∷
@@ -117,5 +117,5 @@ wave_forms board =
     (codes "record", record_words board) ∷ []
 
 -- `wave SUB CHAN KIND ..`
-abbrev pub wave_words : BoardText → Form Said
+abbrev pub wave_words : BoardText → Form SignalLine
 wave_words board words = three_and_more words >>= λ w. keyword (wave_forms board) w.2 >>= λ form. form w.0 w.1 w.3

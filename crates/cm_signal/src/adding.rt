@@ -5,7 +5,7 @@ ghost use Rattle.std.specs.List.Sorted.{IsStrictlyIncreasing};
 ghost use Rattle.cm_signal.specs.Signals.{edge_count, recorded_count};
 ghost use Rattle.cm_signal.specs.SignalsPart as part;
 
-use crate::said::Said;
+use crate::said::SignalLine;
 use crate::signals::{IntAt, Signals, Slope};
 use crate::wave::{Wave, WaveAt};
 use cm_base::faults::Fault;
@@ -37,14 +37,18 @@ impl Signals {
     }
 
     /// Whether a line may stand after those so far.
-    pub fn check(&self, said: &Said) -> Result<(), Fault>
+    pub fn check(&self, said: &SignalLine) -> Result<(), Fault>
         requires { IsSaid self.now.horizon said.now }
         ensures { seen (λ u. tt) result ≡ checked self.now said.now }
     {
         match said {
-            Said::Wave(wave) => self.check_wave(wave),
-            Said::Edges(slope, line, times) => self.check_edges(*slope, *line, times.as_slice()),
-            Said::Int(_) => self.check_int(),
+            SignalLine::Wave(wave) => self.check_wave(wave),
+            SignalLine::Edges(slope, line, times) => self.check_edges(
+                *slope,
+                *line,
+                times.as_slice(),
+            ),
+            SignalLine::Int(_) => self.check_int(),
         }
     }
 
@@ -119,15 +123,15 @@ impl Signals {
     }
 
     /// Adds what a line says.
-    pub fn put(&mut self, said: Said) -> Result<(), AllocError>
+    pub fn put(&mut self, said: SignalLine) -> Result<(), AllocError>
         requires said { IsSaid self.old.horizon said }
         requires fits { checked self.old said ≡ Ok tt }
         ensures { OnOk result (self.new ≡ with_said self.old said) }
     {
         match said {
-            Said::Wave(wave) => self.put_wave(wave),
-            Said::Edges(slope, line, times) => self.put_edges(slope, line, &times),
-            Said::Int(int) => self.put_int(int),
+            SignalLine::Wave(wave) => self.put_wave(wave),
+            SignalLine::Edges(slope, line, times) => self.put_edges(slope, line, &times),
+            SignalLine::Int(int) => self.put_int(int),
         }
     }
 

@@ -9,7 +9,7 @@ ghost use Rattle.cm_board.specs.Versions.{most_in};
 ghost use Rattle.cm_signal.specs.Fitting.{FitBoard};
 ghost use Rattle.cm_signal.specs.SignalsPart.{horizon_words, said_after, signals_at, signals_after, signals_of};
 
-use crate::said::read_line;
+use crate::said::read_signal;
 use crate::signals::Signals;
 use cm_base::faults::{Fault, ReadStop};
 use cm_base::lines::{Cursor, Line, Lines};
@@ -143,7 +143,7 @@ fn add_line(
     ensures fits { OnOk result (FitBoard board.now.subs signals.new) }
     ensures value { Gives (λ u. signals.new) result (at_line line.now.number (said_after board.now signals.old (line_view line.now))) }
 {
-    let said = read_line(alloc, board, signals.horizon, line)?;
+    let said = read_signal(alloc, board, signals.horizon, line)?;
     at_line(line.number, signals.check(&said))?;
     signals.put(said)?;
     Ok(())

@@ -28,7 +28,7 @@ use std::alloc::{AllocError, Global};
 
 /// What a line of the signals part says.
 #[derive(Drop)]
-pub enum Said {
+pub enum SignalLine {
     /// The wave of a channel.
     Wave(WaveAt),
     /// Edges of an external line, all with one slope.
@@ -38,12 +38,12 @@ pub enum Said {
 }
 
 /// What a line says by itself, over a board and up to a horizon.
-pub fn read_line(
+pub fn read_signal(
     alloc: Global,
     board: &BoardDesc,
     horizon: u64,
     line: &Line<'_>,
-) -> Result<Said, ReadStop>
+) -> Result<SignalLine, ReadStop>
     ensures value { Gives (λ said. said) result (at_line line.now.number (spec.said_line board.now horizon (line_view line.now))) }
     ensures limits { IfOk result (IsSaid horizon) }
     ensures fits { IfOk result (Fits board.now.subs) }
@@ -66,7 +66,7 @@ fn read_words(
     horizon: u64,
     key: &[u8],
     words: &[&[u8]],
-) -> Result<Said, ReadStop>
+) -> Result<SignalLine, ReadStop>
     ensures value { Gives (λ said. said) result (at_line number (spec.said_words board.now horizon (key.now ∷ map (λ word. word.now) words.now))) }
     ensures limits { IfOk result (IsSaid horizon) }
     ensures fits { IfOk result (Fits board.now.subs) }
@@ -94,7 +94,7 @@ fn read_edges(
     version: u32,
     horizon: u64,
     words: &[&[u8]],
-) -> Result<Said, ReadStop>
+) -> Result<SignalLine, ReadStop>
     ensures value { Gives (λ said. said) result (at_line number (spec.edges_words slope version horizon (map (λ word. word.now) words.now))) }
     ensures limits { IfOk result (IsSaid 0) }
     ensures fits { IfOk result (Fits []) }
@@ -102,18 +102,23 @@ fn read_edges(
     let (line, times) = at_line(number, one_and_more(words))?;
     let line = at_line(number, read_line_number(version, line))?;
     let times = times_in(alloc, number, times, horizon)?;
-    Ok(Said::Edges(slope, line, Times::new(times)))
+    Ok(SignalLine::Edges(slope, line, Times::new(times)))
 }
 
 // `every LINE FIRST PERIOD COUNT`
-fn read_every(alloc: Global, number: u32, version: u32, words: &[&[u8]]) -> Result<Said, ReadStop>
+fn read_every(
+    alloc: Global,
+    number: u32,
+    version: u32,
+    words: &[&[u8]],
+) -> Result<SignalLine, ReadStop>
     ensures value { Gives (λ said. said) result (at_line number (spec.every_words version (map (λ word. word.now) words.now))) }
     ensures limits { IfOk result (IsSaid 0) }
     ensures fits { IfOk result (Fits []) }
 {
     let (line, first, period, count) = at_line(number, read_numbers(version, words))?;
     let times = progression(alloc, first, period, count)?;
-    Ok(Said::Edges(Slope::Rise, line, Times::new(times)))
+    Ok(SignalLine::Edges(Slope::Rise, line, Times::new(times)))
 }
 
 // The numbers of `every LINE FIRST PERIOD COUNT`.
@@ -144,7 +149,7 @@ fn progression(alloc: Global, first: u64, period: u64, count: u32) -> Result<Vec
 }
 
 // `int SUB T ARG`
-fn read_int(subs: &[Sub], horizon: u64, words: &[&[u8]]) -> Result<Said, Fault>
+fn read_int(subs: &[Sub], horizon: u64, words: &[&[u8]]) -> Result<SignalLine, Fault>
     requires { length subs.now < 2 ^ 32 }
     ensures value { result ≡ spec.int_words subs.now horizon (map (λ word. word.now) words.now) }
     ensures limits { IfOk result (IsSaid horizon) }
@@ -154,7 +159,7 @@ fn read_int(subs: &[Sub], horizon: u64, words: &[&[u8]]) -> Result<Said, Fault>
     let sub = number_below(sub, subs.len() as u32)?;
     let time = time_in(time, 0, horizon)?;
     let arg = number_in(arg, 0, 4_294_967_295)?;
-    Ok(Said::Int(IntAt { sub, time, arg }))
+    Ok(SignalLine::Int(IntAt { sub, time, arg }))
 }
 
 // A channel with levels.

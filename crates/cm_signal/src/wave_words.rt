@@ -8,7 +8,7 @@ ghost use Rattle.cm_signal.specs.Said.{IsSaid};
 ghost use Rattle.cm_signal.specs.Wave as spec;
 ghost use Rattle.cm_signal.specs.Wave.{AreHeld};
 
-use crate::said::{Said, read_channel, read_period};
+use crate::said::{SignalLine, read_channel, read_period};
 use crate::wave::{Wave, WaveAt};
 use cm_base::faults::{Fault, ReadStop};
 use cm_base::lists::Ints;
@@ -26,7 +26,7 @@ pub(crate) fn read_wave(
     number: u32,
     board: &BoardDesc,
     words: &[&[u8]],
-) -> Result<Said, ReadStop>
+) -> Result<SignalLine, ReadStop>
     ensures value { Gives (λ said. said) result (at_line number (spec.wave_words board.now (map (λ word. word.now) words.now))) }
     ensures limits { IfOk result (IsSaid 0) }
     ensures fits { IfOk result (Fits board.now.subs) }
@@ -49,7 +49,7 @@ pub(crate) fn read_wave(
 }
 
 // `wave SUB CHAN const V`
-fn read_const(subs: &[Sub], sub: &[u8], chan: &[u8], words: &[&[u8]]) -> Result<Said, Fault>
+fn read_const(subs: &[Sub], sub: &[u8], chan: &[u8], words: &[&[u8]]) -> Result<SignalLine, Fault>
     requires { length subs.now < 2 ^ 32 }
     ensures value { result ≡ spec.const_words subs.now sub.now chan.now (map (λ word. word.now) words.now) }
     ensures limits { IfOk result (IsSaid 0) }
@@ -58,11 +58,11 @@ fn read_const(subs: &[Sub], sub: &[u8], chan: &[u8], words: &[&[u8]]) -> Result<
     let level = one(words)?;
     let (sub, chan) = read_channel(subs, sub, chan)?;
     let wave = Wave::Const(signed_number(level)?);
-    Ok(Said::Wave(WaveAt { sub, chan, wave }))
+    Ok(SignalLine::Wave(WaveAt { sub, chan, wave }))
 }
 
 // `wave SUB CHAN square LOW HIGH PERIOD`
-fn read_square(subs: &[Sub], sub: &[u8], chan: &[u8], words: &[&[u8]]) -> Result<Said, Fault>
+fn read_square(subs: &[Sub], sub: &[u8], chan: &[u8], words: &[&[u8]]) -> Result<SignalLine, Fault>
     requires { length subs.now < 2 ^ 32 }
     ensures value { result ≡ spec.square_words subs.now sub.now chan.now (map (λ word. word.now) words.now) }
     ensures limits { IfOk result (IsSaid 0) }
@@ -73,11 +73,11 @@ fn read_square(subs: &[Sub], sub: &[u8], chan: &[u8], words: &[&[u8]]) -> Result
     let low = signed_number(low)?;
     let high = signed_number(high)?;
     let wave = Wave::Square(low, high, read_period(period)?);
-    Ok(Said::Wave(WaveAt { sub, chan, wave }))
+    Ok(SignalLine::Wave(WaveAt { sub, chan, wave }))
 }
 
 // `wave SUB CHAN saw LOW HIGH PERIOD`
-fn read_saw(subs: &[Sub], sub: &[u8], chan: &[u8], words: &[&[u8]]) -> Result<Said, Fault>
+fn read_saw(subs: &[Sub], sub: &[u8], chan: &[u8], words: &[&[u8]]) -> Result<SignalLine, Fault>
     requires { length subs.now < 2 ^ 32 }
     ensures value { result ≡ spec.saw_words subs.now sub.now chan.now (map (λ word. word.now) words.now) }
     ensures limits { IfOk result (IsSaid 0) }
@@ -88,7 +88,7 @@ fn read_saw(subs: &[Sub], sub: &[u8], chan: &[u8], words: &[&[u8]]) -> Result<Sa
     let low = signed_number(low)?;
     let high = signed_number(high)?;
     let wave = Wave::Saw(low, high, read_period(period)?);
-    Ok(Said::Wave(WaveAt { sub, chan, wave }))
+    Ok(SignalLine::Wave(WaveAt { sub, chan, wave }))
 }
 
 // `wave SUB CHAN table PERIOD V..`
@@ -99,7 +99,7 @@ fn read_table(
     sub: &[u8],
     chan: &[u8],
     words: &[&[u8]],
-) -> Result<Said, ReadStop>
+) -> Result<SignalLine, ReadStop>
     requires { length subs.now < 2 ^ 32 }
     ensures value { Gives (λ said. said) result (at_line number (spec.table_words subs.now sub.now chan.now (map (λ word. word.now) words.now))) }
     ensures limits { IfOk result (IsSaid 0) }
@@ -107,7 +107,7 @@ fn read_table(
 {
     let ((sub, chan), period, levels) = read_levels(alloc, number, subs, sub, chan, words, 64)?;
     let wave = Wave::Table(period, levels);
-    Ok(Said::Wave(WaveAt { sub, chan, wave }))
+    Ok(SignalLine::Wave(WaveAt { sub, chan, wave }))
 }
 
 // `wave SUB CHAN record PERIOD V..`, of boards whose text begins with `zendrouz 1`.
@@ -118,7 +118,7 @@ fn read_record(
     sub: &[u8],
     chan: &[u8],
     words: &[&[u8]],
-) -> Result<Said, ReadStop>
+) -> Result<SignalLine, ReadStop>
     ensures value { Gives (λ said. said) result (at_line number (spec.record_words board.now sub.now chan.now (map (λ word. word.now) words.now))) }
     ensures limits { IfOk result (IsSaid 0) }
     ensures fits { IfOk result (Fits board.now.subs) }
@@ -137,7 +137,7 @@ fn read_record(
         most,
     )?;
     let wave = Wave::Record(period, levels);
-    Ok(Said::Wave(WaveAt { sub, chan, wave }))
+    Ok(SignalLine::Wave(WaveAt { sub, chan, wave }))
 }
 
 // The channel, the period and at most `most` levels of `wave SUB CHAN KIND PERIOD V..`.

@@ -8,7 +8,7 @@ use Rattle.cm_base.specs.Source.{allows}
 use Rattle.cm_cmd.specs.Command.{CmdText}
 use Rattle.cm_cmd.specs.declared.command.Trig.{Trig}
 use Rattle.std.specs.Prelude.{◌^◌}
-use Rattle.cm_test.specs.declared.limits.Limits.{Limits}
+use Rattle.cm_test.specs.declared.limits.ArgLimits.{ArgLimits}
 use Rattle.cm_test.specs.ValidList.{is_valid_list}
 use Rattle.cm_test.specs.Steps.{narrowed, narrowed_to, repaired, rounded, timed, way, up, scan_time, moved_into, scan_length, exactly, line_limits, start_limits, scan_begin_limits, convert_limits, stop_limits, least_period, held_time, moved, with_arg}
 use Rattle.cm_test.specs.Questions.{same_triggers, has_sources, is_narrow, is_compatible, is_within, is_rounded, tested}
@@ -50,7 +50,7 @@ line_low sub true = refl
 line_low sub false = refl
 
 -- the limits of an external argument are those of a line, where other arguments have their own
-other_low : (sub : SubText) (src other : ℕ) (l : Limits) → (source.ext == other) ≡ false → (src == source.ext) ≡ true → (if src == other then l else (if src == source.ext then line_limits sub else exactly 0)).low ≡ 0
+other_low : (sub : SubText) (src other : ℕ) (l : ArgLimits) → (source.ext == other) ≡ false → (src == source.ext) ≡ true → (if src == other then l else (if src == source.ext then line_limits sub else exactly 0)).low ≡ 0
 other_low sub src other l apart is =
     let e = eqb-true src source.ext is in
     rw (e, apart) refl
@@ -75,7 +75,7 @@ pub scan_length_fits : (sub : SubText) (cmd : CmdText) → IsSoundSub sub → (1
 scan_length_fits sub cmd ok = let l = ok.list.low in (omega arith, omega arith)
 
 -- the limits of a scan-begin argument, whose period holds so much
-abbrev pub begin_limits : SubText → CmdText → ℕ → Limits
+abbrev pub begin_limits : SubText → CmdText → ℕ → ArgLimits
 begin_limits sub cmd held =
     if cmd.scan_begin.src == source.timer then begin sub (scan_length sub cmd) held
     else (if cmd.scan_begin.src == source.ext then line_limits sub else exactly 0)

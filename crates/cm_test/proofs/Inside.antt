@@ -6,7 +6,7 @@ use Rattle.cm_board.specs.Board.{SubText, IsSoundSub, HasLine, line_of}
 use Rattle.cm_base.specs.Source as source
 use Rattle.cm_cmd.specs.Command.{CmdText}
 use Rattle.cm_cmd.specs.declared.command.Trig.{Trig}
-use Rattle.cm_test.specs.declared.limits.Limits.{Limits}
+use Rattle.cm_test.specs.declared.limits.ArgLimits.{ArgLimits}
 use Rattle.cm_test.specs.Law.{IsInside, NamesLine, PassedIsInside}
 use Rattle.cm_test.specs.Questions.{same_triggers, has_sources, is_narrow}
 use Rattle.cm_test.specs.Steps.{narrowed, narrowed_to, repaired, limited, moved, exactly, line_limits, start_limits, scan_begin_limits, convert_limits, stop_limits, scan_length, held_time}
@@ -17,18 +17,18 @@ use Rattle.cm_test.proofs.Adjusted.{fits_times, held_time_fits, keeps_allowed, l
 use Rattle.cm_test.proofs.Moved.{limited_stays}
 
 -- limits that are not empty
-abbrev HasOrder : Limits → Type 0
+abbrev HasOrder : ArgLimits → Type 0
 HasOrder l = l.low ≤ l.high
 
 line_order : (sub : SubText) (line : Bool) → HasOrder (if line then line_limits sub else exactly 0)
 line_order sub true = omega arith
 line_order sub false = omega arith
 
-other_order : (sub : SubText) (other line : Bool) (l : Limits) → (other ≡ true → HasOrder l) → HasOrder (if other then l else (if line then line_limits sub else exactly 0))
+other_order : (sub : SubText) (other line : Bool) (l : ArgLimits) → (other ≡ true → HasOrder l) → HasOrder (if other then l else (if line then line_limits sub else exactly 0))
 other_order sub true line l h = h refl
 other_order sub false line l h = line_order sub line
 
-inside : (sub : SubText) (l : Limits) (t : Trig) → HasOrder l → moved sub l t ≡ t → IsInside sub l t
+inside : (sub : SubText) (l : ArgLimits) (t : Trig) → HasOrder l → moved sub l t ≡ t → IsInside sub l t
 inside sub l t h e = let i = in_limits l (limited sub t) h (limited_stays sub l t e) in record { low = i.0; high = i.1 }
 
 -- a line that the mask allows is there
@@ -39,11 +39,11 @@ below_lines : (lines a : ℕ) → 1 ≤ lines → a ≤ lines - 1 → a < lines
 below_lines lines a h k = omega arith
 
 -- an external trigger within the limits of a line names one
-names : (sub : SubText) (mask : ℕ) (l : Limits) (t : Trig) → HasLine sub.lines mask → narrowed_to mask t ≡ t → (t.src ≡ source.ext → l ≡ line_limits sub) → IsInside sub l t → NamesLine sub t
+names : (sub : SubText) (mask : ℕ) (l : ArgLimits) (t : Trig) → HasLine sub.lines mask → narrowed_to mask t ≡ t → (t.src ≡ source.ext → l ≡ line_limits sub) → IsInside sub l t → NamesLine sub t
 names sub mask l t line e lines i is =
     let high : limited sub t ≤ l.high = i.high in
     let number : limited sub t ≡ line_of sub t.arg = cond-true (t.src == source.ext) _ _ (eq-eqb t.src source.ext is) in
-    let most = ap (λ (l : Limits). l.high) (lines is) in
+    let most = ap (λ (l : ArgLimits). l.high) (lines is) in
     below_lines sub.lines (line_of sub t.arg) (has_line sub mask t line e is) (omega (arith, high, number, most))
 
 -- the limits of a period are not empty, nor are those of a conversion time

@@ -14,7 +14,7 @@ use Rattle.cm_base.specs.Source as source
 use Rattle.cm_cmd.specs.Command.{CmdText}
 use Rattle.cm_cmd.specs.Entry.{chan, range}
 use Rattle.cm_cmd.specs.declared.command.Trig.{Trig}
-use Rattle.cm_test.specs.declared.limits.Limits.{Limits}
+use Rattle.cm_test.specs.declared.limits.ArgLimits.{ArgLimits}
 use Rattle.cm_test.specs.Law.{AreInside}
 use Rattle.cm_test.specs.Passed.{IsOneOf, IsEntry, PassedIsTaken}
 use Rattle.cm_test.specs.Questions.{same_triggers, has_sources, is_narrow, is_compatible, is_within, is_rounded, is_one_bit, are_single, is_endless}
@@ -197,7 +197,7 @@ period_low : (sub : SubText) (cmd : CmdText) → AreInside sub cmd → cmd.scan_
     (sub.scan_min ≤ cmd.scan_begin.arg) × (sub.least_scan.per_entry * scan_length sub cmd ≤ cmd.scan_begin.arg)
 period_low sub cmd i is =
     above_all sub.scan_min (sub.least_scan.per_entry * scan_length sub cmd) (held_time sub cmd) (scan_begin_limits sub cmd).low (limited sub cmd.scan_begin) cmd.scan_begin.arg i.scan_begin.low
-    (ap (λ (l : Limits). l.low) (cond-true (cmd.scan_begin.src == source.timer) _ _ (eq-eqb cmd.scan_begin.src source.timer is))) (whole sub cmd.scan_begin source.timer refl is)
+    (ap (λ (l : ArgLimits). l.low) (cond-true (cmd.scan_begin.src == source.timer) _ _ (eq-eqb cmd.scan_begin.src source.timer is))) (whole sub cmd.scan_begin source.timer refl is)
 
 period : (sub : SubText) (cmd : CmdText) → IsSoundSub sub → AreInside sub cmd → cmd.scan_begin.src ≡ source.timer → 1 ≤ cmd.scan_begin.arg
 period sub cmd ok i is = timed_low sub.scan_min cmd.scan_begin.arg ok.scan.some (period_low sub cmd i is).0

@@ -10,7 +10,7 @@ use cm_cmd::command::{Cmd, Trig};
 
 /// The least and the greatest value of a trigger's argument.
 #[derive(Clone, Copy, Debug, PartialEq, Eq)]
-pub struct Limits {
+pub struct ArgLimits {
     pub low: u32,
     pub high: u32,
 }
@@ -35,22 +35,22 @@ pub(crate) fn repair(sub: &Sub, cmd: &mut Cmd) -> bool
     start && scan_begin && convert && scan_end && stop
 }
 
-impl Limits {
+impl ArgLimits {
     // One value and no other.
-    fn exactly(value: u32) -> Limits
+    fn exactly(value: u32) -> ArgLimits
         ensures { result ≡ spec.exactly value }
     {
-        Limits {
+        ArgLimits {
             low: value,
             high: value,
         }
     }
 
     // The external lines, counted from 0.
-    fn lines(sub: &Sub) -> Limits
+    fn lines(sub: &Sub) -> ArgLimits
         ensures { result ≡ spec.line_limits sub.now }
     {
-        Limits {
+        ArgLimits {
             low: 0,
             high: sub.lines.saturating_sub(1),
         }
@@ -90,26 +90,26 @@ fn put(trigger: &mut Trig, arg: u32) -> bool
     *trigger == old
 }
 
-fn start_limits(sub: &Sub, cmd: &Cmd) -> Limits
+fn start_limits(sub: &Sub, cmd: &Cmd) -> ArgLimits
     ensures { result ≡ spec.start_limits sub.now cmd.now }
 {
     match cmd.start.src {
-        EXT => Limits::lines(sub),
-        _ => Limits::exactly(0),
+        EXT => ArgLimits::lines(sub),
+        _ => ArgLimits::exactly(0),
     }
 }
 
-fn scan_begin_limits(sub: &Sub, cmd: &Cmd) -> Limits
+fn scan_begin_limits(sub: &Sub, cmd: &Cmd) -> ArgLimits
     requires { length cmd.now.list < 2 ^ 32 }
     ensures { result ≡ spec.scan_begin_limits sub.now cmd.now }
 {
     match cmd.scan_begin.src {
-        TIMER => Limits {
+        TIMER => ArgLimits {
             low: least_period(sub, cmd).max(held_time(sub, cmd)),
             high: sub.scan_max,
         },
-        EXT => Limits::lines(sub),
-        _ => Limits::exactly(0),
+        EXT => ArgLimits::lines(sub),
+        _ => ArgLimits::exactly(0),
     }
 }
 
@@ -140,17 +140,17 @@ fn held_time(sub: &Sub, cmd: &Cmd) -> u32
     }
 }
 
-fn convert_limits(sub: &Sub, cmd: &Cmd) -> Limits
+fn convert_limits(sub: &Sub, cmd: &Cmd) -> ArgLimits
     requires { length cmd.now.list < 2 ^ 32 }
     ensures { result ≡ spec.convert_limits sub.now cmd.now }
 {
     match cmd.convert.src {
-        TIMER => Limits {
+        TIMER => ArgLimits {
             low: sub.conv_min,
             high: slowest_conversion(sub, cmd),
         },
-        EXT => Limits::lines(sub),
-        _ => Limits::exactly(0),
+        EXT => ArgLimits::lines(sub),
+        _ => ArgLimits::exactly(0),
     }
 }
 
@@ -179,15 +179,15 @@ pub(crate) fn scan_length(sub: &Sub, cmd: &Cmd) -> u32
     length.min(sub.list_max).max(1)
 }
 
-fn stop_limits(sub: &Sub, cmd: &Cmd) -> Limits
+fn stop_limits(sub: &Sub, cmd: &Cmd) -> ArgLimits
     ensures { result ≡ spec.stop_limits sub.now cmd.now }
 {
     match cmd.stop.src {
-        COUNT => Limits {
+        COUNT => ArgLimits {
             low: 1,
             high: sub.scans_max,
         },
-        EXT => Limits::lines(sub),
-        _ => Limits::exactly(0),
+        EXT => ArgLimits::lines(sub),
+        _ => ArgLimits::exactly(0),
     }
 }

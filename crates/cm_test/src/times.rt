@@ -5,7 +5,7 @@ ghost use Rattle.cm_board.specs.declared.board.Way.TheVariants as ways;
 ghost use Rattle.cm_test.specs.Steps as spec;
 ghost use Rattle.cm_test.specs.Questions.{same_trigger, is_narrow, is_within, is_rounded};
 
-use crate::limits::{Limits, least_period, scan_length};
+use crate::limits::{ArgLimits, least_period, scan_length};
 use cm_base::source::TIMER;
 use cm_board::board::{Sub, Way};
 use cm_board::versions::is_wide;
@@ -50,11 +50,11 @@ fn round_times(sub: &Sub, cmd: &mut Cmd)
     ensures fits { spec.up sub.now.timers (spec.scan_time sub.now cmd.new) < 2 ^ 32 }
 {
     let way = way(sub, cmd.flags);
-    let scans = Limits {
+    let scans = ArgLimits {
         low: least_period(sub, cmd),
         high: sub.scan_max,
     };
-    let conversions = Limits {
+    let conversions = ArgLimits {
         low: sub.conv_min,
         high: sub.conv_max,
     };
@@ -75,7 +75,7 @@ fn raise(sub: &Sub, cmd: &mut Cmd)
 }
 
 // A timer's argument rounded, and moved to the nearest time that can be made in the limits.
-fn rounded_timer(sub: &Sub, way: Way, limits: Limits, trigger: Trig) -> Trig
+fn rounded_timer(sub: &Sub, way: Way, limits: ArgLimits, trigger: Trig) -> Trig
     requires { IsTrue (trigger.src == source.timer) → spec.up sub.now.timers limits.low ≤ limits.high }
     ensures { result ≡ spec.rounded_timer sub.now.rounding.half_down way sub.now.timers (spec.possible sub.now.timers limits.low limits.high) trigger }
 {

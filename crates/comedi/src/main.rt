@@ -5,14 +5,14 @@ use cm_base::gate::OpenGate;
 use cm_base::standard::{StdSink, StdSource};
 use cm_cli::asked::words_after_name;
 use cm_cli::comedi::comedi;
-use cm_cli::status::{Status, number_of};
+use cm_cli::status::{Status, exit_status};
 use std::process::ExitCode;
 use std::sync::Wait;
 use std::thread::Threads;
 use std::{env, io};
 
 fn main(rt: HostRuntime) -> ExitCode {
-    ExitCode::from(number_of(run(&rt, &rt)))
+    ExitCode::from(exit_status(run(&rt, &rt)))
 }
 
 fn run<R: Threads + Wait + Sync>(rt: &HostRuntime, threads: &R) -> Status {

@@ -1,14 +1,14 @@
 // The program: a dialogue over the process's own input and output.
 #![tactic(auto)]
 
-use cm_serve::serving::{Served, number_of, serve};
+use cm_serve::serving::{Served, exit_status, serve};
 use cm_serve::standard::StdClient;
 use std::io;
 use std::process::ExitCode;
 use std::sync::Wait;
 
 fn main(rt: HostRuntime) -> ExitCode {
-    ExitCode::from(number_of(run(&rt, &rt)))
+    ExitCode::from(exit_status(run(&rt, &rt)))
 }
 
 fn run<R: Wait>(rt: &HostRuntime, waiting: &R) -> Served {

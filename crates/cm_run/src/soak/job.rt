@@ -19,7 +19,7 @@ use cm_cmd::command::{Cmd, Trig};
 use cm_cmd::entry::pack;
 use cm_job::job::RunJob;
 use cm_job::line::{Access, Mode, RunLine};
-use cm_signal::said::Said;
+use cm_signal::said::SignalLine;
 use cm_signal::signals::Signals;
 use cm_signal::wave::{Wave, WaveAt};
 use cm_test::test::{Accepted, accept};
@@ -191,7 +191,7 @@ fn put_wave(signals: &mut Signals, sub: u32) -> Result<(), AllocError>
     requires { list_any (is_at sub 0) signals.old.waves ≡ false }
     ensures { OnOk result (signals.new ≡ record signals.old { waves = signals.old.waves ++ spec.soak_wave sub ∷ [] }) }
 {
-    signals.put(Said::Wave(WaveAt {
+    signals.put(SignalLine::Wave(WaveAt {
         sub,
         chan: 0,
         wave: Wave::Saw(-10_000_000, 10_000_000, 4_096_000),

@@ -1,5 +1,5 @@
 use Rattle.std.proofs.Common.{◌≡◌, false}
-use Rattle.cm_load.proofs.reading.read_all.Given as goal
+use Rattle.cm_load.proofs.reading.compare_all.Given as goal
 
 abbrev pub invariant-loop : goal.invariant-loop
 invariant-loop g l = record {

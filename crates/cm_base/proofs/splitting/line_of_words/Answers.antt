@@ -1,7 +1,7 @@
 use Rattle.std.proofs.Common.{◌≡◌, false, sym, ap, ◌∙◌, ◌++◌, List, ℕ, map}
 use Rattle.cm_base.specs.Lines.{is_bad, words_of}
 use Rattle.cm_base.proofs.CleanWords.{clean_words}
-use Rattle.cm_base.proofs.splitting.read_line.Goals as goal
+use Rattle.cm_base.proofs.splitting.line_of_words.Goals as goal
 
 pub invariant_of-result-else-branch : goal.invariant_of-result-else-branch
 invariant_of-result-else-branch c =
