@@ -2,7 +2,7 @@
 use Rattle.std.proofs.Common.{◌+◌, ◌≡◌, ℕ, suc, ap₂, ◌||◌, ◌-◌, ◌%◌, ◌<◌, Bool, true, false, not, ◌&&◌, List, [], ◌∷◌, length, refl, sym, ap, subst, ◌∙◌, min, nat_le, nat_lt, ◌==◌, arith}
 use Rattle.std.specs.Prelude.{codes, int_lt}
 use Rattle.std.specs.List.{list_all}
-use Rattle.std.proofs.lemmas.Bool.{eqb-true, le-leb, leb-true, ltb-true}
+use Rattle.std.proofs.lemmas.Bool.{eqb-true, le-leb, ltb-true}
 use Rattle.cm_base.specs.Words.{is_int}
 use Rattle.cm_base.proofs.Bools.{and_true, both}
 use Rattle.cm_board.proofs.Munging.{said_fits}

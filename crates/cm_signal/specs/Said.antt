@@ -1,5 +1,5 @@
 -- The limits that the words of a line keep.
-use Rattle.std.specs.Prelude.{ℕ, ◌<◌, ◌≤◌, ◌^◌, length}
+use Rattle.std.specs.Prelude.{ℕ, ◌<◌, ◌≤◌}
 use Rattle.cm_signal.specs.Wave.{HasPeriod}
 use Rattle.cm_signal.specs.declared.said.SignalLine.{SignalLine}
 use Rattle.cm_signal.specs.declared.said.SignalLine.TheVariants as said

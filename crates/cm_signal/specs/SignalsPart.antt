@@ -1,19 +1,18 @@
 -- The signals part of a text.
-use Rattle.std.specs.Prelude.{ℕ, ℤ, zero, suc, ◌+◌, Bool, true, ◌&&◌, nat_le, nat_lt, int_le, List, [], ◌∷◌, ◌++◌}
-use Rattle.std.specs.Prelude.{length, drop, replicate, slice_get, slice_set, Option, Some, None, codes, Result, Ok, Err}
-use Rattle.std.specs.Prelude.{if◌then◌else◌}
+use Rattle.std.specs.Prelude.{ℕ, zero, suc, ◌+◌, Bool, true, ◌&&◌, nat_le, nat_lt, List, [], ◌∷◌, ◌++◌, length}
+use Rattle.std.specs.Prelude.{drop, replicate, slice_set, codes, Result, Ok, Err, if◌then◌else◌}
 use Rattle.std.specs.List.{before_first, list_all, list_any, position_or_len}
 use Rattle.cm_base.specs.Lines.{LineText}
 use Rattle.cm_base.specs.Numbers.{number_of}
 use Rattle.cm_base.specs.Parts.{begins, fixed}
 use Rattle.cm_base.specs.Reading.{◌>>=◌, read_on}
 use Rattle.cm_base.specs.Words.{Form, alone, each_word, four_words, keyword, limited, number_below, number_in, one}
-use Rattle.cm_base.specs.Words.{one_and_more, one_word, or_fault, signed_number, three_and_more, three_words, values}
+use Rattle.cm_base.specs.Words.{one_and_more, or_fault, three_words}
 use Rattle.cm_base.specs.declared.faults.Fault.{Fault}
-use Rattle.cm_base.specs.declared.faults.Fault.TheVariants.{Bad, BadLine, BadNumber, Double, Limit, Unknown}
+use Rattle.cm_base.specs.declared.faults.Fault.TheVariants.{Bad, BadLine, BadNumber, Double, Limit}
 use Rattle.cm_base.specs.declared.faults.Refused.{Refused}
-use Rattle.cm_board.specs.Board.{BoardText, SubText, has_levels}
-use Rattle.cm_board.specs.Versions.{is_wide, most_in, most_lines}
+use Rattle.cm_board.specs.Board.{BoardText, SubText}
+use Rattle.cm_board.specs.Versions.{most_in, most_lines}
 use Rattle.cm_signal.specs.Channel.{period_word}
 use Rattle.cm_signal.specs.Signals.{SignalsText, edge_count, is_at, recorded_count, times_at}
 use Rattle.cm_signal.specs.Wave.{is_fine, recorded_in, wave_words}

@@ -1,5 +1,5 @@
 // The line of a word that is put out.
-ghost use Rattle.std.specs.Prelude.{◌≡◌, ◌+◌, ◌≤◌, ◌++◌, [], codes, length, OnOk};
+ghost use Rattle.std.specs.Prelude.{◌≡◌, ◌≤◌, ◌++◌, [], codes, length, OnOk};
 ghost use Rattle.std.specs.Fmt.{decimal};
 ghost use Rattle.cm_text.specs.Outputs.{output_text};
 
@@ -25,16 +25,6 @@ pub fn put_output(
     line.append_to(text)
 }
 
-// Puts a number of 32 bits before a short text.
-#[inline(always)]
-fn put_small(line: &mut Short, value: u32)
-    requires room { length line.old + 20 ≤ 64 }
-    ensures text { line.new ≡ decimal value ++ line.old }
-    ensures length { length line.new ≤ length line.old + 10 }
-{
-    line.number(u64::from(value));
-}
-
 // The end of the line: the list index and the word.
 #[inline(always)]
 fn put_word(line: &mut Short, index: u32, word: u32)
@@ -43,9 +33,9 @@ fn put_word(line: &mut Short, index: u32, word: u32)
     ensures length { length line.new ≤ 22 }
 {
     line.byte(b'\n');
-    put_small(line, word);
+    line.small(word);
     line.byte(b' ');
-    put_small(line, index);
+    line.small(index);
 }
 
 // The start of the line: what is put out, and of which subdevice.
@@ -55,7 +45,7 @@ fn put_sub(line: &mut Short, sub: u32)
     ensures { line.new ≡ codes "out " ++ decimal sub ++ codes " " ++ line.old }
 {
     line.byte(b' ');
-    put_small(line, sub);
+    line.small(sub);
     line.byte(b' ');
     line.byte(b't');
     line.byte(b'u');
