@@ -10,7 +10,7 @@ use Rattle.cm_fifo.specs.Handed.{last_time, time_or}
 use Rattle.cm_replay.specs.Awaiting.{await_time, deciding, is_served, last_after, quiet_after, quiet_time}
 use Rattle.cm_replay.specs.Running.{Running}
 use Rattle.cm_replay.specs.ToCome.{ToCome}
-use Rattle.cm_replay.specs.declared.ending.End.{End}
+use Rattle.cm_text.specs.declared.end.End.{End}
 use Rattle.cm_replay.proofs.Ahead.{first-left}
 use Rattle.cm_replay.proofs.Takings.{take-more}
 

@@ -17,8 +17,8 @@ use Rattle.cm_replay.specs.CommandView.{IsInStep}
 use Rattle.cm_replay.specs.Filling.{moving, filled}
 use Rattle.cm_replay.specs.ToCome.{ToCome, end_shown, last_end_shown, left_after}
 use Rattle.cm_expand.specs.declared.conv.Conv.{Conv}
-use Rattle.cm_replay.specs.declared.ending.End.{End}
-use Rattle.cm_replay.specs.declared.ending.End.TheVariants.{Fifo}
+use Rattle.cm_text.specs.declared.end.End.{End}
+use Rattle.cm_text.specs.declared.end.End.TheVariants.{Fifo}
 use Rattle.cm_replay.proofs.Samples.{length-munged_from}
 use Rattle.cm_expand.proofs.Come.{NeverFalls-drop, come-drop, come-first, come-le, come-later, come-later_first, come-none}
 

@@ -13,8 +13,8 @@ use Rattle.cm_replay.specs.Texts.{answer_text}
 use Rattle.std.specs.Fmt.{decimal}
 use Rattle.cm_replay.specs.ToCome.{ToCome, end_shown}
 use Rattle.cm_replay.specs.declared.command.Command.TheInside.{Inside}
-use Rattle.cm_replay.specs.declared.ending.End.{End}
-use Rattle.cm_replay.specs.declared.ending.End.TheVariants.{Overrun, Underrun}
+use Rattle.cm_text.specs.declared.end.End.{End}
+use Rattle.cm_text.specs.declared.end.End.TheVariants.{Overrun, Underrun}
 use Rattle.cm_replay.proofs.Samples.{length-samples}
 use Rattle.cm_replay.proofs.Bringing.{end_shown-right, filled-in_step, length-held, take-held}
 

@@ -6,8 +6,8 @@ use Rattle.cm_base.proofs.Bools.{both}
 use Rattle.cm_replay.specs.Law.{IsDue, IsDueIfAny}
 use Rattle.cm_replay.specs.Timely.{IsTimely}
 use Rattle.cm_replay.specs.Running.{Schedule, arrived, end_by, has_stopped, is_out, lost_end, some_if}
-use Rattle.cm_replay.specs.declared.ending.End.{End}
-use Rattle.cm_replay.specs.declared.ending.End.TheVariants.{Done, Dry, Overrun, Underrun}
+use Rattle.cm_text.specs.declared.end.End.{End}
+use Rattle.cm_text.specs.declared.end.End.TheVariants.{Done, Dry, Overrun, Underrun}
 use Rattle.cm_expand.proofs.Come.{come-le, come-later}
 
 -- an end that comes under a test is due where the test shows it

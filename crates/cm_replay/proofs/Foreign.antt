@@ -18,13 +18,13 @@ use Rattle.cm_session.specs.declared.op.SessionLine.{SessionLine}
 use Rattle.cm_replay.specs.Answers.{Ended, Reply, idle, unless_ended}
 use Rattle.cm_replay.specs.Calling.{insn_reply, trigger_reply}
 use Rattle.cm_replay.specs.Forms.{form, kind_checks, line_checks, reader_checks, writer_checks}
-use Rattle.cm_replay.specs.Reading.{look_reply, map_reply, read_reply, release_reply, reported_end}
+use Rattle.cm_replay.specs.Reading.{look_reply, map_reply, on_running, read_reply, release_reply, reported_end}
 use Rattle.cm_replay.specs.Refusals.{ForeignLaw, IsForeign}
 use Rattle.cm_replay.specs.Running.{Running}
 use Rattle.cm_replay.specs.Session.{Outcome, act, act_on, brought_all, closed_state, here, left_by, left_devices, unless_refused, with_reply}
 use Rattle.cm_replay.specs.State.{Device, Here, State, claim_of, device_at, idle_device, is_foreign, is_out_here}
 use Rattle.cm_replay.specs.Writing.{fill_reply, mark_reply, write_reply}
-use Rattle.cm_replay.specs.declared.ending.End.{End}
+use Rattle.cm_text.specs.declared.end.End.{End}
 use Rattle.cm_board.specs.Board.{no_sub}
 use Rattle.cm_replay.proofs.Checks.{passes, passes-both, reached-within}
 
@@ -79,13 +79,9 @@ ended-stays h e reply same =
     let k = kept-stays h reply same in
     record { apart = apart-ended h e reply k.apart; held = λ within. held-ended h e reply within (k.held within) }
 
-reads : (n : ℕ) (h : Here) (c : Option Running) → Stays h (read_reply n h c)
-reads n h None = kept-stays h _ refl
-reads n h (Some c) = ended-stays h (reported_end c) _ refl
-
-maps : (n : ℕ) (h : Here) (c : Option Running) → Stays h (map_reply n h c)
-maps n h None = kept-stays h _ refl
-maps n h (Some c) = ended-stays h (reported_end c) _ refl
+served : (h : Here) (reply : Running → Reply) → ((c : Running) → (reply c).files ≡ h.files) → (c : Option Running) → Stays h (on_running h c reply)
+served h reply same None = kept-stays h _ refl
+served h reply same (Some c) = ended-stays h (reported_end c) (reply c) (same c)
 
 looks : (n : ℕ) (h : Here) (c : Option Running) → Stays h (look_reply n h c)
 looks n h None = kept-stays h _ refl
@@ -94,14 +90,6 @@ looks n h (Some c) = kept-stays h _ refl
 releases : (n : ℕ) (h : Here) (c : Option Running) → Stays h (release_reply n h c)
 releases n h None = kept-stays h _ refl
 releases n h (Some c) = kept-stays h _ refl
-
-writes : (words : List ℕ) (h : Here) (c : Option Running) → Stays h (write_reply words h c)
-writes words h None = kept-stays h _ refl
-writes words h (Some c) = ended-stays h (reported_end c) _ refl
-
-fills : (words : List ℕ) (h : Here) (c : Option Running) → Stays h (fill_reply words h c)
-fills words h None = kept-stays h _ refl
-fills words h (Some c) = ended-stays h (reported_end c) _ refl
 
 marks : (n : ℕ) (h : Here) (c : Option Running) → Stays h (mark_reply n h c)
 marks n h None = kept-stays h _ refl
@@ -171,13 +159,13 @@ form-safe (ops.Unlock sub) h on passed =
     by_checks h _ (λ i. apart-claim h _ i) (λ g is n. no_any g (claim_of h).runner is p.0) (λ g is n. no_other h.file g (claim_of h).holder is n (passes Access (is_other h.file (claim_of h).holder) [] p.1).0)
 form-safe (ops.Cmd cmd) h on passed = by_use h _ (apart-if h ((tested h.sub cmd).0 == 0) _ _ (λ i. apart-claim h _ i) (λ i n. refl)) (passes-both (use_checks h.file (claim_of h)) _ passed).0
 form-safe (ops.Cancel sub) h on passed = by_cancel h _ (λ i. apart-claim h _ i) passed
-form-safe (ops.Read sub n) h on passed = by_stays h _ (reads n h h.device.running) (reader h (passes-both (reader_checks h) _ passed).0)
-form-safe (ops.Map sub n) h on passed = by_stays h _ (maps n h h.device.running) (reader h passed)
+form-safe (ops.Read sub n) h on passed = by_stays h _ (served h (read_reply n h) (λ c. refl) h.device.running) (reader h (passes-both (reader_checks h) _ passed).0)
+form-safe (ops.Map sub n) h on passed = by_stays h _ (served h (map_reply n h) (λ c. refl) h.device.running) (reader h passed)
 form-safe (ops.Look sub i) h on passed = by_stays h _ (looks i h h.device.running) (reader h (passes-both (reader_checks h) _ passed).0)
 form-safe (ops.Release sub k) h on passed = by_stays h _ (releases k h h.device.running) (reader h (passes-both (reader_checks h) _ passed).0)
 form-safe (ops.Contents sub) h on passed = by_stays h _ (kept-stays h _ refl) (passes Access (is_foreign h) [] passed).0
-form-safe (ops.Write sub words) h on passed = by_stays h _ (writes words h h.device.running) (writer h (passes-both (writer_checks h) _ passed).0)
-form-safe (ops.Fill sub words) h on passed = by_stays h _ (fills words h h.device.running) (writer h (passes-both (writer_checks h) _ passed).0)
+form-safe (ops.Write sub words) h on passed = by_stays h _ (served h (write_reply words h) (λ c. refl) h.device.running) (writer h (passes-both (writer_checks h) _ passed).0)
+form-safe (ops.Fill sub words) h on passed = by_stays h _ (served h (fill_reply words h) (λ c. refl) h.device.running) (writer h (passes-both (writer_checks h) _ passed).0)
 form-safe (ops.Mark sub k) h on passed = by_stays h _ (marks k h h.device.running) (writer h (passes-both (writer_checks h) _ passed).0)
 form-safe (ops.InsnRead sub entry n) h on passed = by_use h _ (instructs true h _).apart passed
 form-safe (ops.InsnWrite sub entry words) h on passed = by_use h _ (instructs false h _).apart passed

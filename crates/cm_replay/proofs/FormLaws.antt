@@ -17,13 +17,13 @@ use Rattle.cm_replay.specs.Answers.{Reply, unless_ended}
 use Rattle.cm_replay.specs.Calling.{cmd_reply, insn_reply, trigger_reply, waits}
 use Rattle.cm_replay.specs.Forms.{form, reader_checks, writer_checks}
 use Rattle.cm_replay.specs.Law.{History, Keeps, Spot, no_history}
-use Rattle.cm_replay.specs.Reading.{look_reply, map_reply, mapped, read_reply, release_reply, reported_end}
+use Rattle.cm_replay.specs.Reading.{look_reply, map_reply, mapped, on_running, read_reply, release_reply, reported_end}
 use Rattle.cm_replay.specs.Running.{Running, Schedule, is_out}
 use Rattle.cm_replay.specs.Schedules.{schedule_of, triggered}
 use Rattle.cm_replay.specs.State.{Here, claim_of, is_out_here, plan_here}
 use Rattle.cm_replay.specs.Timely.{IsTimely}
 use Rattle.cm_replay.specs.Writing.{fill_reply, mark_reply, unmarked, write_reply}
-use Rattle.cm_replay.specs.declared.ending.End.{End}
+use Rattle.cm_text.specs.declared.end.End.{End}
 use Rattle.cm_replay.proofs.Checks.{le-false, lt-false, passes, passes-both}
 use Rattle.cm_replay.proofs.Laws.{IsWell, ended-drained, ended-out, ended-well, filled-well, input, looked-well, mapped-well, mark-keeps, released-well, started-keeps, taken-well, trigger-keeps, written-well}
 
@@ -52,14 +52,14 @@ or-ended h hist c reply drained keeps well (Some f) said = let d = drained f sai
 direction : (h : Here) (hist : History) (c : Running) (b : Bool) → is_out_here h ≡ b → Keeps (spot h) h.time hist (Some c) → is_out c.schedule ≡ b
 direction h hist c b e keeps = ap (λ (sub : SubText). is_output sub.kind) keeps.1.0 ∙ e
 
-reads : (n : ℕ) (h : Here) (hist : History) (running : Option Running) → is_out_here h ≡ false → mapped running ≡ 0 → Keeps (spot h) h.time hist running → running ≡ h.device.running → IsWellHere h hist running (read_reply n h running)
+reads : (n : ℕ) (h : Here) (hist : History) (running : Option Running) → is_out_here h ≡ false → mapped running ≡ 0 → Keeps (spot h) h.time hist running → running ≡ h.device.running → IsWellHere h hist running (on_running h running (read_reply n h))
 reads n h hist None inn unmapped keeps same = (tt, subst (Keeps (spot h) h.time hist) same keeps)
 reads n h hist (Some c) inn unmapped keeps same =
     let i = direction h hist c false inn keeps in
     let p = input (is_out c.schedule) h.time c i keeps.0.places in
     or-ended h hist c _ (drained-in c i) keeps (taken-well (spot h) n h.time hist c i (omega (arith, p.r_ra, unmapped)) keeps) (reported_end c) refl
 
-maps : (n : ℕ) (h : Here) (hist : History) (running : Option Running) → is_out_here h ≡ false → Keeps (spot h) h.time hist running → running ≡ h.device.running → IsWellHere h hist running (map_reply n h running)
+maps : (n : ℕ) (h : Here) (hist : History) (running : Option Running) → is_out_here h ≡ false → Keeps (spot h) h.time hist running → running ≡ h.device.running → IsWellHere h hist running (on_running h running (map_reply n h))
 maps n h hist None inn keeps same = (tt, subst (Keeps (spot h) h.time hist) same keeps)
 maps n h hist (Some c) inn keeps same =
     let i = direction h hist c false inn keeps in
@@ -75,13 +75,13 @@ releases : (k : ℕ) (h : Here) (hist : History) (running : Option Running) → 
 releases k h hist None inn within keeps same = (tt, subst (Keeps (spot h) h.time _) same tt)
 releases k h hist (Some c) inn within keeps same = released-well (spot h) k h.time hist c (direction h hist c false inn keeps) within keeps
 
-writes : (words : List ℕ) (h : Here) (hist : History) (running : Option Running) → is_out_here h ≡ true → Keeps (spot h) h.time hist running → running ≡ h.device.running → IsWellHere h hist running (write_reply words h running)
+writes : (words : List ℕ) (h : Here) (hist : History) (running : Option Running) → is_out_here h ≡ true → Keeps (spot h) h.time hist running → running ≡ h.device.running → IsWellHere h hist running (on_running h running (write_reply words h))
 writes words h hist None out keeps same = (tt, subst (Keeps (spot h) h.time hist) same keeps)
 writes words h hist (Some c) out keeps same =
     let o = direction h hist c true out keeps in
     or-ended h hist c _ (drained-out c o) keeps (written-well (spot h) words h.time hist c o keeps) (reported_end c) refl
 
-fills : (words : List ℕ) (h : Here) (hist : History) (running : Option Running) → is_out_here h ≡ true → Keeps (spot h) h.time hist running → running ≡ h.device.running → IsWellHere h hist running (fill_reply words h running)
+fills : (words : List ℕ) (h : Here) (hist : History) (running : Option Running) → is_out_here h ≡ true → Keeps (spot h) h.time hist running → running ≡ h.device.running → IsWellHere h hist running (on_running h running (fill_reply words h))
 fills words h hist None out keeps same = (tt, subst (Keeps (spot h) h.time hist) same keeps)
 fills words h hist (Some c) out keeps same =
     let o = direction h hist c true out keeps in

@@ -8,16 +8,17 @@ use Rattle.cm_sub.specs.Checks.{first_refusal, refuse}
 use Rattle.cm_sub.specs.Files.{FilesText}
 use Rattle.cm_sub.specs.declared.errno.Errno.{Errno}
 use Rattle.cm_sub.specs.declared.errno.Errno.TheVariants.{Inval}
-use Rattle.cm_replay.specs.Answers.{Refused, Reply, kept}
+use Rattle.cm_replay.specs.Answers.{Answer, Ended, Refused, Reply, idle, kept, unless_ended}
 use Rattle.cm_replay.specs.Forms.{Form, reader_checks}
-use Rattle.cm_replay.specs.Reading.{mapped}
-use Rattle.cm_replay.specs.Replies.{Replies, checked, unless_kept}
+use Rattle.cm_replay.specs.Reading.{mapped, on_running, reported_end}
+use Rattle.cm_replay.specs.Replies.{Replies, Tells, checked, unless_kept}
 use Rattle.cm_replay.specs.Law.{Spot}
 use Rattle.cm_replay.specs.Ready.{CanMove}
 use Rattle.cm_replay.specs.Running.{Running, is_out}
 use Rattle.cm_board.specs.Board.{SubText, is_output}
 use Rattle.cm_replay.specs.State.{Device, Here}
 use Rattle.cm_replay.specs.Texts.{answer_text}
+use Rattle.cm_text.specs.declared.end.End.{End}
 use Rattle.cm_replay.proofs.Checks.{passes, passes-both}
 
 -- where no check refuses, the reply is the form's
@@ -38,6 +39,13 @@ line-refused f h e r old new failed text =
 pub line-done : {T E : Type 0} (f : Form) (h : Here) (r : Result T E) (files : FilesText) (device : Device) (old new : List ℕ) → None ≡ first_refusal f.checks →
     OnOk r (Replies f.reply files device old new) → OnOk r (Replies (checked f h) files device old new)
 line-done f h r files device old new passed did = subst (λ (reply : Reply). OnOk r (Replies reply files device old new)) (sym (checked-ok f h (sym passed))) did
+
+-- where an end is reported, that is all that is done
+pub over-done : {T E : Type 0} (said : Answer → List ℕ) (h : Here) (running : Option Running) (c : Running) (e : End) (next : Running → Reply) (r : Result T E) (files : FilesText) (device : Device) (old new : List ℕ) →
+    running ≡ Some c → reported_end c ≡ Some e → OnOk r (Tells said (idle h (Ended e)) files device old new) → OnOk r (Tells said (on_running h running next) files device old new)
+over-done said h running c e next r files device old new runs ended did =
+    let is : on_running h running next ≡ idle h (Ended e) = ap (λ (o : Option Running). on_running h o next) runs ∙ ap (λ (x : Option End). unless_ended h x (next c)) ended in
+    subst (λ (reply : Reply). OnOk r (Tells said reply files device old new)) (sym is) did
 
 -- two lists of checks that pass
 pub both-pass : (xs ys : List (Option Errno)) → first_refusal xs ≡ None → first_refusal ys ≡ None → first_refusal (xs ++ ys) ≡ None

@@ -14,7 +14,7 @@ use Rattle.cm_replay.specs.Answers.{Answer, Ended, Filled, Looked, Mapped, Relea
 use Rattle.cm_replay.specs.Calling.{has_come, trigger_on, waits}
 use Rattle.cm_replay.specs.Reading.{map_on, mapping, read_on, reported_end, taken, taking}
 use Rattle.cm_replay.specs.Writing.{fill_on, mark_on, munged_within, taken_in, write_on}
-use Rattle.cm_replay.specs.declared.ending.End.{End}
+use Rattle.cm_text.specs.declared.end.End.{End}
 use Rattle.cm_expand.proofs.Come.{come-later}
 use Rattle.cm_replay.proofs.Ends.{arrived-le, end-due}
 use Rattle.cm_replay.proofs.Samples.{length-samples}

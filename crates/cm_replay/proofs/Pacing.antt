@@ -12,8 +12,8 @@ use Rattle.cm_replay.specs.Putting.{Moves, emptied, going, without}
 use Rattle.cm_replay.specs.Running.{Running, Schedule, arrived, due, end_by, is_out, munge_in, outputs, put_by, put_out, samples, started}
 use Rattle.cm_replay.specs.ToCome.{ToCome, all_to_come, end_shown, left_after}
 use Rattle.cm_replay.specs.declared.command.Command.TheInside.{Inside}
-use Rattle.cm_replay.specs.declared.ending.End.{End}
-use Rattle.cm_replay.specs.declared.ending.End.TheVariants.{Underrun}
+use Rattle.cm_text.specs.declared.end.End.{End}
+use Rattle.cm_text.specs.declared.end.End.TheVariants.{Underrun}
 use Rattle.cm_expand.proofs.Come.{come-drop}
 use Rattle.cm_replay.proofs.Bringing.{end_shown-right}
 use Rattle.cm_replay.proofs.Commands.{later, missed-output, paced}

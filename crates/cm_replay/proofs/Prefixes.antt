@@ -24,14 +24,14 @@ use Rattle.cm_replay.specs.Calling.{cmd_reply, insn_reply, trigger_on, trigger_r
 use Rattle.cm_replay.specs.Forms.{form, line_checks, named_sub}
 use Rattle.cm_replay.specs.Job.{setting_of}
 use Rattle.cm_replay.specs.Law.{EndsWell, History, IsDue, IsDueIfAny, IsPrefix, Keeps, PrefixLaw, ReadsPrefixes, Spot, no_history, reported_after, reported_of, served, spot_at}
-use Rattle.cm_replay.specs.Reading.{look_reply, map_reply, read_reply, release_reply, reported_end}
+use Rattle.cm_replay.specs.Reading.{look_reply, map_reply, on_running, read_reply, release_reply, reported_end}
 use Rattle.cm_replay.specs.Running.{Running, brought, is_out, moved_on, put_out, samples}
 use Rattle.cm_replay.specs.Schedules.{triggered}
 use Rattle.cm_replay.specs.Session.{Outcome, act, act_on, brought_all, brought_device, closed_state, here, with_reply}
 use Rattle.cm_replay.specs.State.{Device, Here, State, at_start, claim_of, device_at}
 use Rattle.cm_replay.specs.Writing.{fill_reply, mark_reply, write_reply}
-use Rattle.cm_replay.specs.declared.ending.End.{End}
-use Rattle.cm_replay.specs.declared.ending.End.TheVariants as ends
+use Rattle.cm_text.specs.declared.end.End.{End}
+use Rattle.cm_text.specs.declared.end.End.TheVariants as ends
 use Rattle.cm_replay.proofs.Checks.{passes, passes-both}
 use Rattle.cm_replay.proofs.Counts.{either-way}
 use Rattle.cm_replay.proofs.Laws.{ended-drained, ended-out, input, moves, moves-in, moves-out, served-in, stays, waits-early}
@@ -94,13 +94,10 @@ or-ended spot h hist reported c reply keeps prefix well (Some e) said =
     let d = reported-drained c e said in
     (end-well e reported c prefix d.0 (subst (λ o. IsDueIfAny o (served c) (length c.schedule.conversions)) d.1 keeps.0.end), tt)
 
-read-prefix : (spot : Spot) (n : ℕ) (h : Here) (hist : History) (reported : List ℕ) (running : Option Running) → Keeps spot h.time hist running → running ≡ h.device.running → IsPrefix reported running → ReadsWell reported running (read_reply n h running)
-read-prefix spot n h hist reported None keeps same prefix = (tt, subst (IsPrefix reported) same tt)
-read-prefix spot n h hist reported (Some c) keeps same prefix = or-ended spot h hist reported c _ keeps prefix (tt, λ inn. more-prefix reported c _ prefix inn) (reported_end c) refl
-
-map-prefix : (spot : Spot) (n : ℕ) (h : Here) (hist : History) (reported : List ℕ) (running : Option Running) → Keeps spot h.time hist running → running ≡ h.device.running → IsPrefix reported running → ReadsWell reported running (map_reply n h running)
-map-prefix spot n h hist reported None keeps same prefix = (tt, subst (IsPrefix reported) same tt)
-map-prefix spot n h hist reported (Some c) keeps same prefix = or-ended spot h hist reported c _ keeps prefix (tt, prefix) (reported_end c) refl
+served-prefix : (spot : Spot) (reply : Running → Reply) (h : Here) (hist : History) (reported : List ℕ) (running : Option Running) → ((c : Running) → IsPrefix reported (Some c) → ReadsWell reported (Some c) (reply c)) →
+    Keeps spot h.time hist running → running ≡ h.device.running → IsPrefix reported running → ReadsWell reported running (on_running h running reply)
+served-prefix spot reply h hist reported None well keeps same prefix = (tt, subst (IsPrefix reported) same tt)
+served-prefix spot reply h hist reported (Some c) well keeps same prefix = or-ended spot h hist reported c (reply c) keeps prefix (well c prefix) (reported_end c) refl
 
 look-prefix : (i : ℕ) (h : Here) (reported : List ℕ) (running : Option Running) → running ≡ h.device.running → IsPrefix reported running → ReadsWell reported running (look_reply i h running)
 look-prefix i h reported None same prefix = (tt, subst (IsPrefix reported) same tt)
@@ -109,14 +106,6 @@ look-prefix i h reported (Some c) same prefix = (tt, subst (IsPrefix reported) s
 release-prefix : (k : ℕ) (h : Here) (reported : List ℕ) (running : Option Running) → running ≡ h.device.running → IsPrefix reported running → ReadsWell reported running (release_reply k h running)
 release-prefix k h reported None same prefix = (tt, subst (IsPrefix reported) same tt)
 release-prefix k h reported (Some c) same prefix = (tt, λ inn. more-prefix reported c k prefix inn)
-
-write-prefix : (spot : Spot) (words : List ℕ) (h : Here) (hist : History) (reported : List ℕ) (running : Option Running) → Keeps spot h.time hist running → running ≡ h.device.running → IsPrefix reported running → ReadsWell reported running (write_reply words h running)
-write-prefix spot words h hist reported None keeps same prefix = (tt, subst (IsPrefix reported) same tt)
-write-prefix spot words h hist reported (Some c) keeps same prefix = or-ended spot h hist reported c _ keeps prefix (tt, prefix) (reported_end c) refl
-
-fill-prefix : (spot : Spot) (words : List ℕ) (h : Here) (hist : History) (reported : List ℕ) (running : Option Running) → Keeps spot h.time hist running → running ≡ h.device.running → IsPrefix reported running → ReadsWell reported running (fill_reply words h running)
-fill-prefix spot words h hist reported None keeps same prefix = (tt, subst (IsPrefix reported) same tt)
-fill-prefix spot words h hist reported (Some c) keeps same prefix = or-ended spot h hist reported c _ keeps prefix (tt, prefix) (reported_end c) refl
 
 mark-prefix : (k : ℕ) (h : Here) (reported : List ℕ) (running : Option Running) → running ≡ h.device.running → IsPrefix reported running → ReadsWell reported running (mark_reply k h running)
 mark-prefix k h reported None same prefix = (tt, subst (IsPrefix reported) same tt)
@@ -162,13 +151,14 @@ form-prefix spot (ops.Lock sub) h hist reported keeps prefix passed = (tt, prefi
 form-prefix spot (ops.Unlock sub) h hist reported keeps prefix passed = (tt, prefix)
 form-prefix spot (ops.Cmd cmd) h hist reported keeps prefix passed = call-prefix cmd h reported prefix
 form-prefix spot (ops.Cancel sub) h hist reported keeps prefix passed = (tt, tt)
-form-prefix spot (ops.Read sub n) h hist reported keeps prefix passed = read-prefix spot n h hist reported h.device.running keeps refl prefix
-form-prefix spot (ops.Map sub n) h hist reported keeps prefix passed = map-prefix spot n h hist reported h.device.running keeps refl prefix
+form-prefix spot (ops.Read sub n) h hist reported keeps prefix passed =
+    served-prefix spot (read_reply n h) h hist reported h.device.running (λ c before. (tt, λ inn. more-prefix reported c _ before inn)) keeps refl prefix
+form-prefix spot (ops.Map sub n) h hist reported keeps prefix passed = served-prefix spot (map_reply n h) h hist reported h.device.running (λ c before. (tt, before)) keeps refl prefix
 form-prefix spot (ops.Look sub i) h hist reported keeps prefix passed = look-prefix i h reported h.device.running refl prefix
 form-prefix spot (ops.Release sub k) h hist reported keeps prefix passed = release-prefix k h reported h.device.running refl prefix
 form-prefix spot (ops.Contents sub) h hist reported keeps prefix passed = (tt, prefix)
-form-prefix spot (ops.Write sub words) h hist reported keeps prefix passed = write-prefix spot words h hist reported h.device.running keeps refl prefix
-form-prefix spot (ops.Fill sub words) h hist reported keeps prefix passed = fill-prefix spot words h hist reported h.device.running keeps refl prefix
+form-prefix spot (ops.Write sub words) h hist reported keeps prefix passed = served-prefix spot (write_reply words h) h hist reported h.device.running (λ c before. (tt, before)) keeps refl prefix
+form-prefix spot (ops.Fill sub words) h hist reported keeps prefix passed = served-prefix spot (fill_reply words h) h hist reported h.device.running (λ c before. (tt, before)) keeps refl prefix
 form-prefix spot (ops.Mark sub k) h hist reported keeps prefix passed = mark-prefix k h reported h.device.running refl prefix
 form-prefix spot (ops.InsnRead sub entry n) h hist reported keeps prefix passed = shown-prefix true h reported _ prefix
 form-prefix spot (ops.InsnWrite sub entry words) h hist reported keeps prefix passed = shown-prefix false h reported _ prefix

@@ -22,14 +22,14 @@ use Rattle.cm_replay.specs.Calling.{cmd_reply, insn_reply, trigger_on, trigger_r
 use Rattle.cm_replay.specs.Forms.{form, line_checks, named_sub}
 use Rattle.cm_replay.specs.Job.{JobText, setting_of}
 use Rattle.cm_replay.specs.Law.{HasPlaces, History, IsSoundJob, Keeps, Spot, no_history, served, spot_at}
-use Rattle.cm_replay.specs.Reading.{look_reply, map_reply, read_reply, release_reply, reported_end}
+use Rattle.cm_replay.specs.Reading.{look_reply, map_reply, on_running, read_reply, release_reply, reported_end}
 use Rattle.cm_replay.specs.Ready.{AllCanMove, CanMove, IsReady, StaysReady}
 use Rattle.cm_replay.specs.Running.{Running, Schedule, arrived, brought, collected, is_out, moved_on, put_out}
 use Rattle.cm_replay.specs.Schedules.{triggered}
 use Rattle.cm_replay.specs.Session.{Outcome, act, act_on, brought_all, brought_device, closed_state, here, step, with_reply}
 use Rattle.cm_replay.specs.State.{Device, Here, State, at_start, device_at, idle_device, plan_here}
 use Rattle.cm_replay.specs.Writing.{fill_reply, mark_reply, write_reply}
-use Rattle.cm_replay.specs.declared.ending.End.{End}
+use Rattle.cm_text.specs.declared.end.End.{End}
 use Rattle.cm_expand.proofs.Come.{come-later}
 use Rattle.cm_replay.proofs.Counts.{either-way}
 use Rattle.cm_replay.proofs.Laws.{input, moves, output, served-in, served-out, stays, waits-early}
@@ -60,13 +60,10 @@ plan-ended : (P : PlanText → Type 0) (h : Here) (e : Option End) (reply : Repl
 plan-ended P h None reply p = p
 plan-ended P h (Some e) reply p = tt
 
-plan-read : (P : PlanText → Type 0) (n : ℕ) (h : Here) (running : Option Running) → running ≡ h.device.running → HasPlan P running → HasPlan P (read_reply n h running).device.running
-plan-read P n h None same p = subst (HasPlan P) same p
-plan-read P n h (Some c) same p = plan-ended P h (reported_end c) _ p
-
-plan-map : (P : PlanText → Type 0) (n : ℕ) (h : Here) (running : Option Running) → running ≡ h.device.running → HasPlan P running → HasPlan P (map_reply n h running).device.running
-plan-map P n h None same p = subst (HasPlan P) same p
-plan-map P n h (Some c) same p = plan-ended P h (reported_end c) _ p
+plan-served : (P : PlanText → Type 0) (h : Here) (reply : Running → Reply) (running : Option Running) → ((c : Running) → P c.schedule.plan → HasPlan P (reply c).device.running) → running ≡ h.device.running → HasPlan P running →
+    HasPlan P (on_running h running reply).device.running
+plan-served P h reply None all same p = subst (HasPlan P) same p
+plan-served P h reply (Some c) all same p = plan-ended P h (reported_end c) (reply c) (all c p)
 
 plan-look : (P : PlanText → Type 0) (i : ℕ) (h : Here) (running : Option Running) → running ≡ h.device.running → HasPlan P running → HasPlan P (look_reply i h running).device.running
 plan-look P i h None same p = subst (HasPlan P) same p
@@ -75,14 +72,6 @@ plan-look P i h (Some c) same p = subst (HasPlan P) same p
 plan-release : (P : PlanText → Type 0) (k : ℕ) (h : Here) (running : Option Running) → running ≡ h.device.running → HasPlan P running → HasPlan P (release_reply k h running).device.running
 plan-release P k h None same p = subst (HasPlan P) same p
 plan-release P k h (Some c) same p = p
-
-plan-write : (P : PlanText → Type 0) (words : List ℕ) (h : Here) (running : Option Running) → running ≡ h.device.running → HasPlan P running → HasPlan P (write_reply words h running).device.running
-plan-write P words h None same p = subst (HasPlan P) same p
-plan-write P words h (Some c) same p = plan-ended P h (reported_end c) _ p
-
-plan-fill : (P : PlanText → Type 0) (words : List ℕ) (h : Here) (running : Option Running) → running ≡ h.device.running → HasPlan P running → HasPlan P (fill_reply words h running).device.running
-plan-fill P words h None same p = subst (HasPlan P) same p
-plan-fill P words h (Some c) same p = plan-ended P h (reported_end c) _ p
 
 plan-mark : (P : PlanText → Type 0) (k : ℕ) (h : Here) (running : Option Running) → running ≡ h.device.running → HasPlan P running → HasPlan P (mark_reply k h running).device.running
 plan-mark P k h None same p = subst (HasPlan P) same p
@@ -126,13 +115,13 @@ form-plan P (ops.Lock sub) h new kept p = p
 form-plan P (ops.Unlock sub) h new kept p = p
 form-plan P (ops.Cmd cmd) h new kept p = plan-call P cmd h new p
 form-plan P (ops.Cancel sub) h new kept p = tt
-form-plan P (ops.Read sub n) h new kept p = plan-read P n h h.device.running refl p
-form-plan P (ops.Map sub n) h new kept p = plan-map P n h h.device.running refl p
+form-plan P (ops.Read sub n) h new kept p = plan-served P h (read_reply n h) h.device.running (λ c q. q) refl p
+form-plan P (ops.Map sub n) h new kept p = plan-served P h (map_reply n h) h.device.running (λ c q. q) refl p
 form-plan P (ops.Look sub i) h new kept p = plan-look P i h h.device.running refl p
 form-plan P (ops.Release sub k) h new kept p = plan-release P k h h.device.running refl p
 form-plan P (ops.Contents sub) h new kept p = p
-form-plan P (ops.Write sub words) h new kept p = plan-write P words h h.device.running refl p
-form-plan P (ops.Fill sub words) h new kept p = plan-fill P words h h.device.running refl p
+form-plan P (ops.Write sub words) h new kept p = plan-served P h (write_reply words h) h.device.running (λ c q. q) refl p
+form-plan P (ops.Fill sub words) h new kept p = plan-served P h (fill_reply words h) h.device.running (λ c q. q) refl p
 form-plan P (ops.Mark sub k) h new kept p = plan-mark P k h h.device.running refl p
 form-plan P (ops.InsnRead sub entry n) h new kept p = plan-shown P true h _ p
 form-plan P (ops.InsnWrite sub entry words) h new kept p = plan-shown P false h _ p

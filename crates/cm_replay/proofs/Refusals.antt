@@ -15,13 +15,13 @@ use Rattle.cm_session.specs.declared.op.SessionLine.{SessionLine}
 use Rattle.cm_replay.specs.Answers.{Answer, Data, Ended, Fine, Refused, Rejected, Reply, kept, unless_ended}
 use Rattle.cm_replay.specs.Calling.{insn_reply, trigger_reply}
 use Rattle.cm_replay.specs.Forms.{form, line_checks, named_sub}
-use Rattle.cm_replay.specs.Reading.{look_reply, map_reply, read_reply, release_reply, reported_end}
+use Rattle.cm_replay.specs.Reading.{look_reply, map_reply, on_running, read_reply, release_reply, reported_end}
 use Rattle.cm_replay.specs.Refusals.{Leaves, RefusalLaw}
 use Rattle.cm_replay.specs.Running.{Running}
 use Rattle.cm_replay.specs.Session.{Outcome, act, act_on, brought_all, closed_state, here, unless_refused, with_reply}
 use Rattle.cm_replay.specs.State.{Device, Here, State, device_at}
 use Rattle.cm_replay.specs.Writing.{fill_reply, mark_reply, write_reply}
-use Rattle.cm_replay.specs.declared.ending.End.{End}
+use Rattle.cm_text.specs.declared.end.End.{End}
 
 -- an answer that refuses comes with nothing changed, and one that reports an end with an idle subdevice
 abbrev KeptIf : Answer → Here → FilesText → Device → Type 0
@@ -45,13 +45,9 @@ instructs : (t : Bool) (h : Here) (done : Option Done) → IsKept h (insn_reply 
 instructs t h None = (refl, refl)
 instructs t h (Some done) = tt
 
-reads : (n : ℕ) (h : Here) (c : Option Running) → IsKept h (read_reply n h c)
-reads n h None = tt
-reads n h (Some c) = ended h (reported_end c) _ tt
-
-maps : (n : ℕ) (h : Here) (c : Option Running) → IsKept h (map_reply n h c)
-maps n h None = tt
-maps n h (Some c) = ended h (reported_end c) _ tt
+served : (h : Here) (reply : Running → Reply) → ((c : Running) → IsKept h (reply c)) → (c : Option Running) → IsKept h (on_running h c reply)
+served h reply all None = tt
+served h reply all (Some c) = ended h (reported_end c) (reply c) (all c)
 
 looks : (i : ℕ) (h : Here) (c : Option Running) → IsKept h (look_reply i h c)
 looks i h None = tt
@@ -60,14 +56,6 @@ looks i h (Some c) = tt
 releases : (k : ℕ) (h : Here) (c : Option Running) → IsKept h (release_reply k h c)
 releases k h None = tt
 releases k h (Some c) = tt
-
-writes : (words : List ℕ) (h : Here) (c : Option Running) → IsKept h (write_reply words h c)
-writes words h None = tt
-writes words h (Some c) = ended h (reported_end c) _ tt
-
-fills : (words : List ℕ) (h : Here) (c : Option Running) → IsKept h (fill_reply words h c)
-fills words h None = tt
-fills words h (Some c) = ended h (reported_end c) _ tt
 
 marks : (k : ℕ) (h : Here) (c : Option Running) → IsKept h (mark_reply k h c)
 marks k h None = tt
@@ -85,13 +73,13 @@ form-kept (ops.Lock sub) h = tt
 form-kept (ops.Unlock sub) h = tt
 form-kept (ops.Cmd cmd) h = rejected h ((tested h.sub cmd).0 == 0) _ (tested h.sub cmd).0 (tested h.sub cmd).1 tt
 form-kept (ops.Cancel sub) h = tt
-form-kept (ops.Read sub n) h = reads n h h.device.running
-form-kept (ops.Map sub n) h = maps n h h.device.running
+form-kept (ops.Read sub n) h = served h (read_reply n h) (λ c. tt) h.device.running
+form-kept (ops.Map sub n) h = served h (map_reply n h) (λ c. tt) h.device.running
 form-kept (ops.Look sub i) h = looks i h h.device.running
 form-kept (ops.Release sub k) h = releases k h h.device.running
 form-kept (ops.Contents sub) h = tt
-form-kept (ops.Write sub words) h = writes words h h.device.running
-form-kept (ops.Fill sub words) h = fills words h h.device.running
+form-kept (ops.Write sub words) h = served h (write_reply words h) (λ c. tt) h.device.running
+form-kept (ops.Fill sub words) h = served h (fill_reply words h) (λ c. tt) h.device.running
 form-kept (ops.Mark sub k) h = marks k h h.device.running
 form-kept (ops.InsnRead sub entry n) h = instructs true h _
 form-kept (ops.InsnWrite sub entry words) h = instructs false h _

@@ -26,8 +26,8 @@ use Rattle.cm_text.specs.Outputs.{Output}
 use Rattle.cm_replay.specs.Answers.{Answer, Begun, Data, Ended, Filled, Fine, Holds, Idle, Looked, Mapped, Marked, Refused, Rejected, Released, Taken, Triggered, Written}
 use Rattle.cm_replay.specs.Session.{step}
 use Rattle.cm_replay.specs.State.{State, at_start}
-use Rattle.cm_replay.specs.declared.ending.End.{End}
-use Rattle.cm_replay.specs.declared.ending.End.TheVariants.{Done, Dry, Overrun, Underrun, Fifo}
+use Rattle.cm_text.specs.declared.end.End.{End}
+use Rattle.cm_text.specs.declared.end.End.TheVariants.{Done, Dry, Overrun, Underrun, Fifo}
 
 -- the words of the text as numbers, each its own, and those of an end below 0
 abbrev minus : ℕ → ℤ

@@ -11,11 +11,11 @@ use Rattle.cm_session.specs.declared.op.Op.TheVariants as ops
 use Rattle.cm_replay.specs.Answers.{Answer, Ended, Fine, Reply, claimed, goes_on, idle, kept, unless_ended}
 use Rattle.cm_replay.specs.Calling.{insn_here, insn_reply, start_reply, trigger_reply}
 use Rattle.cm_replay.specs.Forms.{form}
-use Rattle.cm_replay.specs.Reading.{look_reply, map_reply, read_reply, release_reply, reported_end}
+use Rattle.cm_replay.specs.Reading.{look_reply, map_reply, on_running, read_reply, release_reply, reported_end}
 use Rattle.cm_replay.specs.Running.{Running}
 use Rattle.cm_replay.specs.State.{Here}
 use Rattle.cm_replay.specs.Writing.{fill_reply, mark_reply, write_reply}
-use Rattle.cm_replay.specs.declared.ending.End.{End}
+use Rattle.cm_text.specs.declared.end.End.{End}
 
 -- what holds of each of these ways
 pub record Holds (P : Reply → Type 0) (h : Here) : Type 0 where
@@ -34,13 +34,9 @@ either : (P : Reply → Type 0) (b : Bool) (x y : Reply) → P x → P y → P (
 either P true x y px py = px
 either P false x y px py = py
 
-read-holds : (P : Reply → Type 0) (n : ℕ) (h : Here) (c : Option Running) → Holds P h → P (read_reply n h c)
-read-holds P n h None holds = holds.nothing _
-read-holds P n h (Some c) holds = ended P h (reported_end c) _ holds (holds.more _ _)
-
-map-holds : (P : Reply → Type 0) (n : ℕ) (h : Here) (c : Option Running) → Holds P h → P (map_reply n h c)
-map-holds P n h None holds = holds.nothing _
-map-holds P n h (Some c) holds = ended P h (reported_end c) _ holds (holds.more _ _)
+served : (P : Reply → Type 0) (h : Here) (reply : Running → Reply) (c : Option Running) → Holds P h → ((c : Running) → P (reply c)) → P (on_running h c reply)
+served P h reply None holds all = holds.nothing _
+served P h reply (Some c) holds all = ended P h (reported_end c) (reply c) holds (all c)
 
 look-holds : (P : Reply → Type 0) (n : ℕ) (h : Here) (c : Option Running) → Holds P h → P (look_reply n h c)
 look-holds P n h None holds = holds.nothing _
@@ -49,14 +45,6 @@ look-holds P n h (Some c) holds = holds.nothing _
 release-holds : (P : Reply → Type 0) (n : ℕ) (h : Here) (c : Option Running) → Holds P h → P (release_reply n h c)
 release-holds P n h None holds = holds.nothing _
 release-holds P n h (Some c) holds = holds.more _ _
-
-write-holds : (P : Reply → Type 0) (words : List ℕ) (h : Here) (c : Option Running) → Holds P h → P (write_reply words h c)
-write-holds P words h None holds = holds.nothing _
-write-holds P words h (Some c) holds = ended P h (reported_end c) _ holds (holds.more _ _)
-
-fill-holds : (P : Reply → Type 0) (words : List ℕ) (h : Here) (c : Option Running) → Holds P h → P (fill_reply words h c)
-fill-holds P words h None holds = holds.nothing _
-fill-holds P words h (Some c) holds = ended P h (reported_end c) _ holds (holds.more _ _)
 
 mark-holds : (P : Reply → Type 0) (n : ℕ) (h : Here) (c : Option Running) → Holds P h → P (mark_reply n h c)
 mark-holds P n h None holds = holds.nothing _
@@ -74,13 +62,13 @@ form-holds P (ops.Lock sub) h holds = holds.lock _
 form-holds P (ops.Unlock sub) h holds = holds.lock _
 form-holds P (ops.Cmd cmd) h holds = either P ((tested h.sub cmd).0 == 0) _ _ (holds.call cmd) (holds.nothing _)
 form-holds P (ops.Cancel sub) h holds = holds.over _
-form-holds P (ops.Read sub n) h holds = read-holds P n h h.device.running holds
-form-holds P (ops.Map sub n) h holds = map-holds P n h h.device.running holds
+form-holds P (ops.Read sub n) h holds = served P h (read_reply n h) h.device.running holds (λ c. holds.more _ _)
+form-holds P (ops.Map sub n) h holds = served P h (map_reply n h) h.device.running holds (λ c. holds.more _ _)
 form-holds P (ops.Look sub i) h holds = look-holds P i h h.device.running holds
 form-holds P (ops.Release sub k) h holds = release-holds P k h h.device.running holds
 form-holds P (ops.Contents sub) h holds = holds.nothing _
-form-holds P (ops.Write sub words) h holds = write-holds P words h h.device.running holds
-form-holds P (ops.Fill sub words) h holds = fill-holds P words h h.device.running holds
+form-holds P (ops.Write sub words) h holds = served P h (write_reply words h) h.device.running holds (λ c. holds.more _ _)
+form-holds P (ops.Fill sub words) h holds = served P h (fill_reply words h) h.device.running holds (λ c. holds.more _ _)
 form-holds P (ops.Mark sub k) h holds = mark-holds P k h h.device.running holds
 form-holds P (ops.InsnRead sub entry n) h holds = holds.insn true codes.Read entry (replicate n 0)
 form-holds P (ops.InsnWrite sub entry words) h holds = holds.insn false codes.Write entry words

@@ -19,13 +19,13 @@ use Rattle.cm_session.specs.declared.op.SessionLine.{SessionLine}
 use Rattle.cm_replay.specs.Answers.{Answer, Ended, Fine, Reply, idle, unless_ended}
 use Rattle.cm_replay.specs.Calling.{insn_reply, trigger_reply}
 use Rattle.cm_replay.specs.Forms.{form, kind_checks, line_checks}
-use Rattle.cm_replay.specs.Reading.{look_reply, map_reply, read_reply, release_reply, reported_end}
+use Rattle.cm_replay.specs.Reading.{look_reply, map_reply, on_running, read_reply, release_reply, reported_end}
 use Rattle.cm_replay.specs.Refusals.{IsTied, TiedLaw}
 use Rattle.cm_replay.specs.Running.{Running, brought}
 use Rattle.cm_replay.specs.Session.{Outcome, act, act_on, brought_all, brought_device, closed_state, here, left_devices, unless_refused, with_reply}
 use Rattle.cm_replay.specs.State.{Device, Here, State, claim_of, device_at, idle_device}
 use Rattle.cm_replay.specs.Writing.{fill_reply, mark_reply, write_reply}
-use Rattle.cm_replay.specs.declared.ending.End.{End}
+use Rattle.cm_text.specs.declared.end.End.{End}
 use Rattle.cm_replay.proofs.Foreign.{AreApart, acts_there, claim-closed, form-safe}
 use Rattle.cm_replay.proofs.Checks.{passes-both, reached-within}
 use Rattle.cm_replay.proofs.SessionLaws.{device_at-brought}
@@ -50,13 +50,10 @@ instructs t h None tied = tied
 instructs t h (Some done) tied = tied
 
 -- a command that goes on was there
-reads : (n : ℕ) (h : Here) (r : Option Running) → r ≡ h.device.running → h.index < length h.files.claims → is_some (claim_of h).runner ≡ is_some h.device.running → AreTied h (read_reply n h r)
-reads n h None same within tied = tied
-reads n h (Some c) same within tied = ended-tied h (reported_end c) _ within (tied ∙ sym (ap is_some same))
-
-maps : (n : ℕ) (h : Here) (r : Option Running) → r ≡ h.device.running → h.index < length h.files.claims → is_some (claim_of h).runner ≡ is_some h.device.running → AreTied h (map_reply n h r)
-maps n h None same within tied = tied
-maps n h (Some c) same within tied = ended-tied h (reported_end c) _ within (tied ∙ sym (ap is_some same))
+served : (h : Here) (reply : Running → Reply) → ((c : Running) → is_some (claim_of h).runner ≡ true → AreTied h (reply c)) → (r : Option Running) → r ≡ h.device.running → h.index < length h.files.claims →
+    is_some (claim_of h).runner ≡ is_some h.device.running → AreTied h (on_running h r reply)
+served h reply on None same within tied = tied
+served h reply on (Some c) same within tied = ended-tied h (reported_end c) (reply c) within (on c (tied ∙ sym (ap is_some same)))
 
 looks : (n : ℕ) (h : Here) (r : Option Running) → is_some (claim_of h).runner ≡ is_some h.device.running → AreTied h (look_reply n h r)
 looks n h None tied = tied
@@ -65,14 +62,6 @@ looks n h (Some c) tied = tied
 releases : (n : ℕ) (h : Here) (r : Option Running) → r ≡ h.device.running → is_some (claim_of h).runner ≡ is_some h.device.running → AreTied h (release_reply n h r)
 releases n h None same tied = tied
 releases n h (Some c) same tied = tied ∙ sym (ap is_some same)
-
-writes : (words : List ℕ) (h : Here) (r : Option Running) → r ≡ h.device.running → h.index < length h.files.claims → is_some (claim_of h).runner ≡ is_some h.device.running → AreTied h (write_reply words h r)
-writes words h None same within tied = tied
-writes words h (Some c) same within tied = ended-tied h (reported_end c) _ within (tied ∙ sym (ap is_some same))
-
-fills : (words : List ℕ) (h : Here) (r : Option Running) → r ≡ h.device.running → h.index < length h.files.claims → is_some (claim_of h).runner ≡ is_some h.device.running → AreTied h (fill_reply words h r)
-fills words h None same within tied = tied
-fills words h (Some c) same within tied = ended-tied h (reported_end c) _ within (tied ∙ sym (ap is_some same))
 
 marks : (n : ℕ) (h : Here) (r : Option Running) → r ≡ h.device.running → is_some (claim_of h).runner ≡ is_some h.device.running → AreTied h (mark_reply n h r)
 marks n h None same tied = tied
@@ -87,13 +76,13 @@ form-tied (ops.Lock sub) h within tied = ap (λ (c : Claim). is_some c.runner) (
 form-tied (ops.Unlock sub) h within tied = ap (λ (c : Claim). is_some c.runner) (get_or-set_same h.files.claims h.index _ nobody within) ∙ tied
 form-tied (ops.Cmd cmd) h within tied = if-tied h ((tested h.sub cmd).0 == 0) _ _ (ap (λ (c : Claim). is_some c.runner) (get_or-set_same h.files.claims h.index _ nobody within)) tied
 form-tied (ops.Cancel sub) h within tied = idle-tied h Fine within
-form-tied (ops.Read sub n) h within tied = reads n h h.device.running refl within tied
-form-tied (ops.Map sub n) h within tied = maps n h h.device.running refl within tied
+form-tied (ops.Read sub n) h within tied = served h (read_reply n h) (λ c t. t) h.device.running refl within tied
+form-tied (ops.Map sub n) h within tied = served h (map_reply n h) (λ c t. t) h.device.running refl within tied
 form-tied (ops.Look sub i) h within tied = looks i h h.device.running tied
 form-tied (ops.Release sub k) h within tied = releases k h h.device.running refl tied
 form-tied (ops.Contents sub) h within tied = tied
-form-tied (ops.Write sub words) h within tied = writes words h h.device.running refl within tied
-form-tied (ops.Fill sub words) h within tied = fills words h h.device.running refl within tied
+form-tied (ops.Write sub words) h within tied = served h (write_reply words h) (λ c t. t) h.device.running refl within tied
+form-tied (ops.Fill sub words) h within tied = served h (fill_reply words h) (λ c t. t) h.device.running refl within tied
 form-tied (ops.Mark sub k) h within tied = marks k h h.device.running refl tied
 form-tied (ops.InsnRead sub entry n) h within tied = instructs true h _ tied
 form-tied (ops.InsnWrite sub entry words) h within tied = instructs false h _ tied

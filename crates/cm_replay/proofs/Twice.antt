@@ -3,7 +3,7 @@ use Rattle.std.proofs.Common.{◌≡◌, ℕ, ◌-◌, true, false, [], drop, ta
 use Rattle.std.proofs.lemmas.Bool.{cases_Bool, cond-true, cond-false}
 use Rattle.cm_replay.specs.Law.{BringingLaw, NothingIsLeft}
 use Rattle.cm_replay.specs.Running.{Running, brought, collected, due, is_out, moved_on, outputs, put_by, put_out}
-use Rattle.cm_replay.specs.declared.ending.End.{End}
+use Rattle.cm_text.specs.declared.end.End.{End}
 use Rattle.cm_replay.proofs.Laws.{moves, moves-in, moves-out, stays}
 
 -- nothing is between a place and itself

@@ -6,7 +6,7 @@ use Rattle.cm_sub.specs.declared.errno.Errno.{Errno}
 use Rattle.cm_text.specs.Format.{Format}
 use Rattle.cm_replay.specs.Running.{Running}
 use Rattle.cm_replay.specs.State.{Device, Here}
-use Rattle.cm_replay.specs.declared.ending.End.{End}
+use Rattle.cm_text.specs.declared.end.End.{End}
 
 -- an answer. `Taken` has the format, the first place and the samples of a read,
 -- and `Looked` the format, the place and its sample.

@@ -13,7 +13,7 @@ use Rattle.cm_replay.specs.Answers.{Begun, Data, Refused, Rejected, Reply, Trigg
 use Rattle.cm_replay.specs.Running.{Running, started}
 use Rattle.cm_replay.specs.Schedules.{schedule_of, triggered}
 use Rattle.cm_replay.specs.State.{Here, plan_here}
-use Rattle.cm_replay.specs.declared.ending.End.{End}
+use Rattle.cm_text.specs.declared.end.End.{End}
 
 -- a command starts
 abbrev pub start_reply : Here → CmdText → Reply

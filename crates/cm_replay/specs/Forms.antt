@@ -1,7 +1,7 @@
 -- Each form of line that names a subdevice: its checks in their order, and its reply where none of them refuses.
 use Rattle.std.specs.Prelude.{ℕ, Bool, true, false, not, ◌&&◌, ◌||◌, nat_eq, nat_le, nat_lt, List, [], ◌∷◌, ◌++◌}
 use Rattle.std.specs.Prelude.{replicate, Option, Some, None}
-use Rattle.cm_board.specs.Board.{is_unused, takes_commands}
+use Rattle.cm_board.specs.Board.{SubText, is_unused, takes_commands}
 use Rattle.cm_insn.specs.declared.insn.InsnCode.TheVariants as codes
 use Rattle.cm_sub.specs.Checks.{refuse}
 use Rattle.cm_sub.specs.Claims.{cancel_checks, lock_checks, unlock_checks, use_checks}
@@ -13,7 +13,8 @@ use Rattle.cm_session.specs.declared.op.Op.{Op}
 use Rattle.cm_session.specs.declared.op.Op.TheVariants as ops
 use Rattle.cm_replay.specs.Answers.{Fine, Reply, claimed, idle, kept}
 use Rattle.cm_replay.specs.Calling.{cmd_reply, insn_here, insn_reply, takes_number, trigger_reply, waits}
-use Rattle.cm_replay.specs.Reading.{contents_reply, look_reply, map_reply, mapped, read_reply, release_reply}
+use Rattle.cm_replay.specs.Reading.{contents_reply, look_reply, map_reply, mapped, on_running, read_reply}
+use Rattle.cm_replay.specs.Reading.{release_reply}
 use Rattle.cm_replay.specs.State.{Here, claim_of, is_foreign, is_out_here}
 use Rattle.cm_replay.specs.Writing.{fill_reply, fit, mark_reply, unmarked, write_reply}
 
@@ -47,9 +48,9 @@ form (ops.Cmd cmd) h = record {
 form (ops.Cancel sub) h = record { checks = cancel_checks h.file (claim_of h); reply = idle h Fine }
 form (ops.Read sub n) h = record {
   checks = reader_checks h ++ refuse Inval (not (nat_eq (mapped h.device.running) 0)) ∷ [];
-  reply = read_reply n h h.device.running;
+  reply = on_running h h.device.running (read_reply n h);
 }
-form (ops.Map sub n) h = record { checks = reader_checks h; reply = map_reply n h h.device.running }
+form (ops.Map sub n) h = record { checks = reader_checks h; reply = on_running h h.device.running (map_reply n h) }
 form (ops.Look sub i) h = record {
   checks = reader_checks h ++ refuse Inval (nat_le (mapped h.device.running) i) ∷ [];
   reply = look_reply i h h.device.running;
@@ -67,11 +68,11 @@ form (ops.Write sub words) h = record {
       writer_checks h
       ++ refuse Inval (not (nat_eq (unmarked h.device.running) 0))
       ∷ refuse Inval (not (fit h words)) ∷ [];
-  reply = write_reply words h h.device.running;
+  reply = on_running h h.device.running (write_reply words h);
 }
 form (ops.Fill sub words) h = record {
   checks = writer_checks h ++ refuse Inval (not (fit h words)) ∷ [];
-  reply = fill_reply words h h.device.running;
+  reply = on_running h h.device.running (fill_reply words h);
 }
 form (ops.Mark sub k) h = record {
   checks = writer_checks h ++ refuse Inval (nat_lt (unmarked h.device.running) k) ∷ [];
@@ -136,9 +137,13 @@ is_of_command (ops.InsnBits sub mask bits) = false
 is_of_command (ops.InsnConfig sub entry word) = false
 is_of_command op = true
 
--- the subdevice can do what a line asks: it isn't unused, and takes commands where the line is one of a command
+-- a subdevice is unused, or takes no commands where they are asked for
+abbrev pub is_unfit : SubText → Bool → Bool
+is_unfit sub commands = is_unused sub.kind || (commands && not (takes_commands sub))
+
+-- the subdevice can do what a line asks
 abbrev pub kind_checks : Op → Here → List (Option Errno)
-kind_checks op h = refuse Io (is_unused h.sub.kind || (is_of_command op && not (takes_commands h.sub))) ∷ []
+kind_checks op h = refuse Io (is_unfit h.sub (is_of_command op)) ∷ []
 
 -- the checks of every line that names a subdevice: the file is open,
 -- the subdevice is there, and it can do what is asked

@@ -19,8 +19,8 @@ use Rattle.cm_replay.specs.Session.{brought_all, step}
 use Rattle.cm_replay.specs.State.{State, at_start, device_at}
 use Rattle.cm_replay.specs.Timely.{IsTimely}
 use Rattle.cm_replay.specs.Writing.{munged_within}
-use Rattle.cm_replay.specs.declared.ending.End.{End}
-use Rattle.cm_replay.specs.declared.ending.End.TheVariants.{Done, Dry, Overrun, Underrun, Fifo}
+use Rattle.cm_text.specs.declared.end.End.{End}
+use Rattle.cm_text.specs.declared.end.End.TheVariants.{Done, Dry, Overrun, Underrun, Fifo}
 
 -- an end is due at a place of so many conversions: at the last, or exactly at `k` of more
 abbrev pub IsDue : End → ℕ → ℕ → Type 0

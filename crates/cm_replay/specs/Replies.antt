@@ -1,6 +1,6 @@
 -- What the code makes of a line, against what its definition says.
-use Rattle.std.specs.Prelude.{◌≡◌, ℕ, ◌<◌, ◌≤◌, Bool, true, false, ◌&&◌, ◌==◌, List, ◌++◌, length, map, Option, Some}
-use Rattle.std.specs.Prelude.{None, if◌then◌else◌}
+use Rattle.std.specs.Prelude.{◌≡◌, ℕ, ◌<◌, ◌≤◌, Bool, true, false, ◌&&◌, ◌==◌, List, [], ◌∷◌, ◌++◌, length, map}
+use Rattle.std.specs.Prelude.{Option, Some, None, if◌then◌else◌}
 use Rattle.cm_board.specs.Board.{BoardText, SubText, takes_commands}
 use Rattle.cm_cmd.specs.Command.{CmdText}
 use Rattle.cm_signal.specs.Setting.{Setting}
@@ -9,15 +9,16 @@ use Rattle.cm_session.specs.Limits.{HasLimits, IsLimited}
 use Rattle.cm_session.specs.declared.op.Op.{Op}
 use Rattle.cm_session.specs.declared.op.Op.TheVariants as ops
 use Rattle.cm_session.specs.declared.op.SessionLine.{SessionLine}
-use Rattle.cm_sub.specs.Checks.{first_refusal}
+use Rattle.cm_sub.specs.Checks.{first_refusal, refuse}
 use Rattle.cm_sub.specs.Files.{FilesText, reach_checks}
 use Rattle.cm_sub.specs.declared.errno.Errno.{Errno}
+use Rattle.cm_sub.specs.declared.errno.Errno.TheVariants.{Io}
 use Rattle.cm_test.specs.Questions.{tested}
 use Rattle.cm_insn.specs.declared.insn.Instr.{Instr}
 use Rattle.cm_sub.specs.Claims.{use_checks}
 use Rattle.cm_replay.specs.Calling.{insn_here, insn_reply}
 use Rattle.cm_replay.specs.Answers.{Answer, Refused, Reply, kept}
-use Rattle.cm_replay.specs.Forms.{Form, form, kind_checks, named_sub}
+use Rattle.cm_replay.specs.Forms.{Form, form, is_unfit, kind_checks, named_sub}
 use Rattle.cm_replay.specs.Law.{IsSoundJob, Spot, served}
 use Rattle.cm_replay.specs.Ready.{AllCanMove, CanMove}
 use Rattle.cm_replay.specs.Running.{Running, arrived}
@@ -41,6 +42,11 @@ here_at at files device = record {
 -- the file is open and the subdevice is there
 abbrev pub IsReached : At → FilesText → Type 0
 IsReached at files = first_refusal (reach_checks at.file at.index files) ≡ None
+
+-- the checks of a place: the file is open, and the subdevice is there and can do what is asked
+abbrev pub place_checks : Setting → FilesText → ℕ → ℕ → Bool → List (Option Errno)
+place_checks s files file index commands =
+    reach_checks file index files ++ refuse Io (is_unfit (sub_at s.board index) commands) ∷ []
 
 -- a file acts here at a time, on the subdevice of this number
 pub record StandsAt (s : Setting) (t f i : ℕ) (at : At) : Type 0 where
@@ -70,10 +76,6 @@ unless_kept (Some error) h reply = kept h (Refused error)
 -- what a form comes to: its reply, or the refusal of the first of its checks that refuses
 abbrev pub checked : Form → Here → Reply
 checked f h = unless_kept (first_refusal f.checks) h f.reply
-
--- what a line does with a subdevice that is there
-abbrev pub seat_reply : Op → Here → Reply
-seat_reply op h = unless_kept (first_refusal (kind_checks op h ++ (form op h).checks)) h (form op h).reply
 
 -- all that was served of a command has come by a time
 abbrev pub CanCome : ℕ → Option Running → Type 0
@@ -150,10 +152,12 @@ names_sub op = true
 abbrev pub spot_of : At → Spot
 spot_of at = record { sub = at.sub.now; signals = at.signals.now }
 
--- what a line can rely on where it acts: the file is open and the subdevice there, what is asked has its limits,
--- the subdevice's command was brought to the time, and what was tried of the line's own command is at hand
+-- what a line can rely on where it acts: the file is open, the subdevice is there and can do what is asked,
+-- that has its limits, the subdevice's command was brought to the time, and what was tried of the line's own command
+-- is at hand
 pub record CanAct (at : At) (op : Op) (tried : Option CmdText) (files : FilesText) (device : Device) : Type 0 where
   pub reached : IsReached at files
+  pub fit : first_refusal (kind_checks op (here_at at files device)) ≡ None
   pub limits : HasLimits op
   pub time : at.time ≤ at.signals.now.horizon
   pub whole : IsWhole at.sub.now device

@@ -9,8 +9,8 @@ use Rattle.cm_expand.specs.Taking.{come}
 use Rattle.cm_text.specs.Format.{Format}
 use Rattle.cm_text.specs.Outputs.{Output}
 use Rattle.cm_replay.specs.Conversions.{munged_from}
-use Rattle.cm_replay.specs.declared.ending.End.{End}
-use Rattle.cm_replay.specs.declared.ending.End.TheVariants.{Done, Dry, Overrun, Underrun, Fifo}
+use Rattle.cm_text.specs.declared.end.End.{End}
+use Rattle.cm_text.specs.declared.end.End.TheVariants.{Done, Dry, Overrun, Underrun, Fifo}
 
 -- what is planned for a command: its plan, its expansion, and whether nothing of it is cut off;
 -- those of its conversions that reach the buffer, each at the time at which it does, and when one is lost after them;

@@ -7,20 +7,23 @@ use Rattle.cm_signal.specs.Setting.{Setting}
 use Rattle.cm_session.specs.declared.op.SessionLine.{SessionLine}
 use Rattle.cm_text.specs.Format.{sample_line, sample_lines}
 use Rattle.cm_text.specs.Outputs.{output_texts}
+use Rattle.cm_text.specs.Tails.{end_words}
 use Rattle.cm_replay.specs.Answers.{Answer, Begun, Data, Ended, Filled, Fine, Holds, Idle, Looked, Mapped}
 use Rattle.cm_replay.specs.Answers.{Marked, Refused, Rejected, Released, Taken, Triggered, Written}
 use Rattle.cm_replay.specs.Session.{Step, step}
 use Rattle.cm_replay.specs.State.{State, at_start}
-use Rattle.cm_replay.specs.declared.ending.End.{End}
-use Rattle.cm_replay.specs.declared.ending.End.TheVariants.{Done, Dry, Overrun, Underrun, Fifo}
+use Rattle.cm_text.specs.declared.end.End.{End}
+use Rattle.cm_text.specs.declared.end.End.TheVariants.{Done, Dry}
+
+-- what stands before the words of an end: 0 samples where nothing was lost, and else the error of a broken pipe
+abbrev pub end_start : End → List ℕ
+end_start Done = codes "ok 0 "
+end_start Dry = codes "ok 0 "
+end_start lossy = codes "err 32 "
 
 -- the answer that reports an end
 abbrev pub end_text : End → List ℕ
-end_text Done = codes "ok 0 done\n"
-end_text Dry = codes "ok 0 dry\n"
-end_text (Overrun k) = codes "err 32 overrun " ++ decimal k ++ codes "\n"
-end_text (Underrun k) = codes "err 32 underrun " ++ decimal k ++ codes "\n"
-end_text (Fifo k) = codes "err 32 fifo " ++ decimal k ++ codes "\n"
+end_text e = end_start e ++ (end_words e ++ codes "\n")
 
 -- a count
 abbrev pub count_text : ℕ → List ℕ

@@ -3,8 +3,8 @@ use Rattle.std.specs.Prelude.{◌≡◌, ℕ, ◌≤◌, Bool, nat_eq, nat_le, L
 use Rattle.cm_expand.specs.Taking.{come}
 use Rattle.cm_replay.specs.Running.{Schedule, has_stopped, some_if}
 use Rattle.cm_expand.specs.declared.conv.Conv.{Conv}
-use Rattle.cm_replay.specs.declared.ending.End.{End}
-use Rattle.cm_replay.specs.declared.ending.End.TheVariants.{Done, Dry, Fifo}
+use Rattle.cm_text.specs.declared.end.End.{End}
+use Rattle.cm_text.specs.declared.end.End.TheVariants.{Done, Dry, Fifo}
 
 -- the conversions to come, each at the time at which it reaches the buffer;
 -- whether no conversion of the command is cut off; the edge that stops the command;

@@ -5,8 +5,7 @@ use Rattle.cm_board.specs.Board.{SubText, maxdata_of}
 use Rattle.cm_cmd.specs.Entry.{chan}
 use Rattle.cm_sample.specs.Rule.{map_from}
 use Rattle.cm_expand.specs.Rule.{entry_at}
-use Rattle.cm_replay.specs.Answers.{Filled, Idle, Marked, Reply, Written, goes_on, kept, unless_ended}
-use Rattle.cm_replay.specs.Reading.{reported_end}
+use Rattle.cm_replay.specs.Answers.{Filled, Marked, Reply, Written, goes_on, kept}
 use Rattle.cm_replay.specs.Running.{Running, munge_in}
 use Rattle.cm_replay.specs.State.{Here}
 
@@ -55,16 +54,12 @@ abbrev pub write_on : List ℕ → Running → Running
 write_on words c = mark_on (length words) (fill_on words c)
 
 -- `fill`: the first words, as far as there is room
-abbrev pub fill_reply : List ℕ → Here → Option Running → Reply
-fill_reply words h None = kept h Idle
-fill_reply words h (Some c) =
-    unless_ended h (reported_end c) (goes_on h (fill_on (taken_in words c) c) (Filled (taken_in words c)))
+abbrev pub fill_reply : List ℕ → Here → Running → Reply
+fill_reply words h c = goes_on h (fill_on (taken_in words c) c) (Filled (taken_in words c))
 
 -- `write`: the same, and they are marked
-abbrev pub write_reply : List ℕ → Here → Option Running → Reply
-write_reply words h None = kept h Idle
-write_reply words h (Some c) =
-    unless_ended h (reported_end c) (goes_on h (write_on (taken_in words c) c) (Written (taken_in words c)))
+abbrev pub write_reply : List ℕ → Here → Running → Reply
+write_reply words h c = goes_on h (write_on (taken_in words c) c) (Written (taken_in words c))
 
 -- `mark`: the first `k` words that aren't marked
 abbrev pub mark_reply : ℕ → Here → Option Running → Reply

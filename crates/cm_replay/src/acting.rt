@@ -1,10 +1,10 @@
 // What a line of a session does.
-ghost use Rattle.std.specs.Prelude.{◌≡◌, ◌≤◌, ◌^◌, List, None, true, OnOk};
+ghost use Rattle.std.specs.Prelude.{◌≡◌, ◌≤◌, ◌^◌, List, true, OnOk};
 ghost use Rattle.std.specs.List.{All};
 ghost use Rattle.cm_insn.specs.Insn.{time_words};
 ghost use Rattle.cm_replay.specs.Answers.{Data, Fine};
-ghost use Rattle.cm_replay.specs.Forms.{form, is_of_command, kind_checks, named_sub};
-ghost use Rattle.cm_replay.specs.Replies.{CanAct, CanStep, HasCome, IsReached, IsWhole, Leads, Replies, Steps, checked, here_at, is_insn, names_sub, seat_reply};
+ghost use Rattle.cm_replay.specs.Forms.{form, is_of_command, named_sub};
+ghost use Rattle.cm_replay.specs.Replies.{CanAct, CanStep, HasCome, IsReached, IsWhole, Leads, Replies, Steps, checked, here_at, is_insn, names_sub};
 ghost use Rattle.cm_replay.specs.Session as session;
 ghost use Rattle.cm_replay.specs.State.{Device};
 ghost use Rattle.cm_session.specs.Limits.{HasLimits};
@@ -82,7 +82,6 @@ fn run<'a>(
     text: &mut Vec<u8>,
 ) -> Result<(), NoMemory>
     requires can { CanAct at.now op.now tried.now files.old seat.old }
-    requires fit { first_refusal (kind_checks op.now (here_at at.now files.old seat.old)) ≡ None }
     requires names { names_sub op.now ≡ true }
     ensures { OnOk result (Replies (checked (form op.now (here_at at.now files.old seat.old)) (here_at at.now files.old seat.old)) files.new seat.new text.old.items text.new.items) }
 {
@@ -104,29 +103,7 @@ fn run<'a>(
     }
 }
 
-// What a line does with its subdevice. Refused with Io (`EIO`) where the subdevice can't do what the
-// line asks.
-fn act_seat<'a>(
-    alloc: Global,
-    at: &At<'a>,
-    op: &Op,
-    tried: &'a Option<BoxedAccepted>,
-    files: &mut Files,
-    seat: &mut Seat<'a>,
-    text: &mut Vec<u8>,
-) -> Result<(), NoMemory>
-    requires can { CanAct at.now op.now tried.now files.old seat.old }
-    requires names { names_sub op.now ≡ true }
-    ensures { OnOk result (Replies (seat_reply op.now (here_at at.now files.old seat.old)) files.new seat.new text.old.items text.new.items) }
-{
-    if at.is_unfit(is_of_command(op)) {
-        put_refused(text, Errno::Io)
-    } else {
-        run(alloc, at, op, tried, files, seat, text)
-    }
-}
-
-// What a line does that names a subdevice. Refused as `Files::check` is.
+// What a line does that names a subdevice. Refused as `At::reach` is.
 fn act_on<'a>(
     alloc: Global,
     setting: &Setting<'a>,
@@ -141,11 +118,12 @@ fn act_on<'a>(
     ensures { OnOk result (Leads (session.act_on line.now.op (session.here setting.now line.now (record { files = files.old; devices = seats.old.items })) (record { files = files.old; devices = seats.old.items })) (record { files = files.new; devices = seats.new.items }) text.old.items text.new.items) }
 {
     let index = named_sub(&line.op);
-    let at = match At::reach(setting, files, line.time, line.file, index) {
+    let commands = is_of_command(&line.op);
+    let at = match At::reach(setting, files, line.time, line.file, index, commands) {
         Err(error) => return put_refused(text, error),
         Ok(at) => at,
     };
-    act_seat(
+    run(
         alloc,
         &at,
         &line.op,

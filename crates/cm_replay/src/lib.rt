@@ -10,7 +10,6 @@ pub mod command;
 pub mod declining;
 pub mod delayed;
 pub mod direct;
-pub mod ending;
 pub mod filling;
 pub mod handing;
 pub mod instructing;

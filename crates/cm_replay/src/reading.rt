@@ -1,43 +1,20 @@
 // The lines that read from the buffer of a subdevice's command.
-ghost use Rattle.std.specs.Prelude.{◌≡◌, ◌<◌, ◌≤◌, ◌∷◌, [], length, IfSome, OnOk};
-ghost use Rattle.std.specs.Result.{result_err};
-ghost use Rattle.cm_board.specs.Board.{is_output};
-ghost use Rattle.cm_replay.specs.Answers.{Ended, idle};
+ghost use Rattle.std.specs.Prelude.{◌≡◌, ◌<◌, ◌≤◌, length, IfSome, OnOk};
+ghost use Rattle.cm_replay.specs.Answers.{Reply};
 ghost use Rattle.cm_replay.specs.Forms.{form};
 ghost use Rattle.cm_replay.specs.Reading as spec;
 ghost use Rattle.cm_replay.specs.Ready.{CanMove};
 ghost use Rattle.cm_replay.specs.Replies.{IsReached, Replies, Tells, checked, here_at, spot_of};
+ghost use Rattle.cm_replay.specs.Running.{Running};
 ghost use Rattle.cm_replay.specs.Texts.{codes_answer};
 ghost use Rattle.cm_session.specs.declared.op.Op.TheVariants as ops;
-ghost use Rattle.cm_sub.specs.Checks.{first_refusal, refuse};
-ghost use Rattle.cm_sub.specs.Claims.{is_other};
-ghost use Rattle.cm_sub.specs.Files.{claim_at};
 
 use crate::at::At;
-use crate::ending::End;
 use crate::seat::Seat;
 use crate::text::{put_count, put_end, put_fine, put_idle, put_refused};
 use cm_base::transfer::NoMemory;
 use cm_sub::errno::Errno;
 use cm_sub::files::Files;
-
-// What a line is refused that reads, where its own test holds.
-fn refuses(at: &At<'_>, files: &Files, test: bool) -> Result<(), Errno>
-    requires { at.now.index < length files.now.claims }
-    ensures { result_err result ≡ first_refusal (refuse Errno.Inval (is_output at.now.sub.now.kind) ∷ refuse Errno.Access (is_other at.now.file (claim_at files.now at.now.index).runner) ∷ refuse Errno.Inval test ∷ []) }
-{
-    let sub = at.sub;
-    if sub.kind.is_output() {
-        return Err(Errno::Inval);
-    }
-    if at.is_foreign(files) {
-        return Err(Errno::Access);
-    }
-    if test {
-        return Err(Errno::Inval);
-    }
-    Ok(())
-}
 
 // How many samples are mapped.
 fn mapped(seat: &Seat<'_>) -> u64
@@ -53,20 +30,29 @@ fn mapped(seat: &Seat<'_>) -> u64
     }
 }
 
-/// Reports an end, and makes the subdevice idle.
-pub(crate) fn report_end(
+/// Reports that nothing runs, or the end of a command, which leaves its subdevice idle.
+pub(crate) fn report_over(
     at: &At<'_>,
-    end: End,
     files: &mut Files,
     seat: &mut Seat<'_>,
     text: &mut Vec<u8>,
 ) -> Result<(), NoMemory>
-    requires { at.now.index < length files.old.claims }
-    ensures { OnOk result (Replies (idle (here_at at.now files.old seat.old) (Ended end)) files.new seat.new text.old.items text.new.items) }
+    requires within { at.now.index < length files.old.claims }
+    requires over { spec.IsOver seat.old.running }
+    ensures reply { (next : Running → Reply) → OnOk result (Replies (spec.on_running (here_at at.now files.old seat.old) seat.old.running next) files.new seat.new text.old.items text.new.items) }
+    ensures codes { (next : Running → Reply) → OnOk result (Tells codes_answer (spec.on_running (here_at at.now files.old seat.old) seat.old.running next) files.new seat.new text.old.items text.new.items) }
 {
-    seat.running = None;
-    files.finish(at.index);
-    put_end(text, end)
+    let Some(command) = &seat.running else {
+        return put_idle(text);
+    };
+    match command.reported_end() {
+        None => unreachable!(),
+        Some(end) => {
+            seat.running = None;
+            files.finish(at.index);
+            put_end(text, end)
+        }
+    }
 }
 
 /// `read`: the first samples, up to `n`, or the end where nothing is left. Refused as a line that
@@ -82,15 +68,12 @@ pub(crate) fn read(
     requires ready { CanMove (spot_of at.now) at.now.index at.now.time seat.old.running }
     ensures { OnOk result (Replies (checked (form (ops.Read at.now.index n) (here_at at.now files.old seat.old)) (here_at at.now files.old seat.old)) files.new seat.new text.old.items text.new.items) }
 {
-    if let Err(error) = refuses(at, files, mapped(seat) != 0) {
+    if let Err(error) = at.refuses(files, false, mapped(seat) != 0) {
         return put_refused(text, error);
     }
     match &mut seat.running {
-        None => put_idle(text),
-        Some(command) => match command.reported_end() {
-            None => command.read(n, text),
-            Some(last) => report_end(at, last, files, seat, text),
-        },
+        Some(command) if command.runs_on() => command.read(n, text),
+        _ => report_over(at, files, seat, text),
     }
 }
 
@@ -107,15 +90,12 @@ pub fn read_codes(
     ensures { OnOk result (Tells codes_answer (checked (form (ops.Read at.now.index n) (here_at at.now files.old seat.old)) (here_at at.now files.old seat.old)) files.new seat.new text.old.items text.new.items) }
 {
     let count = mapped(seat);
-    if let Err(error) = refuses(at, files, count != 0) {
+    if let Err(error) = at.refuses(files, false, count != 0) {
         return put_refused(text, error);
     }
     match &mut seat.running {
-        None => put_idle(text),
-        Some(command) => match command.reported_end() {
-            None => command.read_codes(n, text),
-            Some(last) => report_end(at, last, files, seat, text),
-        },
+        Some(command) if command.runs_on() => command.read_codes(n, text),
+        _ => report_over(at, files, seat, text),
     }
 }
 
@@ -131,18 +111,15 @@ pub(crate) fn map(
     requires ready { CanMove (spot_of at.now) at.now.index at.now.time seat.old.running }
     ensures { OnOk result (Replies (checked (form (ops.Map at.now.index n) (here_at at.now files.old seat.old)) (here_at at.now files.old seat.old)) files.new seat.new text.old.items text.new.items) }
 {
-    if let Err(error) = refuses(at, files, false) {
+    if let Err(error) = at.refuses(files, false, false) {
         return put_refused(text, error);
     }
     match &mut seat.running {
-        None => put_idle(text),
-        Some(command) => match command.reported_end() {
-            None => {
-                let count = command.map(n);
-                put_count(text, u64::from(count))
-            }
-            Some(last) => report_end(at, last, files, seat, text),
-        },
+        Some(command) if command.runs_on() => {
+            let count = command.map(n);
+            put_count(text, u64::from(count))
+        }
+        _ => report_over(at, files, seat, text),
     }
 }
 
@@ -159,7 +136,7 @@ pub(crate) fn look(
     requires ready { CanMove (spot_of at.now) at.now.index at.now.time seat.now.running }
     ensures { OnOk result (Replies (checked (form (ops.Look at.now.index i) (here_at at.now files.now seat.now)) (here_at at.now files.now seat.now)) files.now seat.now text.old.items text.new.items) }
 {
-    if let Err(error) = refuses(at, files, mapped(seat) <= u64::from(i)) {
+    if let Err(error) = at.refuses(files, false, mapped(seat) <= u64::from(i)) {
         return put_refused(text, error);
     }
     match &seat.running {
@@ -181,7 +158,7 @@ pub(crate) fn release(
     requires ready { CanMove (spot_of at.now) at.now.index at.now.time seat.old.running }
     ensures { OnOk result (Replies (checked (form (ops.Release at.now.index k) (here_at at.now files.now seat.old)) (here_at at.now files.now seat.old)) files.now seat.new text.old.items text.new.items) }
 {
-    if let Err(error) = refuses(at, files, mapped(seat) < u64::from(k)) {
+    if let Err(error) = at.refuses(files, false, mapped(seat) < u64::from(k)) {
         return put_refused(text, error);
     }
     if let Some(command) = &mut seat.running {

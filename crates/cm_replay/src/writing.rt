@@ -1,41 +1,18 @@
 // The lines that write into the buffer of a subdevice's command.
-ghost use Rattle.std.specs.Prelude.{◌≡◌, ◌+◌, ◌<◌, ◌≤◌, ◌^◌, ◌∷◌, [], not, length, IfSome, OnOk};
-ghost use Rattle.std.specs.Result.{result_err};
-ghost use Rattle.cm_board.specs.Board.{is_output};
+ghost use Rattle.std.specs.Prelude.{◌≡◌, ◌<◌, ◌≤◌, ◌^◌, length, OnOk};
 ghost use Rattle.cm_replay.specs.Forms.{form};
 ghost use Rattle.cm_replay.specs.Ready.{CanMove};
 ghost use Rattle.cm_replay.specs.Replies.{Replies, checked, here_at, spot_of};
 ghost use Rattle.cm_replay.specs.Writing as spec;
 ghost use Rattle.cm_session.specs.declared.op.Op.TheVariants as ops;
-ghost use Rattle.cm_sub.specs.Checks.{first_refusal, refuse};
-ghost use Rattle.cm_sub.specs.Claims.{is_other};
-ghost use Rattle.cm_sub.specs.Files.{claim_at};
 
 use crate::at::At;
-use crate::reading::report_end;
+use crate::reading::report_over;
 use crate::seat::Seat;
-use crate::text::{put_count, put_idle, put_refused};
+use crate::text::{put_count, put_refused};
 use cm_base::transfer::NoMemory;
 use cm_sub::errno::Errno;
 use cm_sub::files::Files;
-
-// What a line is refused that writes, where its own tests hold, the second after the first.
-fn refuses(at: &At<'_>, files: &Files, first: bool, second: bool) -> Result<(), Errno>
-    requires { at.now.index < length files.now.claims }
-    ensures { result_err result ≡ first_refusal (refuse Errno.Inval (not (is_output at.now.sub.now.kind)) ∷ refuse Errno.Access (is_other at.now.file (claim_at files.now at.now.index).runner) ∷ refuse Errno.Inval first ∷ refuse Errno.Inval second ∷ []) }
-{
-    let sub = at.sub;
-    if !sub.kind.is_output() {
-        return Err(Errno::Inval);
-    }
-    if at.is_foreign(files) {
-        return Err(Errno::Access);
-    }
-    if first || second {
-        return Err(Errno::Inval);
-    }
-    Ok(())
-}
 
 // How many words are filled and not marked.
 fn unmarked(seat: &Seat<'_>) -> u64
@@ -108,19 +85,18 @@ pub(crate) fn write(
     requires ready { CanMove (spot_of at.now) at.now.index at.now.time seat.old.running }
     ensures { OnOk result (Replies (checked (form (ops.Write at.now.index words.now) (here_at at.now files.old seat.old)) (here_at at.now files.old seat.old)) files.new seat.new text.old.items text.new.items) }
 {
-    let waiting = unmarked(seat) != 0;
-    if let Err(error) = refuses(at, files, waiting, !fit(at, seat, words)) {
+    if let Err(error) = at.refuses(files, true, unmarked(seat) != 0) {
         return put_refused(text, error);
     }
+    if !fit(at, seat, words) {
+        return put_refused(text, Errno::Inval);
+    }
     match &mut seat.running {
-        None => put_idle(text),
-        Some(command) => match command.reported_end() {
-            None => {
-                let count = command.write(words);
-                put_count(text, u64::from(count))
-            }
-            Some(last) => report_end(at, last, files, seat, text),
-        },
+        Some(command) if command.runs_on() => {
+            let count = command.write(words);
+            put_count(text, u64::from(count))
+        }
+        _ => report_over(at, files, seat, text),
     }
 }
 
@@ -138,18 +114,15 @@ pub(crate) fn fill(
     requires ready { CanMove (spot_of at.now) at.now.index at.now.time seat.old.running }
     ensures { OnOk result (Replies (checked (form (ops.Fill at.now.index words.now) (here_at at.now files.old seat.old)) (here_at at.now files.old seat.old)) files.new seat.new text.old.items text.new.items) }
 {
-    if let Err(error) = refuses(at, files, false, !fit(at, seat, words)) {
+    if let Err(error) = at.refuses(files, true, !fit(at, seat, words)) {
         return put_refused(text, error);
     }
     match &mut seat.running {
-        None => put_idle(text),
-        Some(command) => match command.reported_end() {
-            None => {
-                let count = command.fill(words);
-                put_count(text, u64::from(count))
-            }
-            Some(last) => report_end(at, last, files, seat, text),
-        },
+        Some(command) if command.runs_on() => {
+            let count = command.fill(words);
+            put_count(text, u64::from(count))
+        }
+        _ => report_over(at, files, seat, text),
     }
 }
 
@@ -166,7 +139,7 @@ pub(crate) fn mark(
     requires ready { CanMove (spot_of at.now) at.now.index at.now.time seat.old.running }
     ensures { OnOk result (Replies (checked (form (ops.Mark at.now.index k) (here_at at.now files.now seat.old)) (here_at at.now files.now seat.old)) files.now seat.new text.old.items text.new.items) }
 {
-    if let Err(error) = refuses(at, files, false, unmarked(seat) < u64::from(k)) {
+    if let Err(error) = at.refuses(files, true, unmarked(seat) < u64::from(k)) {
         return put_refused(text, error);
     }
     if let Some(command) = &mut seat.running {

@@ -1,21 +1,21 @@
 -- What is reported to a client, against the line that its question is in other words.
-use Rattle.std.proofs.Common.{◌≡◌, ℕ, List, [], ◌∷◌, ◌++◌, get_or, map, set, Option, None, Result, Ok, Err, OnOk, refl, sym, ap, ap₂, ◌∙◌, subst, append_assoc}
+use Rattle.std.proofs.Common.{◌≡◌, ℕ, true, List, [], ◌∷◌, ◌++◌, get_or, map, set, Option, None, Result, Ok, Err, OnOk, refl, sym, ap, ap₂, ◌∙◌, subst, append_assoc}
 use Rattle.cm_sub.specs.Checks.{first_refusal}
-use Rattle.cm_sub.specs.Files.{FilesText, reach_checks}
+use Rattle.cm_sub.specs.Files.{FilesText}
 use Rattle.cm_signal.specs.Setting.{Setting}
 use Rattle.cm_session.specs.declared.op.SessionLine.{SessionLine}
 use Rattle.cm_text.specs.Outputs.{output_texts}
 use Rattle.cm_serve.specs.Asking.{asked_op, asked_text, asked_time, line_of, report, told_time}
-use Rattle.cm_replay.specs.Forms.{named_sub}
+use Rattle.cm_replay.specs.Forms.{form, is_of_command, line_checks, named_sub}
 use Rattle.cm_replay.specs.Answers.{Answer}
-use Rattle.cm_replay.specs.Replies.{LeadsTelling, Tells, seat_reply}
+use Rattle.cm_replay.specs.Replies.{LeadsTelling, Tells, checked, place_checks}
 use Rattle.cm_replay.specs.Running.{Running}
 use Rattle.cm_replay.specs.Session.{Outcome, act, act_on, brought_all, brought_device, due_from, here, step}
 use Rattle.cm_replay.specs.State.{Device, Here, State, device_at}
 use Rattle.cm_serve.specs.declared.asked.Asked.{Asked}
 use Rattle.cm_serve.specs.declared.asked.Question.{Question}
 use Rattle.cm_serve.specs.declared.asked.Question.TheVariants.{Await, Info, Codes, Peek}
-use Rattle.cm_replay.proofs.Acted.{acted}
+use Rattle.cm_replay.proofs.Acted.{acted, found}
 
 -- a question's line names its subdevice, and acts on that subdevice
 pub asked-sub : (sub : ℕ) (q : Question) → named_sub (asked_op sub q) ≡ sub
@@ -24,11 +24,22 @@ asked-sub sub Info = refl
 asked-sub sub (Codes n) = refl
 asked-sub sub (Peek from n) = refl
 
+-- which is one of a command
+asked-commands : (sub : ℕ) (q : Question) → is_of_command (asked_op sub q) ≡ true
+asked-commands sub (Await n) = refl
+asked-commands sub Info = refl
+asked-commands sub (Codes n) = refl
+asked-commands sub (Peek from n) = refl
+
 pub asked-acts : (s : Setting) (line : SessionLine) (sub : ℕ) (q : Question) (state : State) → act s line (asked_op sub q) state ≡ act_on (asked_op sub q) (here s line state) state
 asked-acts s line sub (Await n) state = refl
 asked-acts s line sub Info state = refl
 asked-acts s line sub (Codes n) state = refl
 asked-acts s line sub (Peek from n) state = refl
+
+-- a place where nothing refuses a question is one for its line
+pub asked-found : (s : Setting) (asked : Asked) (state : State) → None ≡ first_refusal (place_checks s state.files asked.file asked.sub true) → first_refusal (line_checks (line_of asked).op (here s (line_of asked) state)) ≡ None
+asked-found s asked state passed = found s (line_of asked) state asked.sub true (sym (asked-sub asked.sub asked.question)) (sym (asked-commands asked.sub asked.question)) passed
 
 -- what is reported of a question, of a command that is brought to its time
 abbrev pub told : Asked → List Device → Answer → List ℕ
@@ -36,8 +47,8 @@ told asked devices = report asked.question asked.time (device_at devices asked.s
 
 -- what is said of its subdevice is said of what the question's line leads to
 said-acted : {X E : Type 0} (say : ℕ → Option Running → Answer → List ℕ) (s : Setting) (asked : Asked) (state : State) (i : ℕ) (h : Here) (result : Result X E) (files : FilesText) (device : Device) (old new : List ℕ) →
-    h ≡ here s (line_of asked) state → h.index ≡ i → first_refusal (reach_checks asked.file i state.files) ≡ None →
-    OnOk result (Tells (say h.time h.device.running) (seat_reply (line_of asked).op h) files device old new) →
+    h ≡ here s (line_of asked) state → h.index ≡ i → first_refusal (line_checks (line_of asked).op (here s (line_of asked) state)) ≡ None →
+    OnOk result (Tells (say h.time h.device.running) (checked (form (line_of asked).op h) h) files device old new) →
     OnOk result (LeadsTelling (say asked.time (device_at state.devices asked.sub).running) (act s (line_of asked) (line_of asked).op state) (record { files = files; devices = set state.devices i device }) old new)
 said-acted say s asked state i h (Err e) files device old new same index reached tells = tt
 said-acted {E = E} say s asked state i h (Ok x) files device old new same index reached tells =
@@ -51,16 +62,16 @@ said-acted {E = E} say s asked state i h (Ok x) files device old new same index 
 
 -- so is what is reported
 pub asked-acted : {X E : Type 0} (s : Setting) (asked : Asked) (state : State) (i : ℕ) (h : Here) (result : Result X E) (files : FilesText) (device : Device) (old new : List ℕ) → h ≡ here s (line_of asked) state → h.index ≡ i →
-    first_refusal (reach_checks asked.file i state.files) ≡ None → OnOk result (Tells (report asked.question h.time h.device.running) (seat_reply (line_of asked).op h) files device old new) →
+    first_refusal (line_checks (line_of asked).op (here s (line_of asked) state)) ≡ None → OnOk result (Tells (report asked.question h.time h.device.running) (checked (form (line_of asked).op h) h) files device old new) →
     OnOk result (LeadsTelling (told asked state.devices) (act s (line_of asked) (line_of asked).op state) (record { files = files; devices = set state.devices i device }) old new)
 asked-acted s asked state i h result files device old new same index reached tells = said-acted (report asked.question) s asked state i h result files device old new same index reached tells
 
 -- and the time that is told
-pub asked-told : (s : Setting) (asked : Asked) (state : State) (i : ℕ) (h : Here) → h ≡ here s (line_of asked) state → h.index ≡ i → first_refusal (reach_checks asked.file i state.files) ≡ None →
-    told_time asked.question h.time h.device.running (seat_reply (line_of asked).op h).answer
+pub asked-told : (s : Setting) (asked : Asked) (state : State) (i : ℕ) (h : Here) → h ≡ here s (line_of asked) state → h.index ≡ i → first_refusal (line_checks (line_of asked).op (here s (line_of asked) state)) ≡ None →
+    told_time asked.question h.time h.device.running (checked (form (line_of asked).op h) h).answer
     ≡ told_time asked.question asked.time (device_at state.devices asked.sub).running (act s (line_of asked) (line_of asked).op state).answer
 asked-told s asked state i h same index reached =
-    let reply = seat_reply (line_of asked).op h in
+    let reply = checked (form (line_of asked).op h) h in
     let say : ℕ → Option Running → Answer → List ℕ = λ time running answer. told_time asked.question time running answer ∷ [] in
     let ok : Result (Unit {0}) (Unit {0}) = Ok tt in
     let led = said-acted say s asked state i h ok reply.files reply.device [] (say h.time h.device.running reply.answer) same index reached (record { its_files = refl; its_device = refl; reported = refl }) in

@@ -22,8 +22,8 @@ use Rattle.cm_replay.specs.Running.{Running, Schedule, arrived, brought, end_by,
 use Rattle.cm_replay.specs.Session.{brought_all}
 use Rattle.cm_replay.specs.State.{Device, State, at_start, device_at}
 use Rattle.cm_replay.specs.Timely.{IsTimely}
-use Rattle.cm_replay.specs.declared.ending.End.{End}
-use Rattle.cm_replay.specs.declared.ending.End.TheVariants.{Done, Dry}
+use Rattle.cm_text.specs.declared.end.End.{End}
+use Rattle.cm_text.specs.declared.end.End.TheVariants.{Done, Dry}
 use Rattle.cm_replay.proofs.Bringing.{none-yet, quiet-none}
 use Rattle.cm_replay.proofs.Laws.{moves-in, moves-out}
 use Rattle.cm_replay.proofs.SessionLaws.{device_at-brought, session_law}

@@ -7,6 +7,7 @@ use Rattle.cm_session.specs.declared.op.Op.{Op}
 use Rattle.cm_session.specs.declared.op.Op.TheVariants as ops
 use Rattle.cm_session.specs.declared.op.SessionLine.{SessionLine}
 use Rattle.cm_text.specs.Outputs.{output_texts}
+use Rattle.cm_text.specs.Tails.{end_words}
 use Rattle.cm_replay.specs.Answers.{Answer, Holds}
 use Rattle.cm_replay.specs.Awaiting.{await_time}
 use Rattle.cm_replay.specs.Reading.{peeked, reported_end}
@@ -14,8 +15,7 @@ use Rattle.cm_replay.specs.Running.{Running}
 use Rattle.cm_replay.specs.Session.{brought_all, step}
 use Rattle.cm_replay.specs.State.{State, device_at}
 use Rattle.cm_replay.specs.Texts.{answer_text, codes_answer, codes_text, count_text}
-use Rattle.cm_replay.specs.declared.ending.End.{End}
-use Rattle.cm_replay.specs.declared.ending.End.TheVariants.{Done, Dry, Overrun, Underrun, Fifo}
+use Rattle.cm_text.specs.declared.end.End.{End}
 use Rattle.cm_serve.specs.declared.asked.Asked.{Asked}
 use Rattle.cm_serve.specs.declared.asked.Fetch.{Fetch}
 use Rattle.cm_serve.specs.declared.asked.Question.{Question}
@@ -35,11 +35,7 @@ line_of asked = record { time = asked.time; file = asked.file; op = asked_op ask
 -- how a command stands, as its client sees it: an input's end is seen where nothing is left to read
 abbrev pub standing : Option End → List ℕ
 standing None = codes "runs"
-standing (Some Done) = codes "done"
-standing (Some Dry) = codes "dry"
-standing (Some (Overrun k)) = codes "overrun " ++ decimal k
-standing (Some (Underrun k)) = codes "underrun " ++ decimal k
-standing (Some (Fifo k)) = codes "fifo " ++ decimal k
+standing (Some e) = end_words e
 
 -- the places up to which samples were read and written, and how the command stands
 abbrev pub info_text : Option Running → List ℕ

@@ -5,7 +5,7 @@ ghost use Rattle.cm_serve.specs.Asking.{asked_op, asked_text, asked_time, info_t
 ghost use Rattle.cm_replay.specs.Awaiting.{await_time};
 ghost use Rattle.cm_replay.specs.Reading.{peeked};
 ghost use Rattle.cm_replay.specs.Forms.{form};
-ghost use Rattle.cm_replay.specs.Replies.{CanAct, CanStep, HasCome, LeadsTelling, Tells, checked, here_at, seat_reply};
+ghost use Rattle.cm_replay.specs.Replies.{CanAct, CanStep, HasCome, LeadsTelling, Tells, checked, here_at};
 ghost use Rattle.cm_replay.specs.Session as session;
 ghost use Rattle.cm_replay.specs.State.{device_at};
 ghost use Rattle.cm_replay.specs.Texts.{codes_text, count_text};
@@ -92,28 +92,7 @@ fn report(
     Ok(at.time)
 }
 
-// What is reported of a subdevice. Refused with Io (`EIO`) where no command can run on it.
-fn ask_seat(
-    alloc: Global,
-    at: &At<'_>,
-    question: Question,
-    files: &mut Files,
-    seat: &mut Seat<'_>,
-    text: &mut Vec<u8>,
-) -> Result<u64, NoMemory>
-    requires { CanAct at.now (asked_op at.now.index question) None files.old seat.old }
-    ensures text { OnOk result (Tells (report question at.now.time seat.old.running) (seat_reply (asked_op at.now.index question) (here_at at.now files.old seat.old)) files.new seat.new text.old.items text.new.items) }
-    ensures time { IfOk result (λ told. told ≡ told_time question at.now.time seat.old.running (seat_reply (asked_op at.now.index question) (here_at at.now files.old seat.old)).answer) }
-{
-    if at.is_unfit(true) {
-        put_refused(text, Errno::Io)?;
-        Ok(at.time)
-    } else {
-        report(alloc, at, question, files, seat, text)
-    }
-}
-
-// What is reported once all commands are brought to the time. Refused as `Files::check` is.
+// What is reported once all commands are brought to the time. Refused as `At::reach` is.
 fn ask_on<'a>(
     alloc: Global,
     setting: &Setting<'a>,
@@ -127,14 +106,14 @@ fn ask_on<'a>(
     ensures time { IfOk result (λ told. told ≡ told_time asked.now.question asked.now.time (device_at seats.old.items asked.now.sub).running (session.act setting.now (line_of asked.now) (line_of asked.now).op (record { files = files.old; devices = seats.old.items })).answer) }
 {
     let index = asked.sub;
-    let at = match At::reach(setting, files, asked.time, asked.file, index) {
+    let at = match At::reach(setting, files, asked.time, asked.file, index, true) {
         Err(error) => {
             put_refused(text, error)?;
             return Ok(asked.time);
         }
         Ok(at) => at,
     };
-    ask_seat(
+    report(
         alloc,
         &at,
         asked.question,

@@ -77,6 +77,6 @@ fn put_line(text: &mut Vec<u8>, line: &[u8]) -> Result<(), TalkStop>
         return Err(TalkStop::TooLong);
     }
     text.extend_from_slice(line)?;
-    text.push(b'\n')?;
+    text.extend_from_slice(b"\n")?;
     Ok(())
 }

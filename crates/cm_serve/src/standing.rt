@@ -5,8 +5,7 @@ ghost use Rattle.cm_serve.specs.Asking.{info_text, standing};
 
 use cm_base::numbers::put_u64;
 use cm_base::transfer::NoMemory;
-use cm_replay::ending::End;
-use cm_text::tail::put_counted;
+use cm_text::end::{End, put_end_words};
 
 /// Appends the places up to which a command's samples were read and written, and how it stands.
 pub fn put_places(text: &mut Vec<u8>, r: u64, w: u64, end: Option<End>) -> Result<(), NoMemory>
@@ -35,12 +34,10 @@ fn put_standing(text: &mut Vec<u8>, end: Option<End>) -> Result<(), NoMemory>
     ensures { OnOk result (text.new.items ≡ text.old.items ++ standing end) }
 {
     match end {
-        None => text.extend_from_slice(b"runs")?,
-        Some(End::Done) => text.extend_from_slice(b"done")?,
-        Some(End::Dry) => text.extend_from_slice(b"dry")?,
-        Some(End::Overrun(count)) => put_counted(text, b"overrun ", count)?,
-        Some(End::Underrun(count)) => put_counted(text, b"underrun ", count)?,
-        Some(End::Fifo(count)) => put_counted(text, b"fifo ", count)?,
+        None => {
+            text.extend_from_slice(b"runs")?;
+            Ok(())
+        }
+        Some(end) => put_end_words(text, end),
     }
-    Ok(())
 }

@@ -6,7 +6,7 @@ ghost use Rattle.cm_serve.specs.declared.stop.TalkStop.TheVariants as stops;
 
 use cm_base::faults::{ReadStop, Refused};
 use cm_base::transfer::{NoMemory, ReadError, WriteFault};
-use std::alloc::{AllocError, AllocFailed};
+use std::alloc::AllocError;
 
 /// Why a dialogue was cut short.
 #[derive(Clone, Copy, Debug, PartialEq, Eq)]
@@ -30,14 +30,6 @@ impl From<AllocError> for TalkStop {
     ghost from_gives = { λ _ e. e ≡ stops.NoMemory };
 
     fn from(_: AllocError) -> TalkStop {
-        TalkStop::NoMemory
-    }
-}
-
-impl<T: Drop> From<AllocFailed<T>> for TalkStop {
-    ghost from_gives = { λ _ e. e ≡ stops.NoMemory };
-
-    fn from(_: AllocFailed<T>) -> TalkStop {
         TalkStop::NoMemory
     }
 }

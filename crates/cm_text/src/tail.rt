@@ -1,9 +1,8 @@
 // The line that ends a block of samples or of outputs.
-ghost use Rattle.std.specs.Prelude.{◌≡◌, ◌++◌, codes, OnOk};
-ghost use Rattle.std.specs.Fmt.{decimal};
+ghost use Rattle.std.specs.Prelude.{◌≡◌, ◌++◌, OnOk};
 ghost use Rattle.cm_text.specs.Tails.{tail_text};
 
-use cm_base::numbers::put_u64;
+use crate::end::{End, put_counted, put_end_line};
 use cm_base::transfer::NoMemory;
 
 /// How a block of lines ends.
@@ -26,28 +25,14 @@ pub fn put_tail(text: &mut Vec<u8>, tail: Tail) -> Result<(), NoMemory>
     ensures { OnOk result (text.new.items ≡ text.old.items ++ tail_text tail) }
 {
     match tail {
-        Tail::Done => text.extend_from_slice(b"done\n")?,
-        Tail::Dry => text.extend_from_slice(b"dry\n")?,
-        Tail::Overrun(count) => put_counted_line(text, b"overrun ", count)?,
-        Tail::Taken(count) => put_counted_line(text, b"taken ", count)?,
-        Tail::Underrun(count) => put_counted_line(text, b"underrun ", count)?,
+        Tail::Done => put_end_line(text, End::Done),
+        Tail::Dry => put_end_line(text, End::Dry),
+        Tail::Overrun(count) => put_end_line(text, End::Overrun(count)),
+        Tail::Taken(count) => {
+            put_counted(text, b"taken ", count)?;
+            text.extend_from_slice(b"\n")?;
+            Ok(())
+        }
+        Tail::Underrun(count) => put_end_line(text, End::Underrun(count)),
     }
-    Ok(())
-}
-
-/// Appends a word, as `overrun `, and a count.
-pub fn put_counted(text: &mut Vec<u8>, word: &[u8], count: u64) -> Result<(), NoMemory>
-    ensures { OnOk result (text.new.items ≡ text.old.items ++ (word.now ++ decimal count)) }
-{
-    text.extend_from_slice(word)?;
-    put_u64(text, count)
-}
-
-/// Appends a word and a count as a line.
-pub fn put_counted_line(text: &mut Vec<u8>, word: &[u8], count: u64) -> Result<(), NoMemory>
-    ensures { OnOk result (text.new.items ≡ text.old.items ++ (word.now ++ decimal count ++ codes "\n")) }
-{
-    put_counted(text, word, count)?;
-    text.extend_from_slice(b"\n")?;
-    Ok(())
 }

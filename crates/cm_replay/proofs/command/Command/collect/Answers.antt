@@ -2,7 +2,7 @@ use Rattle.std.proofs.Common.{◌≡◌, ◌≤◌, false, sym, ap, ◌∙◌, s
 use Rattle.cm_replay.specs.CommandView.{its_schedule}
 use Rattle.cm_replay.specs.Running.{Running, arrived, collected, is_out}
 use Rattle.cm_replay.specs.ToCome.{end_shown}
-use Rattle.cm_replay.specs.declared.ending.End.TheVariants.{Overrun}
+use Rattle.cm_text.specs.declared.end.End.TheVariants.{Overrun}
 use Rattle.cm_replay.proofs.Commands.{collected-command, places_left, running-collected}
 use Rattle.cm_replay.proofs.command.Command.collect.Goals as goal
 

@@ -5,7 +5,7 @@ use Rattle.cm_replay.specs.CommandView.{its_schedule}
 use Rattle.cm_replay.specs.Putting.{Moves}
 use Rattle.cm_replay.specs.Running.{Running, arrived, due, is_out, put_out}
 use Rattle.cm_replay.specs.ToCome.{ToCome, end_shown}
-use Rattle.cm_replay.specs.declared.ending.End.TheVariants.{Underrun}
+use Rattle.cm_text.specs.declared.end.End.TheVariants.{Underrun}
 use Rattle.cm_replay.proofs.Pacing.{due-put, long, marked, put-command, running-put}
 use Rattle.cm_replay.proofs.command.Command.put_out.Goals as goal
 
