@@ -1,6 +1,7 @@
 // Words through rings, with a thread for each end of a ring.
 ghost use Rattle.std.specs.Prelude.{◌≡◌, ◌<◌, ◌≤◌, ◌∷◌, [], length, take, drop, true, false, IfOk};
 ghost use Rattle.cm_ring_core.specs.Lawful.{first_writer};
+ghost use Rattle.cm_client.specs.Streamed.{EndsTruly};
 ghost use Rattle.cm_load.specs.Coming.{IsFresh, HasCome};
 ghost use Rattle.cm_board.specs.declared.munge.Munge.TheVariants.{Offset};
 ghost use Rattle.cm_sample.specs.Rule.{IsRule, rule_text};
@@ -9,8 +10,10 @@ use crate::reading::{Came, compare_all};
 use crate::words::Stretch;
 use cm_base::transfer::NoMemory;
 use cm_board::board::Munge;
+use cm_client::client::{GaveUp, give_up};
 use cm_client::feeding::feed;
 use cm_client::munging::munge_work;
+use cm_client::workers::{AllMunged, TrueEnd, Worker, with_worker};
 use cm_ring::munger::Munger;
 use cm_ring::open::open;
 use cm_ring::reader::Reader;
@@ -63,7 +66,7 @@ pub fn move_words<R: Threads + Wait + Sync>(
     let rule = offset_rule(alloc, maxdata)?;
     let moved = words_of(words, places);
     let (writer, munger, reader) = open(alloc, size, rule, true, base, moved)?;
-    Ok(stream(rt, writer, munger, reader, moved, places.first, maxdata))
+    Ok(stream(rt, writer, munger, reader, moved, places.first, maxdata)?)
 }
 
 // The writer's thread beside the two others.
@@ -75,42 +78,54 @@ fn stream<R: Threads + Wait + Sync, P: Planned + Send + Sync>(
     words: &[u32],
     first: u32,
     maxdata: u32,
-) -> Came
+) -> Result<Came, GaveUp<P>>
     requires writer { (writer.part ≡ first_writer) × (writer.ring.samples ≡ words.now) × (writer.ring.paced ≡ true) }
     requires reader { IsFresh reader }
-    ensures { HasCome reader.ring result }
+    ensures { IfOk result (λ c. HasCome reader.ring c) }
 {
-    let (_, came) = join(
+    let (_, came) = with_worker(
         rt,
+        TrueEnd,
         move || -> Closed<P>
             requires { (writer.part ≡ first_writer) × (writer.ring.samples ≡ words.now) × (writer.ring.paced ≡ true) }
+            ensures { EndsTruly result }
         { feed(rt, writer, words) },
-        move || -> Came
+        move |feeding| -> Result<Came, GaveUp<P>>
             requires { IsFresh reader }
-            ensures { HasCome reader.ring result }
-        { read_beside(rt, munger, reader, first, maxdata) },
+            ensures { IfOk result (λ c. HasCome reader.ring c) }
+        { read_beside(rt, munger, reader, feeding, first, maxdata) },
     );
     came
 }
 
-// The munger's thread beside the reader's.
+// The munger's thread beside the reader's, which gives up where a thread couldn't be made.
 fn read_beside<R: Threads + Wait + Sync, P: Planned + Send + Sync>(
     rt: &R,
     munger: Munger<P>,
     reader: Reader<P>,
+    other: Worker,
     first: u32,
     maxdata: u32,
-) -> Came
+) -> Result<Came, GaveUp<P>>
     requires { IsFresh reader }
-    ensures { HasCome reader.ring result }
+    ensures { IfOk result (λ c. HasCome reader.ring c) }
 {
-    let (_, came) = join(
+    if other == Worker::Refused {
+        return Err(give_up(reader));
+    }
+    let (_, came) = with_worker(
         rt,
-        move || -> Munger<P> { munge_work(rt, munger) },
-        move || -> Came
+        AllMunged,
+        move || munge_work(rt, munger),
+        move |munging| -> Result<Came, GaveUp<P>>
             requires { IsFresh reader }
-            ensures { HasCome reader.ring result }
-        { compare_all(rt, reader, first, maxdata) },
+            ensures { IfOk result (λ c. HasCome reader.ring c) }
+        {
+            if munging == Worker::Refused {
+                return Err(give_up(reader));
+            }
+            Ok(compare_all(rt, reader, first, maxdata))
+        },
     );
     came
 }

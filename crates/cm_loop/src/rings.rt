@@ -1,5 +1,5 @@
 // The threads of a loop.
-ghost use Rattle.std.specs.Prelude.{◌≡◌, [], IfOk, IfErr, true};
+ghost use Rattle.std.specs.Prelude.{◌≡◌, [], IfOk, IfErr};
 ghost use Rattle.cm_client.specs.Streamed.{HasAsked, IsFresh, StreamsTo};
 
 use crate::side::FilterSide;
@@ -52,7 +52,6 @@ pub(crate) fn stream_loop<
     requires words { words.items ≡ [] }
     ensures streamed { IfOk result (λ r. IfOk r (λ s. StreamsTo s.samples.items (λ words. words) side.entry.client.reader.ring reads.take s.end s.reader)) }
     ensures output { IfOk result (λ r. IfErr r (λ g. HasAsked side.entry.client.reader g.reader)) }
-    ensures input { IfErr result (λ g. g.reader.part.asked ≡ true) }
 {
     let (_, streamed) = with_worker(
         rt,
@@ -60,7 +59,7 @@ pub(crate) fn stream_loop<
         move || board.put_all(rt, Backoff::new(), gate, BOARD),
         move |board| -> Result<Result<Streamed<Q, Vec<u32>>, GaveUp<Q>>, GaveUp<P>>
             requires { IsFresh side.client.reader × (words.items ≡ []) }
-            ensures { IfOk result (λ r. IfOk r (λ s. StreamsTo s.samples.items (λ words. words) side.entry.client.reader.ring reads.take s.end s.reader) × IfErr r (λ g. HasAsked side.entry.client.reader g.reader)) × IfErr result (λ g. g.reader.part.asked ≡ true) }
+            ensures { IfOk result (λ r. IfOk r (λ s. StreamsTo s.samples.items (λ words. words) side.entry.client.reader.ring reads.take s.end s.reader) × IfErr r (λ g. HasAsked side.entry.client.reader g.reader)) }
         { munge_beside(rt, side, words, board, reads, gate) },
     );
     streamed
@@ -84,7 +83,6 @@ fn munge_beside<
     requires words { words.items ≡ [] }
     ensures streamed { IfOk result (λ r. IfOk r (λ s. StreamsTo s.samples.items (λ words. words) side.entry.client.reader.ring reads.take s.end s.reader)) }
     ensures output { IfOk result (λ r. IfErr r (λ g. HasAsked side.entry.client.reader g.reader)) }
-    ensures input { IfErr result (λ g. g.reader.part.asked ≡ true) }
 {
     let LoopSide {
         munger,
@@ -100,7 +98,7 @@ fn munge_beside<
         move || munge_work(rt, munger),
         move |munging| -> Result<Result<Streamed<Q, Vec<u32>>, GaveUp<Q>>, GaveUp<P>>
             requires { IsFresh client.reader × (words.items ≡ []) }
-            ensures { IfOk result (λ r. IfOk r (λ s. StreamsTo s.samples.items (λ words. words) client.reader.ring reads.take s.end s.reader) × IfErr r (λ g. HasAsked client.reader g.reader)) × IfErr result (λ g. g.reader.part.asked ≡ true) }
+            ensures { IfOk result (λ r. IfOk r (λ s. StreamsTo s.samples.items (λ words. words) client.reader.ring reads.take s.end s.reader) × IfErr r (λ g. HasAsked client.reader g.reader)) }
         { filter_beside(rt, filter, client, words, munging, reads, gate) },
     );
     streamed
@@ -125,7 +123,6 @@ fn filter_beside<
     requires words { words.items ≡ [] }
     ensures streamed { IfOk result (λ r. IfOk r (λ s. StreamsTo s.samples.items (λ words. words) client.reader.ring reads.take s.end s.reader)) }
     ensures output { IfOk result (λ r. IfErr r (λ g. HasAsked client.reader g.reader)) }
-    ensures input { IfErr result (λ g. g.reader.part.asked ≡ true) }
 {
     if other == Worker::Refused {
         return Err(filter.give_up());
@@ -136,7 +133,7 @@ fn filter_beside<
         move || filter.filter_all(rt),
         move |filtering| -> Result<Result<Streamed<Q, Vec<u32>>, GaveUp<Q>>, GaveUp<P>>
             requires { IsFresh client.reader × (words.items ≡ []) }
-            ensures { IfOk result (λ r. IfOk r (λ s. StreamsTo s.samples.items (λ words. words) client.reader.ring reads.take s.end s.reader) × IfErr r (λ g. HasAsked client.reader g.reader)) × IfErr result (λ g. g.reader.part.asked ≡ true) }
+            ensures { IfOk result (λ r. IfOk r (λ s. StreamsTo s.samples.items (λ words. words) client.reader.ring reads.take s.end s.reader) × IfErr r (λ g. HasAsked client.reader g.reader)) }
         { Ok(run_munging_client(rt, client, words, filtering, reads, gate, CLIENT)) },
     );
     streamed

@@ -9,7 +9,7 @@ ghost use Rattle.cm_ring_core.specs.Lawful.{first_reader, first_writer};
 use crate::rule::LoopRule;
 use crate::state::LoopState;
 use crate::work::loop_work;
-use cm_client::client::GaveUp;
+use cm_client::client::{GaveUp, give_up};
 use cm_ring::reader::Reader;
 use cm_ring::writer::{Closed, Writer};
 use cm_sample::planned::Planned;
@@ -59,13 +59,10 @@ impl<'a, P: Planned, Q: Planned> FilterSide<'a, P, Q> {
         }
     }
 
-    /// Gives up, and asks the input's ring for the stop.
-    pub(crate) fn give_up(self) -> GaveUp<P>
-        ensures { result.reader.part.asked ≡ true }
-    {
-        let FilterSide { mut input, .. } = self;
-        input.ask_stop();
-        GaveUp { reader: input }
+    /// Asks the input's ring for the stop, and gives up.
+    pub(crate) fn give_up(self) -> GaveUp<P> {
+        let FilterSide { input, .. } = self;
+        give_up(input)
     }
 
     /// Filters all samples, or ends where the stop of the output's ring was asked for.

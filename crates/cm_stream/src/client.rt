@@ -1,5 +1,5 @@
 // The one client of all watched lines.
-ghost use Rattle.std.specs.Prelude.{◌≡◌, ◌<◌, ◌≤◌, length, map, IfOk, IfErr};
+ghost use Rattle.std.specs.Prelude.{◌≡◌, ◌<◌, ◌≤◌, length, map, IfOk};
 ghost use Rattle.cm_stream.specs.Merging.{released_of};
 ghost use Rattle.cm_stream.specs.Watched.{AreRead, AreSame, AreStopped, CanPut, HasPut, HasWatched};
 
@@ -18,6 +18,14 @@ use std::sync::Wait;
 pub struct Watched<'a, P: Planned> {
     pub texts: Vec<SampleText<'a>>,
     pub merge: Merge<P>,
+}
+
+/// A client that gave up, for want of memory or of a thread: each of its streams has asked for the stop, so that
+/// a writer that waits for room ends.
+#[derive(Drop)]
+pub(crate) struct GaveUp<'a, P: Planned> {
+    pub client: Watched<'a, P>,
+    ghost asked: { AreStopped client.merge.streams },
 }
 
 // Appends the lines of a source's next samples.
@@ -101,11 +109,10 @@ pub(crate) fn read_scans<'a, R: Wait + Sync, P: Planned, G: Gate>(
     client: Watched<'a, P>,
     events: &WatchEvents,
     gate: &G,
-) -> Result<Watched<'a, P>, Watched<'a, P>>
+) -> Result<Watched<'a, P>, GaveUp<'a, P>>
     requires events { length client.merge.streams ≤ length events.now.lines.items }
     requires read { AreRead client.merge.streams client.texts.items }
-    ensures watched { IfOk result (λ w. HasWatched client.entry.merge.streams w.merge.streams client.entry.texts.items w.texts.items) }
-    ensures gave_up { IfErr result (λ w. AreStopped w.merge.streams) }
+    ensures { IfOk result (λ w. HasWatched client.entry.merge.streams w.merge.streams client.entry.texts.items w.texts.items) }
 {
     let Watched {
         mut texts,
@@ -117,14 +124,12 @@ pub(crate) fn read_scans<'a, R: Wait + Sync, P: Planned, G: Gate>(
     }
 }
 
-/// Gives up, and asks every ring for the stop.
+/// Asks every ring for the stop, and gives up.
 pub(crate) fn give_up<'a, P: Planned>(
     mut client: Watched<'a, P>,
     events: &WatchEvents,
-) -> Watched<'a, P>
-    ensures { AreStopped result.merge.streams }
-{
+) -> GaveUp<'a, P> {
     client.merge.stop_all();
     events.wake_boards();
-    client
+    GaveUp { client }
 }

@@ -10,7 +10,7 @@ ghost use Rattle.cm_stream.specs.Opened.{AreFor, line_start, stream_start};
 ghost use Rattle.cm_stream.specs.Watched.{AreRead};
 
 use crate::events::LineEvents;
-use crate::side::BoardSide;
+use crate::side::{BoardSide, LineBoard};
 use crate::stream::ScanStream;
 use cm_base::transfer::NoMemory;
 use cm_board::board::BoardDesc;
@@ -62,7 +62,7 @@ fn open_line<'a>(
 ) -> Result<OpenedLine<'a>, NoMemory>
     requires run { CanRun board.now signals.now line.now }
     requires watch { IsWatched board.now line.now }
-    ensures side { IfOk result (λ o. o.side.sub < length board.entry.now.subs) }
+    ensures side { IfOk result (λ o. o.side.board.sub < length board.entry.now.subs) }
     ensures stream { IfOk result (λ o. stream_start o.stream ≡ line_start board.entry.now signals.entry.now line.entry.now) }
     ensures text { IfOk result (λ o. o.text ≡ no_lines (line_format board.entry.now signals.entry.now line.entry.now)) }
     ensures report { IfOk result (λ o. Accepts (CanReport o.text) (line_start board.entry.now signals.entry.now line.entry.now).ring) }
@@ -78,8 +78,10 @@ fn open_line<'a>(
     } = open_paced(alloc, plan, cmd)?;
     let scan = cmd.cmd().list.len() as u32;
     let stream = ScanStream::new(alloc, reader, scan);
-    let sub = line.sub();
-    let side = BoardSide { board, munger, sub };
+    let side = BoardSide {
+        board: LineBoard::new(board, line.sub()),
+        munger,
+    };
     Ok(OpenedLine {
         side,
         events,
@@ -97,7 +99,7 @@ pub(crate) fn open_lines<'a>(
 ) -> Result<Opened<'a>, NoMemory>
     requires run { All (CanRun board.now signals.now) lines.now }
     requires watched { All (IsWatched board.now) lines.now }
-    ensures sides { IfOk result (λ o. All (λ side. side.sub < length board.entry.now.subs) o.sides.items) }
+    ensures sides { IfOk result (λ o. All (λ side. side.board.sub < length board.entry.now.subs) o.sides.items) }
     ensures count { IfOk result (λ o. length o.sides.items ≡ length lines.entry.now) }
     ensures events { IfOk result (λ o. length o.events.items ≡ length lines.entry.now) }
     ensures start { IfOk result (λ o. AreFor board.entry.now signals.entry.now lines.entry.now o.streams.items o.texts.items) }

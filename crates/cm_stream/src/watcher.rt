@@ -1,7 +1,7 @@
 // How the client of watched lines waits.
-ghost use Rattle.std.specs.Prelude.{◌≡◌, ◌<◌, ◌≤◌, length, map, slice_set, IfOk};
+ghost use Rattle.std.specs.Prelude.{◌≡◌, ◌<◌, ◌≤◌, length, map, not, slice_set, IfOk};
 ghost use Rattle.cm_stream.specs.Merging.{released_of};
-ghost use Rattle.cm_stream.specs.Told.{rung};
+ghost use Rattle.cm_stream.specs.Told.{rung, untold, HasRung};
 
 use crate::events::WatchEvents;
 use crate::merge::Merge;
@@ -15,7 +15,7 @@ use std::sync::Wait;
 
 /// A client that sleeps until samples of any line have come, and lets the boards of lines know whose cells
 /// it has made free. Contracts see of it how many released samples of each line its board was let know of,
-/// and the boards' alarms.
+/// the boards' alarms, and whether it is announced.
 #[derive(Drop)]
 pub struct Watcher<'a> {
     sleeper: Sleeper<'a>,
@@ -29,7 +29,7 @@ impl<'a> Model for Watcher<'a> {
 
     ghost Value = { WatcherText };
 
-    ghost view = { λ w. record { told = w.told.items; boards = w.boards.items } };
+    ghost view = { λ w. record { told = w.told.items; boards = w.boards.items; announced = w.sleeper } };
 
     ghost invariant = { λ w. length w.told.items ≤ length w.boards.items };
 }
@@ -51,23 +51,25 @@ impl<'a> Watcher<'a> {
         })
     }
 
-    /// So many samples of a line are released.
+    /// So many samples of a line are released: its board's alarm has those that it had not.
     pub fn release(&mut self, line: u32, released: u64)
         requires { line < length self.old.told }
-        ensures { self.new.told ≡ slice_set self.old.told line released }
+        ensures told { self.new.told ≡ slice_set self.old.told line released }
+        ensures rung { HasRung line (untold self.old.told line released) self.old self.new }
     {
         self.sleeper.go_on();
         let line = line as usize;
         let count = released.saturating_sub(self.told[line]);
         self.told[line] = released;
-        self.boards[line].add(u32::try_from(count).unwrap_or(u32::MAX));
+        let board = &mut self.boards[line];
+        board.add(count.min(u64::from(u32::MAX)) as u32);
     }
 
     /// No line has a scan, and each board was let know of all that is released: it sees to it that none waits
     /// for it, and waits.
     pub fn wait<R: Wait, P: Planned>(&mut self, rt: &R, merge: &Merge<P>)
         requires told { self.old.told ≡ map released_of merge.now.streams }
-        ensures { self.new ≡ record self.old { boards = map rung self.old.boards } }
+        ensures { self.new ≡ record self.old { boards = map rung self.old.boards; announced = not self.old.announced } }
     {
         shows(merge);
         wake_all(&mut self.boards);

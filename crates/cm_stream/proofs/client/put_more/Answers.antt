@@ -12,4 +12,4 @@ pub returns-clause-same : goal.returns-clause-same
 returns-clause-same g c = put_same _ _ _ _ _ _ _ _ _ c.requires.read c.in_ok-scans.ensures.appended c.clear.ensures.items c.deref.ensures.value _ c.in_ok-put_lines.ensures
 
 pub returns-clause-told : goal.returns-clause-told
-returns-clause-told g c = told_more _ _ _ _ _ _ c.requires.told c.released.ensures c.release.ensures _ _ _ _ c.in_ok-scans.ensures.appended
+returns-clause-told g c = told_more _ _ _ _ _ _ c.requires.told c.released.ensures c.release.ensures.told _ _ _ _ c.in_ok-scans.ensures.appended

@@ -12,7 +12,7 @@ pub put_more-requires-clause-source : goal.put_more-requires-clause-source
 put_more-requires-clause-source g c = has_stream _ _ _ _ _ c.in-Given.ensures.merged
 
 pub put_more-requires-clause-told : goal.put_more-requires-clause-told
-put_more-requires-clause-told g c = told_scan _ _ _ _ _ _ c.loop.invariant.told c.released.ensures c.release.ensures _ _ c.in-Given.ensures.merged
+put_more-requires-clause-told g c = told_scan _ _ _ _ _ _ c.loop.invariant.told c.released.ensures c.release.ensures.told _ _ c.in-Given.ensures.merged
 
 pub put_more-requires-clause-read : goal.put_more-requires-clause-read
 put_more-requires-clause-read g c = scan_read _ _ _ _ _ _ _ c.loop.invariant.read c.in-Given.ensures.merged (c.deref.ensures.value ∙ ap (λ (s : ScanText). s.words) c.scan.view_is) _ c.in_ok-put_lines-in-Given.ensures

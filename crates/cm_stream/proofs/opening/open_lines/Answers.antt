@@ -16,7 +16,7 @@ loop-i-preserved c =
     let have = c.loop-i.invariant in
     let is = c.in_ok-side.ensures in
     record {
-      sides = subst (All (λ side. side.sub < length board.subs)) (sym c.in_ok-push.ensures.items) (all_more (λ side. side.sub < length board.subs) _ _ have.sides is.side);
+      sides = subst (All (λ side. side.board.sub < length board.subs)) (sym c.in_ok-push.ensures.items) (all_more (λ side. side.board.sub < length board.subs) _ _ have.sides is.side);
       count = (let e = c.in_ok-push.ensures.len in let n = have.count in omega arith);
       events = (let e = c.in_ok-push-4.ensures.len in let n = have.events in omega arith);
       streams = ap (map stream_start) c.in_ok-push-2.ensures.items

@@ -8,7 +8,7 @@ use Rattle.cm_stream.proofs.opening.open_lines.Given as goal
 -- the lines so far are opened
 abbrev pub invariant-loop-i : goal.invariant-loop-i
 invariant-loop-i l = record {
-  sides : All (λ side. side.sub < length l.board.subs) l.opened.sides.items;
+  sides : All (λ side. side.board.sub < length l.board.subs) l.opened.sides.items;
   count : length l.opened.sides.items ≡ l.i;
   events : length l.opened.events.items ≡ l.i;
   streams : map stream_start l.opened.streams.items ≡ map (line_start l.board l.signals) (take l.i l.lines);
