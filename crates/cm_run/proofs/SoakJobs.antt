@@ -1,5 +1,5 @@
 -- The job of a soak can be run.
-use Rattle.std.proofs.Common.{◌≡◌, ℕ, zero, suc, ◌+◌, ◌/◌, ◌%◌, ◌<◌, ◌≤◌, Bool, true, false, List, [], ◌∷◌, ◌++◌, length, length-append, refl, sym, ap, ◌∙◌, subst, arith, mod-lt, true≢false}
+use Rattle.std.proofs.Common.{◌≡◌, ℕ, zero, suc, ◌+◌, ◌/◌, ◌%◌, ◌<◌, ◌≤◌, Bool, true, false, List, [], ◌∷◌, ◌++◌, length, length-append, refl, sym, ap, ◌∙◌, subst, arith, rules, mod-lt, true≢false}
 use Rattle.std.proofs.lemmas.Bool.{eq-eqb, eqb-true}
 use Rattle.std.proofs.lemmas.Bool.Decides.{nat_tests}
 use Rattle.std.specs.Prelude.{nat_lt, ◌==◌, if◌then◌else◌}
@@ -26,7 +26,7 @@ use Rattle.cm_run.proofs.SoakAccepted.{passes}
 
 -- a wave more at a channel that has none
 with_wave : (s : SignalsText) (i : ℕ) → IsSoundSignals s → list_any (is_at i 0) s.waves ≡ false → IsSoundSignals (record s { waves = s.waves ++ soak_wave i ∷ [] })
-with_wave s i sound other = more_waves s (soak_wave i) sound (record { period = (omega arith, omega arith); room = refl; own = other; fine = refl })
+with_wave s i sound other = more_waves s (soak_wave i) sound (record { period = (omega arith, omega arith); room = search (rules, nat_tests, sound.few_recorded); own = other; fine = refl })
 
 signals_sound : IsSoundSignals soak_signals
 signals_sound = with_wave _ 3 (with_wave _ 2 (with_wave _ 1 (with_wave (silent 1000000000) 0 (silent_sound 1000000000 (omega arith)) refl) refl) refl) refl

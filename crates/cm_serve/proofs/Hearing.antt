@@ -11,7 +11,7 @@ use Rattle.cm_serve.specs.Ahead.{AreAhead, BeginsLong, Came, IsLine}
 use Rattle.cm_base.specs.declared.transfer.ReadError.{ReadError}
 use Rattle.cm_base.specs.declared.transfer.ReadError.TheVariants as hears
 use Rattle.cm_serve.specs.Turns.{Turn, Answer, Line, Heard, Says}
-use Rattle.cm_serve.specs.declared.heading.Head.{Head}
+use Rattle.cm_serve.specs.declared.heading.DialogueHead.{DialogueHead}
 use Rattle.cm_serve.specs.declared.stop.TalkStop.{TalkStop}
 use Rattle.cm_serve.specs.declared.stop.TalkStop.TheVariants.{TooLong}
 use Rattle.cm_serve.proofs.Coming.{came-ahead, came-more, came-none, others}
@@ -96,7 +96,7 @@ heard-all ahead left after old now new text count ends e h = record {
 }
 
 -- no further line was heard, as there may be one that is too long
-pub heard-stopped : (ahead left after : Option (List (List ℕ))) (old now new : Option (List Turn)) (text rest : List ℕ) (count : ℕ) (r : Result Head TalkStop) (stop : ReadError) → IsErrAnd r (λ e. e ≡ heard_stop stop) →
+pub heard-stopped : (ahead left after : Option (List (List ℕ))) (old now new : Option (List Turn)) (text rest : List ℕ) (count : ℕ) (r : Result DialogueHead TalkStop) (stop : ReadError) → IsErrAnd r (λ e. e ≡ heard_stop stop) →
     (stop ≡ hears.TooLong → (lines : List (List ℕ)) × AreAhead lines left × BeginsLong lines) → new ≡ now → IsHeard ahead left old now text count → HasHead r ahead after old new rest
 heard-stopped ahead left after old now new text rest count (Ok head) stop is long e h = absurd is
 heard-stopped ahead left after old now new text rest count (Err cause) stop is long e h = by stop is long
@@ -117,7 +117,7 @@ heard-stopped ahead left after old now new text rest count (Err cause) stop is l
     by hears.TooLong is long = let next = long refl in stopped next.0 next.1 (λ same. next.2)
 
 -- a line was heard, and no more was done with it, as the text may be too long with it
-pub heard-cut : (ahead left new_left after : Option (List (List ℕ))) (old now new : Option (List Turn)) (text rest : List ℕ) (count : ℕ) (line : List ℕ) (r : Result Head TalkStop) (stop : TalkStop) → IsErrAnd r (λ e. e ≡ stop) →
+pub heard-cut : (ahead left new_left after : Option (List (List ℕ))) (old now new : Option (List Turn)) (text rest : List ℕ) (count : ℕ) (line : List ℕ) (r : Result DialogueHead TalkStop) (stop : TalkStop) → IsErrAnd r (λ e. e ≡ stop) →
     (stop ≡ TooLong → 1048576 < length (text ++ (line ++ codes "\n"))) → Came left new_left (line ∷ []) → Says now new (Line line ∷ []) → IsHeard ahead left old now text count → HasHead r ahead after old new rest
 heard-cut ahead left new_left after old now new text rest count line (Ok head) stop is long came says h = absurd is
 heard-cut ahead left new_left after old now new text rest count line (Err cause) stop is long came says h = record {

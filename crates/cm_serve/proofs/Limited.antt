@@ -21,7 +21,7 @@ use Rattle.cm_session.specs.Forms.{LineForm, command_words, data_word, file_word
 use Rattle.cm_session.specs.Instructions.{InsnForm, insn_forms, on_instruction}
 use Rattle.cm_session.specs.Limits.{HasLimits, IsLimited}
 use Rattle.cm_session.specs.SessionPart.{command_lines, insn_lines, keyed, line_words, lines_by, number_lines}
-use Rattle.cm_session.specs.declared.forms.Head.{Head}
+use Rattle.cm_session.specs.declared.forms.LineHead.{LineHead}
 use Rattle.cm_session.specs.declared.op.Op.{Op}
 use Rattle.cm_session.specs.declared.op.Op.TheVariants as ops
 use Rattle.cm_session.specs.declared.op.SessionLine.{SessionLine}
@@ -158,7 +158,7 @@ module _ (P : ℕ → Type 0) (bounds : Bounds) (time : List ℕ) (says : IfOk (
       then_has (λ w. P w.0.time × HasText 1024 w.1) _ (command_words bounds time words) _ (command_timed words) (λ w is. (is.0, limits w.1 is.1))
 
   -- those of instructions, each with what stands after its place
-  placed_good : {W : Type 0} (r : Result W Fault) (file sub : List ℕ) (f : W → Head × ℕ → Result SessionLine Fault) → ((w : W) (at : Head × ℕ) → P at.0.time → IfOk (f w at) (IsGood P)) →
+  placed_good : {W : Type 0} (r : Result W Fault) (file sub : List ℕ) (f : W → LineHead × ℕ → Result SessionLine Fault) → ((w : W) (at : LineHead × ℕ) → P at.0.time → IfOk (f w at) (IsGood P)) →
       IfOk (r >>= λ w. place_of bounds time file sub >>= λ at. f w at) (IsGood P)
   placed_good r file sub f next = then_any _ r _ (λ w. then_has (λ at. P at.0.time) _ (place_of bounds time file sub) (f w) (place_timed file sub) (next w))
 

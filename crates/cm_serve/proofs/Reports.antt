@@ -1,21 +1,23 @@
 -- What is reported to a client, against the line that its question is in other words.
-use Rattle.std.proofs.Common.{◌≡◌, ℕ, true, List, [], ◌∷◌, ◌++◌, get_or, map, set, Option, None, Result, Ok, Err, OnOk, refl, sym, ap, ap₂, ◌∙◌, subst, append_assoc}
+use Rattle.std.proofs.Common.{◌≡◌, ℕ, true, List, [], ◌∷◌, ◌++◌, get_or, map, set, Option, Some, None, Result, Ok, Err, OnOk, refl, sym, ap, ap₂, ◌∙◌, subst, append_assoc}
 use Rattle.cm_sub.specs.Checks.{first_refusal}
 use Rattle.cm_sub.specs.Files.{FilesText}
+use Rattle.cm_sub.specs.declared.errno.Errno.{Errno}
 use Rattle.cm_signal.specs.Setting.{Setting}
 use Rattle.cm_session.specs.declared.op.SessionLine.{SessionLine}
 use Rattle.cm_text.specs.Outputs.{output_texts}
 use Rattle.cm_serve.specs.Asking.{asked_op, asked_text, asked_time, line_of, report, told_time}
 use Rattle.cm_replay.specs.Forms.{form, is_of_command, line_checks, named_sub}
-use Rattle.cm_replay.specs.Answers.{Answer}
+use Rattle.cm_replay.specs.Answers.{Answer, Refused}
 use Rattle.cm_replay.specs.Replies.{LeadsTelling, Tells, checked, place_checks}
 use Rattle.cm_replay.specs.Running.{Running}
 use Rattle.cm_replay.specs.Session.{Outcome, act, act_on, brought_all, brought_device, due_from, here, step}
 use Rattle.cm_replay.specs.State.{Device, Here, State, device_at}
+use Rattle.cm_replay.specs.Texts.{answer_text}
 use Rattle.cm_serve.specs.declared.asked.Asked.{Asked}
 use Rattle.cm_serve.specs.declared.asked.Question.{Question}
 use Rattle.cm_serve.specs.declared.asked.Question.TheVariants.{Await, Info, Codes, Peek}
-use Rattle.cm_replay.proofs.Acted.{acted, found}
+use Rattle.cm_replay.proofs.Acted.{acted, found, refused-there}
 
 -- a question's line names its subdevice, and acts on that subdevice
 pub asked-sub : (sub : ℕ) (q : Question) → named_sub (asked_op sub q) ≡ sub
@@ -76,6 +78,41 @@ asked-told s asked state i h same index reached =
     let ok : Result (Unit {0}) (Unit {0}) = Ok tt in
     let led = said-acted say s asked state i h ok reply.files reply.device [] (say h.time h.device.running reply.answer) same index reached (record { its_files = refl; its_device = refl; reported = refl }) in
     ap (λ (ns : List ℕ). get_or ns 0 0) led.reported
+
+-- a question that is refused is answered so, and tells its own time
+report-refused : (q : Question) (time : ℕ) (running : Option Running) (e : Errno) → report q time running (Refused e) ≡ answer_text (Refused e)
+report-refused (Await n) time running e = refl
+report-refused Info time running e = refl
+report-refused (Codes n) time running e = refl
+report-refused (Peek from n) time running e = refl
+
+told-refused : (q : Question) (time : ℕ) (running : Option Running) (e : Errno) → time ≡ told_time q time running (Refused e)
+told-refused (Await n) time running e = refl
+told-refused Info time running e = refl
+told-refused (Codes n) time running e = refl
+told-refused (Peek from n) time running e = refl
+
+pub asked-refused : {X E : Type 0} (s : Setting) (asked : Asked) (state : State) (e : Errno) (result : Result X E) (old new : List ℕ) → Some e ≡ first_refusal (place_checks s state.files asked.file asked.sub true) →
+    OnOk result (new ≡ old ++ answer_text (Refused e)) → OnOk result (LeadsTelling (told asked state.devices) (act s (line_of asked) (line_of asked).op state) state old new)
+asked-refused s asked state e result old new refused text =
+    let line = line_of asked in
+    let say : Answer → List ℕ = told asked state.devices in
+    let same : say (Refused e) ≡ answer_text (Refused e) = report-refused asked.question asked.time (device_at state.devices asked.sub).running e in
+    let said = subst (λ (t : List ℕ). OnOk result (new ≡ old ++ t)) (sym same) text in
+    let led = refused-there say s line state asked.sub true e result old new (sym (asked-sub asked.sub asked.question)) (sym (asked-commands asked.sub asked.question)) refused said in
+    subst (λ (o : Outcome). OnOk result (LeadsTelling say o state old new)) (sym (asked-acts s line asked.sub asked.question state)) led
+
+pub refused-told : (s : Setting) (asked : Asked) (state : State) (e : Errno) → Some e ≡ first_refusal (place_checks s state.files asked.file asked.sub true) →
+    asked.time ≡ told_time asked.question asked.time (device_at state.devices asked.sub).running (act s (line_of asked) (line_of asked).op state).answer
+refused-told s asked state e refused =
+    let line = line_of asked in
+    let tells : Answer → ℕ = told_time asked.question asked.time (device_at state.devices asked.sub).running in
+    let say : Answer → List ℕ = λ answer. tells answer ∷ [] in
+    let ok : Result (Unit {0}) (Unit {0}) = Ok tt in
+    let led = refused-there say s line state asked.sub true e ok [] (say (Refused e)) (sym (asked-sub asked.sub asked.question)) (sym (asked-commands asked.sub asked.question)) refused refl in
+    told-refused asked.question asked.time (device_at state.devices asked.sub).running e
+    ∙ ap (λ (ns : List ℕ). get_or ns 0 0) led.reported
+    ∙ ap (λ (o : Outcome). tells o.answer) (sym (asked-acts s line asked.sub asked.question state))
 
 -- a question after all commands were brought to its time
 pub asked-state : (s : Setting) (asked : Asked) (state : State) (devices : List Device) (after : State) (before new : List ℕ) → devices ≡ map (brought_device asked.time) state.devices →

@@ -12,7 +12,7 @@ use Rattle.cm_cmd.specs.CommandText.{command_of}
 use Rattle.cm_signal.specs.declared.bounds.Bounds.{Bounds}
 use Rattle.cm_session.specs.Forms.{number_words, place_of, sub_words}
 use Rattle.cm_session.specs.SessionPart.{line_after}
-use Rattle.cm_session.specs.declared.forms.DialogueHead.{DialogueHead}
+use Rattle.cm_session.specs.declared.forms.LineHead.{LineHead}
 use Rattle.cm_serve.specs.declared.asked.Asked.{Asked}
 use Rattle.cm_serve.specs.declared.asked.Fetch.{Fetch}
 use Rattle.cm_serve.specs.declared.asked.Question.{Question}
@@ -26,7 +26,7 @@ abbrev pub QuestionForm : Type 0
 QuestionForm = ℕ → Bounds → List ℕ → Form Said
 
 -- what is asked at a time by a file about a subdevice
-abbrev pub asked_by : DialogueHead → ℕ → Question → Asked
+abbrev pub asked_by : LineHead → ℕ → Question → Asked
 asked_by head sub question = record { time = head.time; file = head.file; sub = sub; question = question }
 
 -- a question after a line of this time, which it may not be below
@@ -52,7 +52,7 @@ counted most make before bounds time words =
     number_words (most bounds) bounds time words >>= λ w. asked_after before (asked_by w.0 w.1 (make w.2))
 
 -- `T KEY F SUB I N`: samples are counted up to I, and N are taken
-abbrev pub ranged_words : Bounds → List ℕ → Form (DialogueHead × ℕ × ℕ × ℕ)
+abbrev pub ranged_words : Bounds → List ℕ → Form (LineHead × ℕ × ℕ × ℕ)
 ranged_words bounds time words =
     four_words words >>= λ w.
     place_of bounds time w.0 w.1 >>= λ at.

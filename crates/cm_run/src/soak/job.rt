@@ -191,6 +191,8 @@ fn put_wave(signals: &mut Signals, sub: u32) -> Result<(), AllocError>
     requires { list_any (is_at sub 0) signals.old.waves ≡ false }
     ensures { OnOk result (signals.new ≡ record signals.old { waves = signals.old.waves ++ spec.soak_wave sub ∷ [] }) }
 {
+    // This read shows the rule of all signals: there is room for their recorded levels.
+    shows(&signals.horizon);
     signals.put(SignalLine::Wave(WaveAt {
         sub,
         chan: 0,

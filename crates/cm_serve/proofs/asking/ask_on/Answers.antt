@@ -1,11 +1,11 @@
-use Rattle.std.proofs.Common.{◌≡◌, sym, ◌∙◌, subst, None, IfOk, OnOk}
+use Rattle.std.proofs.Common.{◌≡◌, sym, ◌∙◌, subst, None, Result, Ok, IfOk, OnOk}
 use Rattle.std.proofs.lemmas.Result.{IfOk-weaker}
 use Rattle.cm_replay.specs.Forms.{form}
 use Rattle.cm_serve.specs.Asking.{asked_op, line_of, report, told_time}
 use Rattle.cm_replay.specs.Replies.{CanAct, Tells, checked, here_at}
 use Rattle.cm_replay.specs.State.{State}
 use Rattle.cm_replay.proofs.Acted.{can-act, same-here}
-use Rattle.cm_serve.proofs.Reports.{asked-acted, asked-found, asked-sub, asked-told}
+use Rattle.cm_serve.proofs.Reports.{asked-acted, asked-found, asked-refused, asked-sub, asked-told, refused-told}
 use Rattle.cm_serve.proofs.asking.ask_on.Goals as goal
 
 pub report-requires : goal.report-requires
@@ -50,3 +50,14 @@ returns-clause-time c =
     let told = subst (λ i. IfOk c.report.result (λ told. told ≡ told_time asked.question h.time h.device.running (checked (form (asked_op i asked.question) h) h).answer)) place.index c.report.ensures.time in
     let led = asked-told s asked state asked.sub h (same-here s (line_of asked) state at d asked.sub named place c.requires.many.places c.index_mut.ensures.value) place.index (asked-found s asked state c.in-Ok.ensures.refusal) in
     IfOk-weaker c.report.result _ _ (λ told is. is ∙ led) told
+
+pub returns-in-Err-clause-text : goal.returns-in-Err-clause-text
+returns-in-Err-clause-text c =
+    let state : State = record { files = c.args.files.now; devices = c.args.seats.now.items } in
+    let ok : Result (Unit {0}) (Unit {0}) = Ok tt in
+    asked-refused c.args.setting.now c.args.asked.now state c.in-Err.error ok _ _ c.in-Err.ensures.refusal c.in_ok-put_refused-in-Err.ensures
+
+pub returns-in-Err-clause-time : goal.returns-in-Err-clause-time
+returns-in-Err-clause-time c =
+    let state : State = record { files = c.args.files.now; devices = c.args.seats.now.items } in
+    refused-told c.args.setting.now c.args.asked.now state c.in-Err.error c.in-Err.ensures.refusal
