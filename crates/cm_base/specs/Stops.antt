@@ -8,12 +8,12 @@ abbrev pub is_unprintable : ℕ → Bool
 is_unprintable c = not (is_printable c)
 
 -- the byte that is looked for
-abbrev pub is_same : ℕ → ℕ → Bool
-is_same byte c = c == byte
+abbrev pub is_byte : ℕ → ℕ → Bool
+is_byte byte c = c == byte
 
 -- another byte than the one that is looked for
 abbrev pub differs : ℕ → ℕ → Bool
-differs byte c = not (is_same byte c)
+differs byte c = not (is_byte byte c)
 
 -- a byte that may not stand in a number
 abbrev pub is_no_digit : ℕ → Bool

@@ -13,10 +13,11 @@ use std::alloc::{AllocError, Global};
 use std::marker::Model;
 use std::mem;
 
-/// The lines of a text that count, and the number after the last line's. It keeps the text alone:
-/// a line's words are found when it is read.
+/// The lines of a text that count, and the number after the last line's. It keeps the text alone, from
+/// the first line that counts on: a line's words are found when it is read.
 #[derive(Drop)]
 pub struct Lines<'a> {
+    number: u32,
     text: &'a [u8],
     end: u32,
 }
@@ -26,9 +27,9 @@ impl<'a> Model for Lines<'a> {
 
     ghost Value = { LinesText };
 
-    ghost view = { λ l. lines_text l.text.now };
+    ghost view = { λ l. lines_text l.number l.text.now };
 
-    ghost invariant = { λ l. IsLines l.text.now l.end };
+    ghost invariant = { λ l. IsLines l.number l.text.now l.end };
 }
 
 /// The lines of a text that count, read one at a time.
@@ -55,9 +56,14 @@ pub fn split_lines<'a>(_alloc: Global, text: &'a [u8]) -> Result<Lines<'a>, NoMe
     ensures list { IfOk result (λ lines. lines.list ≡ lines_of text.now) }
     ensures end { IfOk result (λ lines. lines.end ≡ length (raw_lines text.now) + 1) }
 {
+    let (number, text) = match find_line(1, text) {
+        Some(found) => (found.number, found.from),
+        None => (1, text),
+    };
     Ok(Lines {
+        number,
         text,
-        end: count_lines(text) + 1,
+        end: number + count_lines(text),
     })
 }
 
@@ -106,7 +112,7 @@ impl<'a> Lines<'a> {
         ensures few { result < 2 ^ 32 }
     {
         let mut place = 0usize;
-        let mut number = 1;
+        let mut number = self.number;
         let mut rest = self.text;
         while let Some(found) = find_line(number, rest) {
             if begins_raw(key, found.raw) {
@@ -125,7 +131,7 @@ impl<'a> Lines<'a> {
     {
         Cursor {
             rest: self.text,
-            number: 1,
+            number: self.number,
         }
     }
 }

@@ -4,14 +4,14 @@ ghost use Rattle.std.specs.Char.{is_ascii_digit};
 ghost use Rattle.std.specs.List.{list_all, position, prefix_len};
 ghost use Rattle.std.specs.Simd.Lanes.{mask_l};
 ghost use Rattle.cm_base.specs.Lines.{is_printable};
-ghost use Rattle.cm_base.specs.Stops.{differs, is_no_digit, is_same, is_unprintable};
+ghost use Rattle.cm_base.specs.Stops.{differs, is_no_digit, is_byte, is_unprintable};
 
 use std::simd::prelude::*;
 
 /// The place of the first such byte.
 #[inline(always)]
 pub fn first_byte(text: &[u8], byte: u8) -> Option<usize>
-    ensures place { result ≡ position (is_same byte) text.now }
+    ensures place { result ≡ position (is_byte byte) text.now }
     ensures within { IfSome result (λ at. at < length text.now) }
 {
     let at = other_bytes(text, byte);
@@ -121,14 +121,14 @@ pub(crate) fn begins_with_8_digits(word: &[u8]) -> bool
 
 #[inline(always)]
 fn same_bytes(bytes: u8x16, byte: u8) -> u64
-    ensures { result ≡ mask_l (map (is_same byte) bytes) }
+    ensures { result ≡ mask_l (map (is_byte byte) bytes) }
 {
     bytes.simd_eq(u8x16::splat(byte)).to_bitmask()
 }
 
 #[inline(always)]
 fn same_of_8(bytes: u8x8, byte: u8) -> u64
-    ensures { result ≡ mask_l (map (is_same byte) bytes) }
+    ensures { result ≡ mask_l (map (is_byte byte) bytes) }
 {
     bytes.simd_eq(u8x8::splat(byte)).to_bitmask()
 }

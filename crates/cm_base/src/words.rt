@@ -139,8 +139,8 @@ fn bits_of(word: &[u8], least: u32) -> Result<u32, Fault>
     }
 }
 
-// What stands after a place.
-fn after(word: &[u8], at: usize) -> &[u8]
+/// What stands after a place.
+pub fn after(word: &[u8], at: usize) -> &[u8]
     requires { at < length word.now }
     ensures { result.now ≡ drop (at + 1) word.now }
 {

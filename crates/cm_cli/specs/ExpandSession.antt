@@ -9,6 +9,8 @@ use Rattle.cm_expand.specs.Plan.{PlanText, is_complete}
 use Rattle.cm_expand.specs.declared.conv.Conv.{Conv}
 use Rattle.cm_job.specs.ExpandLines.{plan_of}
 use Rattle.cm_job.specs.declared.expand_lines.ExpandLine.{ExpandLine}
+use Rattle.cm_text.specs.Tails.{end_words}
+use Rattle.cm_text.specs.declared.end.End.TheVariants as ends
 
 -- a conversion: its time, its list index and its raw word
 abbrev pub conversion_line : Conv → List ℕ
@@ -16,7 +18,7 @@ conversion_line c = decimal c.time ++ codes " " ++ decimal c.list_index ++ codes
 
 -- the last line of an expansion: `done` where the command's stop is reached, and otherwise `dry`
 abbrev pub end_line : Bool → List ℕ
-end_line complete = if complete then codes "done\n" else codes "dry\n"
+end_line complete = end_words (if complete then ends.Done else ends.Dry) ++ codes "\n"
 
 -- the conversions of a plan in order, and whether nothing is missing
 abbrev pub expansion_text : PlanText → List ℕ

@@ -17,7 +17,8 @@ use Rattle.cm_base.proofs.Joined.{free, free_of, is_free}
 use Rattle.cm_base.proofs.Splits.{first_part}
 use Rattle.cm_cmd.specs.CommandText.{trigger, trigger_of}
 use Rattle.cm_cmd.specs.Entry.{pack}
-use Rattle.cm_cmd.specs.ListText.{aref_of, arefs, entry_of, is_byte}
+use Rattle.cm_base.specs.Stops.{is_byte}
+use Rattle.cm_cmd.specs.ListText.{aref_of, arefs, entry_of}
 use Rattle.cm_cmd.proofs.Printed.{no_colon_in_digits}
 
 -- a word that says a number has only digits

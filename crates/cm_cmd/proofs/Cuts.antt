@@ -9,7 +9,8 @@ use Rattle.cm_base.specs.declared.faults.ReadStop.{ReadStop}
 use Rattle.cm_base.specs.declared.faults.ReadStop.TheVariants as stops
 use Rattle.cm_base.specs.declared.faults.Fault.TheVariants.{BadLine}
 use Rattle.cm_base.proofs.Splits.{one_part, first_part}
-use Rattle.cm_cmd.specs.ListText.{entry_of, is_byte, with_entry}
+use Rattle.cm_base.specs.Stops.{is_byte}
+use Rattle.cm_cmd.specs.ListText.{entry_of, with_entry}
 
 pub one_is_not_two : (p : ℕ → Bool) (text : List ℕ) → position p text ≡ None → two_words (slice_split p text) ≡ Err BadLine
 one_is_not_two p text e = ap two_words (one_part p text e)

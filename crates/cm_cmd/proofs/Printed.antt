@@ -11,7 +11,8 @@ use Rattle.cm_base.specs.Lines.{is_blank, is_not_empty, words_of}
 use Rattle.cm_cmd.specs.Command.{CmdText}
 use Rattle.cm_cmd.specs.CommandText.{trigger, trigger_text, trigger_of, command_words, command_text, head_of, command_of}
 use Rattle.cm_cmd.specs.Entry.{pack, chan, range, aref}
-use Rattle.cm_cmd.specs.ListText.{is_byte, aref_text, entry_text, list_text, entry_of, aref_of, list_of}
+use Rattle.cm_base.specs.Stops.{is_byte}
+use Rattle.cm_cmd.specs.ListText.{aref_text, entry_text, list_text, entry_of, aref_of, list_of}
 use Rattle.cm_cmd.specs.PrintedReads.{IsTrigger, HasText, PrintedReads}
 use Rattle.cm_base.specs.SourceText.{source_text}
 use Rattle.cm_base.specs.Words.{number_in, source_of, two, three, values}

@@ -18,7 +18,8 @@ use Rattle.cm_base.specs.declared.faults.ReadStop.{ReadStop}
 use Rattle.cm_cmd.specs.Command.{CmdText}
 use Rattle.cm_cmd.specs.CommandText.{command_of, head_of, trigger_of}
 use Rattle.cm_cmd.specs.Entry.{pack}
-use Rattle.cm_cmd.specs.ListText.{aref_of, entry_of, is_byte, list_of}
+use Rattle.cm_base.specs.Stops.{is_byte}
+use Rattle.cm_cmd.specs.ListText.{aref_of, entry_of, list_of}
 use Rattle.cm_cmd.specs.PrintedReads.{HasText, IsTrigger, ReadHasText}
 use Rattle.cm_cmd.specs.declared.command.Trig.{Trig}
 use Rattle.cm_cmd.proofs.Cuts.{line_ok}

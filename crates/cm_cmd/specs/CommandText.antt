@@ -8,7 +8,8 @@ use Rattle.cm_base.specs.Words.{number_in, source_of, two}
 use Rattle.cm_base.specs.declared.faults.Fault.{Fault}
 use Rattle.cm_base.specs.declared.faults.Fault.TheVariants.{BadLine}
 use Rattle.cm_cmd.specs.Command.{CmdText}
-use Rattle.cm_cmd.specs.ListText.{is_byte, list_of, list_text}
+use Rattle.cm_base.specs.Stops.{is_byte}
+use Rattle.cm_cmd.specs.ListText.{list_of, list_text}
 use Rattle.cm_cmd.specs.declared.command.Trig.{Trig}
 
 -- the source and the argument, with a colon between them

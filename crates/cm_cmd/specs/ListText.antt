@@ -1,5 +1,5 @@
 -- Channel lists as text, both ways.
-use Rattle.std.specs.Prelude.{ℕ, Bool, ◌==◌, List, [], ◌∷◌, ◌++◌, length, map, Result, Ok, codes, if◌then◌else◌}
+use Rattle.std.specs.Prelude.{ℕ, ◌==◌, List, [], ◌∷◌, ◌++◌, length, map, Result, Ok, codes, if◌then◌else◌}
 use Rattle.std.specs.Fmt.{decimal}
 use Rattle.std.specs.List.{join_with_byte, slice_split}
 use Rattle.std.specs.Str.{bytes_eq}
@@ -7,10 +7,6 @@ use Rattle.cm_base.specs.Reading.{◌>>=◌}
 use Rattle.cm_base.specs.Words.{keyword, number_in, three, up_to, values}
 use Rattle.cm_base.specs.declared.faults.Fault.{Fault}
 use Rattle.cm_cmd.specs.Entry.{pack, chan, range, aref}
-
--- whether a byte is this separator
-abbrev pub is_byte : ℕ → ℕ → Bool
-is_byte separator c = c == separator
 
 -- the references by their numbers
 abbrev pub aref_text : ℕ → List ℕ

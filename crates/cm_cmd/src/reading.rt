@@ -4,6 +4,7 @@ ghost use Rattle.std.specs.List.{slice_split};
 ghost use Rattle.cm_base.specs.LineView.{line_view};
 ghost use Rattle.cm_base.specs.Reading.{at_line};
 ghost use Rattle.cm_base.specs.ReadStop.{Gives};
+ghost use Rattle.cm_base.specs.Stops.{is_byte};
 ghost use Rattle.cm_base.specs.Words.{up_to, values};
 ghost use Rattle.cm_cmd.specs.CommandText as spec;
 ghost use Rattle.cm_cmd.specs.ListText as lists;
@@ -11,10 +12,11 @@ ghost use Rattle.cm_cmd.specs.PrintedReads.{HasText};
 
 use crate::command::{Cmd, Trig};
 use crate::entry::pack;
-use crate::separated::{after, before, first_place, three_parts, two_parts};
+use crate::separated::{before, three_parts, two_parts};
 use cm_base::faults::{Fault, ReadStop};
+use cm_base::lanes::first_byte;
 use cm_base::lines::Line;
-use cm_base::words::{at_line, number_in, source_of};
+use cm_base::words::{after, at_line, number_in, source_of};
 use std::alloc::Global;
 
 // The longest channel list where the board has no limit of its own.
@@ -122,7 +124,7 @@ fn read_trigger(text: &[u8]) -> Result<Trig, Fault>
 fn trigger_cut_once(text: &[u8]) -> Option<Trig>
     ensures { IfSome result (λ trigger. spec.trigger_of text.now ≡ Ok trigger) }
 {
-    let Some(at) = first_place(text, b':') else {
+    let Some(at) = first_byte(text, b':') else {
         return None;
     };
     let Ok(src) = source_of(before(text, at)) else {
@@ -160,11 +162,11 @@ fn read_list(alloc: Global, line: u32, text: &[u8], most: usize) -> Result<Vec<u
 
 // The entries with commas between them.
 fn read_entries(alloc: Global, line: u32, text: &[u8], most: usize) -> Result<Vec<u32>, ReadStop>
-    ensures { Gives (λ list. list.items) result (at_line line (values most lists.entry_of [] (slice_split (lists.is_byte 44) text.now))) }
+    ensures { Gives (λ list. list.items) result (at_line line (values most lists.entry_of [] (slice_split (is_byte 44) text.now))) }
 {
     let mut list = Vec::new(alloc);
     let mut rest = text;
-    while let Some(at) = first_place(rest, b',') {
+    while let Some(at) = first_byte(rest, b',') {
         push_entry(&mut list, line, before(rest, at), most)?;
         rest = after(rest, at);
     }
@@ -206,11 +208,11 @@ pub fn read_entry(text: &[u8]) -> Result<u32, Fault>
 fn entry_cut_twice(text: &[u8]) -> Option<u32>
     ensures { IfSome result (λ entry. lists.entry_of text.now ≡ Ok entry) }
 {
-    let Some(first) = first_place(text, b'/') else {
+    let Some(first) = first_byte(text, b'/') else {
         return None;
     };
     let rest = after(text, first);
-    let Some(second) = first_place(rest, b'/') else {
+    let Some(second) = first_byte(rest, b'/') else {
         return None;
     };
     let Ok(chan) = number_in(before(text, first), 0, 65535) else {

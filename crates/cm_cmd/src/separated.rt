@@ -1,20 +1,13 @@
 // Words made of parts, with a byte between two parts.
-ghost use Rattle.std.specs.Prelude.{◌≡◌, ◌+◌, ◌<◌, length, take, drop, IfSome};
-ghost use Rattle.std.specs.List.{position, slice_split};
+ghost use Rattle.std.specs.Prelude.{◌≡◌, ◌<◌, length, take};
+ghost use Rattle.std.specs.List.{slice_split};
 ghost use Rattle.cm_base.specs.Reading.{seen};
 ghost use Rattle.cm_base.specs.Words.{two_words, three_words};
-ghost use Rattle.cm_cmd.specs.ListText.{is_byte};
+ghost use Rattle.cm_base.specs.Stops.{is_byte};
 
 use cm_base::faults::Fault;
 use cm_base::lanes::first_byte;
-
-/// The place of the first separator.
-pub(crate) fn first_place(text: &[u8], separator: u8) -> Option<usize>
-    ensures place { result ≡ position (is_byte separator) text.now }
-    ensures within { IfSome result (λ at. at < length text.now) }
-{
-    first_byte(text, separator)
-}
+use cm_base::words::after;
 
 /// What stands before a place.
 pub fn before(text: &[u8], at: usize) -> &[u8]
@@ -24,24 +17,16 @@ pub fn before(text: &[u8], at: usize) -> &[u8]
     &text[..at]
 }
 
-/// What stands after a place.
-pub fn after(text: &[u8], at: usize) -> &[u8]
-    requires { at < length text.now }
-    ensures { result.now ≡ drop (at + 1) text.now }
-{
-    &text[at + 1..]
-}
-
 /// The two parts of a word with one separator.
 #[tactic(auto, using(crate::proofs::Cuts::one_is_not_two, crate::proofs::Cuts::two_are_two, crate::proofs::Cuts::more_are_not_two))]
 pub fn two_parts(text: &[u8], separator: u8) -> Result<(&[u8], &[u8]), Fault>
     ensures { seen (λ w. (w.0.now, w.1.now)) result ≡ two_words (slice_split (is_byte separator) text.now) }
 {
-    let Some(at) = first_place(text, separator) else {
+    let Some(at) = first_byte(text, separator) else {
         return Err(Fault::BadLine);
     };
     let rest = after(text, at);
-    match first_place(rest, separator) {
+    match first_byte(rest, separator) {
         None => Ok((before(text, at), rest)),
         Some(_) => Err(Fault::BadLine),
     }
@@ -52,7 +37,7 @@ pub fn two_parts(text: &[u8], separator: u8) -> Result<(&[u8], &[u8]), Fault>
 pub(crate) fn three_parts(text: &[u8], separator: u8) -> Result<(&[u8], &[u8], &[u8]), Fault>
     ensures { seen (λ w. (w.0.now, w.1.now, w.2.now)) result ≡ three_words (slice_split (is_byte separator) text.now) }
 {
-    let Some(at) = first_place(text, separator) else {
+    let Some(at) = first_byte(text, separator) else {
         return Err(Fault::BadLine);
     };
     let (second, third) = two_parts(after(text, at), separator)?;

@@ -14,7 +14,7 @@ use Rattle.cm_base.specs.declared.faults.Fault.TheVariants.{Bad, BadNumber}
 use Rattle.cm_base.specs.declared.faults.ReadStop.{ReadStop}
 use Rattle.cm_base.specs.declared.faults.ReadStop.TheVariants as stops
 use Rattle.cm_base.proofs.Values.{at_line_ok}
-use Rattle.cm_cmd.specs.ListText.{is_byte}
+use Rattle.cm_base.specs.Stops.{is_byte}
 use Rattle.cm_job.specs.Forms.{numbers_of, take_of}
 
 -- a step that gave something was given something

@@ -10,7 +10,7 @@ use Rattle.cm_base.specs.declared.faults.Fault.TheVariants.{BadLine}
 use Rattle.cm_board.specs.Versions.{most_entries}
 use Rattle.cm_cmd.specs.Command.{CmdText}
 use Rattle.cm_cmd.specs.CommandText.{command_of}
-use Rattle.cm_cmd.specs.ListText.{is_byte}
+use Rattle.cm_base.specs.Stops.{is_byte}
 use Rattle.cm_signal.specs.declared.bounds.Bounds.{Bounds}
 use Rattle.cm_job.specs.Head.{before_commands, word_at}
 use Rattle.cm_job.specs.declared.asked.AskedLine.{AskedLine}

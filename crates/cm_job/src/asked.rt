@@ -4,7 +4,7 @@ ghost use Rattle.std.specs.List.{slice_split};
 ghost use Rattle.cm_base.specs.LineView.{line_view};
 ghost use Rattle.cm_base.specs.ReadStop.{Gives};
 ghost use Rattle.cm_base.specs.Reading.{at_line, seen};
-ghost use Rattle.cm_cmd.specs.ListText.{is_byte};
+ghost use Rattle.cm_base.specs.Stops.{is_byte};
 ghost use Rattle.cm_job.specs.Forms as spec;
 
 use crate::head::{COMMAND, before_commands, read_command, word_at};

@@ -2,7 +2,7 @@ use Rattle.std.proofs.Common.{◌≡◌, ◌∙◌, ap, None, [], rules}
 use Rattle.std.specs.List.{position}
 use Rattle.cm_base.specs.Reading.{at_line}
 use Rattle.cm_base.specs.ReadStop.{Stops}
-use Rattle.cm_cmd.specs.ListText.{is_byte}
+use Rattle.cm_base.specs.Stops.{is_byte}
 use Rattle.cm_cmd.proofs.Cuts.{entries_after, entry_more, entry_stops, last_entry, last_stops}
 use Rattle.cm_cmd.proofs.reading.read_entries.Goals as goal
 

@@ -1,7 +1,8 @@
 use Rattle.std.proofs.Common.{◌≡◌, [], length}
 use Rattle.std.specs.List.{slice_split}
 use Rattle.cm_base.specs.Words.{values}
-use Rattle.cm_cmd.specs.ListText.{entry_of, is_byte}
+use Rattle.cm_base.specs.Stops.{is_byte}
+use Rattle.cm_cmd.specs.ListText.{entry_of}
 use Rattle.cm_cmd.proofs.reading.read_entries.Given as goal
 
 -- the entries so far, and what the rest says after them

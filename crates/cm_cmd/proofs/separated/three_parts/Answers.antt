@@ -1,5 +1,5 @@
 use Rattle.std.proofs.Common.{◌∙◌, ap, List, ℕ, Ok, Err, rules}
-use Rattle.cm_cmd.specs.ListText.{is_byte}
+use Rattle.cm_base.specs.Stops.{is_byte}
 use Rattle.cm_cmd.proofs.Cuts.{three_by_two}
 use Rattle.cm_cmd.proofs.separated.three_parts.Goals as goal
 

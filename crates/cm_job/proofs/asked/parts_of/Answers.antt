@@ -1,7 +1,7 @@
 use Rattle.std.proofs.Common.{rules, tests}
 use Rattle.std.proofs.lemmas.Iterator.Consumers.{map_from_collect}
 use Rattle.std.proofs.lemmas.Iterator.Splits.{YieldsList-from_slice_split}
-use Rattle.cm_cmd.specs.ListText.{is_byte}
+use Rattle.cm_base.specs.Stops.{is_byte}
 use Rattle.cm_job.proofs.asked.parts_of.Goals as goal
 
 -- the parts between commas

@@ -6,4 +6,4 @@ use Rattle.cm_base.proofs.cursor.Lines.end.Goals as goal
 
 pub returns-clause-few : goal.returns-clause-few
 returns-clause-few c =
-    omega (arith, few_count 1 (raw_lines c.self.inside.text.now), c.self.invariant.ends, ap (λ (l : LinesText). length l.list) c.self.view_is)
+    omega (arith, few_count c.self.inside.number (raw_lines c.self.inside.text.now), c.self.invariant.first, c.self.invariant.ends, ap (λ (l : LinesText). length l.list) c.self.view_is)
