@@ -15,7 +15,7 @@ use Rattle.cm_job.specs.LoopPart.{loop_of}
 use Rattle.cm_job.specs.RunPart.{run_of, watch_of}
 use Rattle.cm_job.specs.TestLines.{tests_of}
 use Rattle.cm_job.specs.declared.line.RunLine.{RunLine}
-use Rattle.cm_client.specs.RunText.{IsRunText, run_text}
+use Rattle.cm_job.specs.RunText.{IsRunText, run_text}
 use Rattle.cm_loop.specs.LoopText.{loop_text}
 use Rattle.cm_replay.specs.Job.{JobText, setting_of}
 use Rattle.cm_replay.specs.Texts.{replay_text}

@@ -7,7 +7,4 @@ pub mod Waiting
 pub mod Waking
 pub mod Handing
 pub mod Idle
-pub mod Going
-pub mod Whole
-pub mod RunText
 pub mod LineRing

@@ -1,10 +1,9 @@
-// Paced rings for the expansions of input commands.
-ghost use Rattle.std.specs.Prelude.{◌≡◌, IfOk};
+// Paced rings for the expansions of commands.
+ghost use Rattle.std.specs.Prelude.{◌≡◌, ◌≤◌, true, IfOk};
 ghost use Rattle.cm_expand.specs.PlanView.{plan_text};
-ghost use Rattle.cm_client.specs.Going.{IsGo};
+ghost use Rattle.cm_expand.specs.Totals.{length_of};
 ghost use Rattle.cm_client.specs.LineRing.{ring_of};
 ghost use Rattle.cm_client.specs.Streamed.{IsFresh};
-ghost use Rattle.cm_job.specs.declared.line.Mode.TheVariants.{Paced};
 
 use crate::paced::PacedBoard;
 use crate::streaming::BASE;
@@ -18,7 +17,7 @@ use cm_ring::reader::Reader;
 use cm_test::test::Accepted;
 use std::alloc::Global;
 
-/// The ends of a paced ring for an input command: its board, which has all words of the expansion, its
+/// The ends of a paced ring for a command: its board, which has all words of the expansion, its
 /// munger and its reader.
 #[derive(Drop)]
 pub struct PacedRing<'a> {
@@ -33,8 +32,9 @@ pub fn open_paced<'a>(
     plan: Plan<'a>,
     cmd: &Accepted,
 ) -> Result<PacedRing<'a>, NoMemory>
-    requires { IsGo (plan_text plan) cmd.now }
-    ensures ring { IfOk result (λ r. r.reader.ring ≡ ring_of (plan_text plan.entry) Paced) }
+    requires cmd { (plan_text plan).cmd ≡ cmd.now }
+    requires few { length_of (plan_text plan) ≤ 4000000 }
+    ensures ring { IfOk result (λ r. r.reader.ring ≡ ring_of (plan_text plan.entry) true) }
     ensures fresh { IfOk result (λ r. IsFresh r.reader) }
 {
     let sub = plan.sub();

@@ -1,8 +1,10 @@
 // One command's ring, with a thread for each of its ends.
 ghost use Rattle.std.specs.Prelude.{◌≡◌, ◌<◌, ◌≤◌, [], length, IfOk};
 ghost use Rattle.cm_client.specs.Progress.{Accepts};
-ghost use Rattle.cm_expand.specs.PlanView.{plan_words};
+ghost use Rattle.cm_expand.specs.PlanView.{plan_text, plan_words};
+ghost use Rattle.cm_expand.specs.Totals.{length_of};
 ghost use Rattle.cm_ring_core.specs.Lawful.{first_writer};
+ghost use Rattle.cm_client.specs.LineRing.{ring_of};
 ghost use Rattle.cm_client.specs.Streamed.{EndsTruly, IsFresh, StreamsTo};
 ghost use Rattle.cm_sample.specs.Rule.{IsRule};
 
@@ -13,11 +15,13 @@ use crate::workers::{TrueEnd, with_worker};
 use cm_base::gate::Gate;
 use cm_base::transfer::NoMemory;
 use cm_expand::plan::Plan;
+use cm_expand::rule::rule_of;
 use cm_ring::open::open;
 use cm_ring::writer::Closed;
 use cm_sample::consuming::Consumer;
 use cm_sample::planned::Planned;
 use cm_sample::rule::MungeRule;
+use cm_test::test::Accepted;
 use crossbeam_utils::Backoff;
 use std::alloc::Global;
 use std::sync::Wait;
@@ -94,5 +98,30 @@ pub fn stream<'a, R: Threads + Wait + Sync, C: Consumer + Send, G: Gate + Sync>(
     let words = WordSource::with_items(alloc, plan)?;
     stream_words(
         rt, alloc, plan, words, consumer, size, rule, paced, reads, gate, who,
+    )
+}
+
+/// Streams a command's expansion through a ring of the size of its subdevice's buffer to a consumer.
+pub fn stream_command<'a, R: Threads + Wait + Sync, C: Consumer + Send, G: Gate + Sync>(
+    rt: &R,
+    alloc: Global,
+    plan: Plan<'a>,
+    cmd: &Accepted,
+    consumer: C,
+    paced: bool,
+    reads: Reads,
+    gate: &G,
+    who: u32,
+) -> Result<Streamed<Plan<'a>, C>, NoMemory>
+    requires cmd { (plan_text plan).cmd ≡ cmd.now }
+    requires few { length_of (plan_text plan) ≤ 4000000 }
+    requires new { (C.count consumer ≡ 0) × (C.made consumer ≡ C.makes consumer []) }
+    requires accepts { Accepts (C.accepts consumer) (ring_of (plan_text plan) paced) }
+    ensures { IfOk result (λ s. StreamsTo (C.made s.samples) (C.makes consumer) (ring_of (plan_text plan.entry) paced) reads.take s.end s.reader) }
+{
+    let sub = plan.sub();
+    let rule = rule_of(alloc, sub, cmd)?;
+    stream(
+        rt, alloc, plan, consumer, sub.buffer, rule, paced, reads, gate, who,
     )
 }

@@ -8,13 +8,14 @@ use cm_base::transfer::NoMemory;
 use cm_board::board::Munge;
 use cm_board_text::reading::read_board;
 use cm_client::boarding::board_work;
-use cm_client::going::{Go, stream_go};
+use cm_client::client::Reads;
 use cm_client::reading::read_to_end;
-use cm_client::whole::block_text;
+use cm_client::streaming::stream_command;
 use cm_expand::call::plan_of;
 use cm_job::job::RunJob;
-use cm_job::line::{Mode, RunLine};
+use cm_job::line::{Access, Mode, RunLine};
 use cm_job::reading::read_run;
+use cm_job::whole::block_text;
 use cm_ring::open::open;
 use cm_ring_core::view::{End, EndKind};
 use cm_ring_tests::rule::rule_of;
@@ -83,14 +84,22 @@ fn block_by_words<R: Threads + Wait + Sync>(
     let (Mode::Paced, None) = (*mode, *take) else {
         return Ok(None);
     };
-    let go = Go {
-        plan,
-        cmd,
-        mode: *mode,
-        access: *access,
+    let reads = Reads {
+        by_map: *access == Access::Map,
         take: *take,
     };
-    let streamed = stream_go(rt, alloc, go, Vec::new(alloc), &OpenGate, 0)?;
+    let words = Vec::new(alloc);
+    let streamed = stream_command(
+        rt,
+        alloc,
+        plan,
+        cmd,
+        words,
+        mode.is_paced(),
+        reads,
+        &OpenGate,
+        0,
+    )?;
     let block = block_text(alloc, job, 0, &streamed.samples, &streamed.end)?;
     Ok(Some(block))
 }

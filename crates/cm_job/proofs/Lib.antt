@@ -10,3 +10,5 @@ pub mod LoopRules
 pub mod Sooner
 pub mod LoopWords
 pub mod ExpandLines
+pub mod Reported
+pub mod Wholes

@@ -23,7 +23,8 @@ use Rattle.cm_expand.specs.Totals.{has_room, length_of, length_of_all}
 use Rattle.cm_job.specs.Forms.{asked_of}
 use Rattle.cm_job.specs.RunLines.{AreRunLines}
 use Rattle.cm_job.specs.RunPart.{accepted, line_after, line_of, next_line, taken_line, watch_of}
-use Rattle.cm_job.specs.Sessions.{holds_scan, is_paced, is_watched}
+use Rattle.cm_job.specs.Modes.{is_paced}
+use Rattle.cm_job.specs.Sessions.{holds_scan, is_watched}
 use Rattle.cm_job.specs.WatchLines.{AreWatchLines, IsWatched}
 use Rattle.cm_job.specs.declared.asked.AskedLine.{AskedLine}
 use Rattle.cm_job.specs.declared.asked.AskedLine.TheVariants as asks

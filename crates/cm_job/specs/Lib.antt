@@ -2,6 +2,7 @@ pub mod Calls
 pub mod Forms
 pub mod Job
 pub mod JobView
+pub mod Modes
 pub mod RunLines
 pub mod RunPart
 pub mod Sessions
@@ -13,6 +14,9 @@ pub mod Later
 pub mod LoopPart
 pub mod Pace
 pub mod Head
+pub mod Going
+pub mod Whole
+pub mod RunText
 pub mod TestLines
 pub mod ExpandLines
 pub mod Law

@@ -3,17 +3,11 @@ use Rattle.std.specs.Prelude.{Bool, true, false, ◌&&◌, nat_le, nat_lt, lengt
 use Rattle.cm_board.specs.Board.{BoardText}
 use Rattle.cm_cmd.specs.Command.{CmdText}
 use Rattle.cm_test.specs.Accepting.{sub_at}
+use Rattle.cm_job.specs.Modes.{is_paced}
 use Rattle.cm_job.specs.declared.asked.AskedLine.{AskedLine}
 use Rattle.cm_job.specs.declared.asked.AskedLine.TheVariants as asks
 use Rattle.cm_job.specs.declared.asked.Session.{Session}
 use Rattle.cm_job.specs.declared.asked.Session.TheVariants as sessions
-use Rattle.cm_job.specs.declared.line.Mode.{Mode}
-use Rattle.cm_job.specs.declared.line.Mode.TheVariants as modes
-
--- the board waits for room
-abbrev pub is_paced : Mode → Bool
-is_paced modes.Paced = true
-is_paced modes.Free = false
 
 -- the buffer of the command's subdevice holds a scan
 abbrev pub holds_scan : BoardText → CmdText → Bool

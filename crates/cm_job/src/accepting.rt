@@ -11,7 +11,7 @@ ghost use Rattle.cm_job.specs.RunPart as spec;
 ghost use Rattle.cm_job.specs.Sessions as sessions;
 
 use crate::asked::{AskedLine, Session};
-use crate::line::{Mode, RunLine};
+use crate::line::RunLine;
 use cm_base::faults::{Fault, ReadStop};
 use cm_base::lists::{Nums, Times};
 use cm_base::parts::refused;
@@ -66,7 +66,7 @@ fn is_watched(board: &BoardDesc, asked: &AskedLine) -> bool
             take,
             cmd,
             ..
-        } => *mode == Mode::Paced && take.is_none() && holds_scan(board, cmd),
+        } => mode.is_paced() && take.is_none() && holds_scan(board, cmd),
         AskedLine::Drive { .. } => false,
     }
 }

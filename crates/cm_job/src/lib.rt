@@ -1,10 +1,12 @@
-// The lines of a job that are streamed: what each asks, and how they are read over a board and its signals.
+// The lines of a job that are streamed: what each asks, how they are read over a board and its signals, and
+// the block of each that reads.
 #![tactic(auto)]
 
 pub mod accepting;
 pub mod ahead;
 pub mod asked;
 pub mod expand_lines;
+pub mod going;
 pub mod head;
 pub mod job;
 pub mod law;
@@ -16,3 +18,4 @@ pub mod loop_line;
 pub mod loop_reading;
 pub mod reading;
 pub mod test_lines;
+pub mod whole;

@@ -1,6 +1,7 @@
 // What the lines of a run job ask.
 ghost use Rattle.std.specs.Prelude.{◌≡◌};
 ghost use Rattle.cm_job.specs.Calls as spec;
+ghost use Rattle.cm_job.specs.Modes as modes;
 
 use cm_base::lists::Nums;
 use cm_expand::call::{Call, sub_of};
@@ -13,6 +14,18 @@ pub enum Mode {
     Paced,
     /// It loses the sample, and the command ends.
     Free,
+}
+
+impl Mode {
+    /// Whether the board waits for room.
+    pub fn is_paced(self) -> bool
+        ensures { result ≡ modes.is_paced self }
+    {
+        match self {
+            Mode::Paced => true,
+            Mode::Free => false,
+        }
+    }
 }
 
 /// How the client gets at the samples of the buffer.

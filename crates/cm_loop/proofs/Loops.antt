@@ -26,7 +26,6 @@ use Rattle.cm_text.specs.Blocks.{munged_samples, munged_words, outputs_of, value
 use Rattle.cm_client.specs.LineRing.{ring_of}
 use Rattle.cm_text.proofs.Counts.{length-munged, munged_by_rule}
 use Rattle.cm_client.specs.Streamed.{HasStreamed}
-use Rattle.cm_job.specs.declared.line.Mode.TheVariants.{Paced}
 use Rattle.cm_text.specs.Outputs.{Output, output_texts}
 use Rattle.cm_text.specs.Tails.{tail_text}
 use Rattle.cm_loop.specs.LoopText.{filter_of, loop_text, loop_words, take_of}
@@ -42,11 +41,11 @@ outputs_first sub (conv ∷ convs) [] = refl
 outputs_first sub (conv ∷ convs) (word ∷ words) = ap (λ (l : List Output). record { sub = sub; time = conv.time; index = conv.list_index; word = word } ∷ l) (outputs_first sub convs words)
 
 -- the munged samples of an input's paced ring
-pub munged_ring : (p : PlanText) → 1 ≤ length p.cmd.list → munged_plan (ring_of p Paced) ≡ munged_samples p
+pub munged_ring : (p : PlanText) → 1 ≤ length p.cmd.list → munged_plan (ring_of p true) ≡ munged_samples p
 munged_ring p some = munged_by_rule p (samples_of p) some
 
-pub ring_samples : (p q : PlanText) (ring : RingConstants) → ring ≡ ring_of p Paced → p ≡ q → 1 ≤ length q.cmd.list → munged_plan ring ≡ munged_samples q
-ring_samples p q ring is same some = ap munged_plan is ∙ ap (λ (x : PlanText). munged_plan (ring_of x Paced)) same ∙ munged_ring q some
+pub ring_samples : (p q : PlanText) (ring : RingConstants) → ring ≡ ring_of p true → p ≡ q → 1 ≤ length q.cmd.list → munged_plan ring ≡ munged_samples q
+ring_samples p q ring is same some = ap munged_plan is ∙ ap (λ (x : PlanText). munged_plan (ring_of x true)) same ∙ munged_ring q some
 
 -- the filtered samples of such a ring are a loop's words
 pub filtered_ring : (job : LoopJobText) (ring : RingConstants) (filter : FilterText) → filter ≡ filter_of job → munged_plan ring ≡ munged_samples (input_of job) → all_filtered filter (munged_plan ring) ≡ loop_words job

@@ -15,9 +15,10 @@ use Rattle.cm_job.specs.declared.line.Mode.{Mode}
 use Rattle.cm_job.specs.declared.line.Mode.TheVariants.{Paced, Free}
 use Rattle.cm_expand.specs.Totals.{length_of}
 use Rattle.cm_text.specs.Blocks.{block, ending, take_count, cut_tail, paced_block, HasOverrun}
-use Rattle.cm_client.specs.RunText.{IsGoBlock}
+use Rattle.cm_job.specs.RunText.{IsGoBlock}
 use Rattle.cm_run.specs.Ran.{GoRan}
-use Rattle.cm_client.specs.LineRing.{is_paced, ring_of}
+use Rattle.cm_client.specs.LineRing.{ring_of}
+use Rattle.cm_job.specs.Modes.{is_paced}
 use Rattle.cm_text.specs.Ends.{tail_after}
 use Rattle.cm_text.proofs.Counts.{length-samples}
 use Rattle.cm_text.specs.declared.tail.Tail.{Tail}
@@ -60,7 +61,7 @@ overran p (Some m) count short = elim (cases_lt count m) [
 ]
 
 -- the block of an end that was found is a paced one, or has overrun where the line is free
-ended : (p : PlanText) (mode : Mode) (most : Option ℕ) (r : ReaderPart) (kind : EndKind) (count : ℕ) → IsFoundEnd (ring_of p mode) r kind count → (kind ≡ Cancelled → IsTaken most count) → up_to count most ≤ length_of p
+ended : (p : PlanText) (mode : Mode) (most : Option ℕ) (r : ReaderPart) (kind : EndKind) (count : ℕ) → IsFoundEnd (ring_of p (is_paced mode)) r kind count → (kind ≡ Cancelled → IsTaken most count) → up_to count most ≤ length_of p
     → (block p (up_to count most) (tail_after p most kind count) ≡ paced_block p most) ⊎ ((is_paced mode ≡ false) × HasOverrun p most (block p (up_to count most) (tail_after p most kind count)))
 unfolding Shows Hides
 ended p mode most r Done count says cancelled within = inl (ap (λ (n : ℕ). block p (up_to n most) (tail_after p most Done count)) (says ∙ length-samples p) ∙ ap (λ (t : Tail). block p (take_count p most) t) (tails_done p most count))
@@ -89,7 +90,7 @@ go_fits p mode most text r ran =
     let s = ran.streamed in
     let n : ℕ = up_to ran.end.count most in
     let same : text ≡ block p n (tail_after p most ran.end.kind ran.end.count) = ran.is ∙ ap (λ (k : ℕ). block p k (tail_after p most ran.end.kind ran.end.count)) s.released in
-    let says : IsFoundEnd (ring_of p mode) r.part ran.end.kind ran.end.count = subst (λ (x : RingConstants). IsFoundEnd x r.part ran.end.kind ran.end.count) s.of s.says in
+    let says : IsFoundEnd (ring_of p (is_paced mode)) r.part ran.end.kind ran.end.count = subst (λ (x : RingConstants). IsFoundEnd x r.part ran.end.kind ran.end.count) s.of s.says in
     let all = length-samples p in let within = s.within in
     let P : List ℕ → Type 0 = λ t. (t ≡ paced_block p most) ⊎ ((is_paced mode ≡ false) × HasOverrun p most t) in
     by_mode mode p most text (subst P (sym same) (ended p mode most r.part ran.end.kind ran.end.count says s.cancelled (omega arith)))

@@ -1,5 +1,5 @@
 -- What was read of lines that nobody cuts short.
-use Rattle.std.proofs.Common.{◌≡◌, ℕ, zero, suc, ◌≤◌, List, [], ◌∷◌, length, map, refl, sym, ap, subst, ◌∙◌, Option, Some, None}
+use Rattle.std.proofs.Common.{◌≡◌, ℕ, zero, suc, ◌≤◌, true, List, [], ◌∷◌, length, map, refl, sym, ap, subst, ◌∙◌, Option, Some, None}
 use Rattle.std.specs.Prelude.{slice_get}
 use Rattle.std.specs.List.{AllZip, sum}
 use Rattle.cm_board.specs.Board.{BoardText}
@@ -11,6 +11,7 @@ use Rattle.cm_ring_core.specs.declared.view.EndKind.TheVariants as ends
 use Rattle.cm_ring.specs.Roles.{Reading}
 use Rattle.cm_client.specs.Streamed.{HasStreamed}
 use Rattle.cm_job.specs.Calls.{plan_of}
+use Rattle.cm_job.specs.Modes.{is_paced}
 use Rattle.cm_job.specs.declared.line.Mode.{Mode}
 use Rattle.cm_job.specs.declared.line.Mode.TheVariants.{Paced}
 use Rattle.cm_job.specs.declared.line.RunLine.{RunLine}
@@ -22,7 +23,7 @@ use Rattle.cm_run.specs.SoakSums.{AreWhole, HasSummed, IsWhole, line_part, part_
 use Rattle.cm_run.specs.declared.soak.part.Part.{Part}
 use Rattle.cm_run.specs.declared.soak.summing.Summed.{Summed}
 
-module _ (p : PlanText) (words : List ℕ) (e : End) (r : Reading) (s : HasStreamed (ring_of p Paced) None words e r) (some : 1 ≤ length p.cmd.list) where
+module _ (p : PlanText) (words : List ℕ) (e : End) (r : Reading) (s : HasStreamed (ring_of p true) None words e r) (some : 1 ≤ length p.cmd.list) where
   words_whole : words ≡ munged_samples p
   words_whole = (s.whole refl refl).1 ∙ munged_by_rule p (samples_of p) some
 
@@ -46,9 +47,9 @@ module _ (p : PlanText) (words : List ℕ) (e : End) (r : Reading) (s : HasStrea
   }
 
 -- a paced line without a number to take
-pub as_paced : (p : PlanText) (mode : Mode) (most : Option ℕ) (words : List ℕ) (e : End) (r : Reading) → mode ≡ Paced → most ≡ None → HasStreamed (ring_of p mode) most words e r → HasStreamed (ring_of p Paced) None words e r
+pub as_paced : (p : PlanText) (mode : Mode) (most : Option ℕ) (words : List ℕ) (e : End) (r : Reading) → mode ≡ Paced → most ≡ None → HasStreamed (ring_of p (is_paced mode)) most words e r → HasStreamed (ring_of p true) None words e r
 as_paced p mode most words e r paced none s =
-    subst (λ (m : Mode). HasStreamed (ring_of p m) None words e r) paced (subst (λ (m : Option ℕ). HasStreamed (ring_of p mode) m words e r) none s)
+    subst (λ (m : Mode). HasStreamed (ring_of p (is_paced m)) None words e r) paced (subst (λ (m : Option ℕ). HasStreamed (ring_of p (is_paced mode)) m words e r) none s)
 
 module _ (board : BoardText) (signals : SignalsText) where
   abbrev pub HaveSummed : List RunLine → List Summed → Type 0

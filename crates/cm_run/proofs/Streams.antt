@@ -11,6 +11,7 @@ use Rattle.cm_ring_core.specs.declared.view.EndKind.TheVariants.{Done, Overrun, 
 use Rattle.cm_ring_core.specs.declared.view.ReaderPart.{ReaderPart}
 use Rattle.cm_ring_core.specs.declared.view.RingConstants.{RingConstants}
 use Rattle.cm_client.specs.Streamed.{HasStreamed}
+use Rattle.cm_job.specs.Modes.{is_paced}
 use Rattle.cm_job.specs.declared.line.Mode.{Mode}
 use Rattle.cm_text.specs.Format.{format_of, sample_lines}
 use Rattle.cm_text.specs.Tails.{tail_text}
@@ -21,11 +22,11 @@ use Rattle.cm_client.specs.LineRing.{ring_of}
 use Rattle.cm_text.specs.Ends.{tail_after}
 use Rattle.cm_text.proofs.Counts.{length-samples, munged_by_rule}
 
-module _ (p : PlanText) (mode : Mode) (most : Option ℕ) (words : List ℕ) (e : End) (r : Reading) (s : HasStreamed (ring_of p mode) most words e r) where
+module _ (p : PlanText) (mode : Mode) (most : Option ℕ) (words : List ℕ) (e : End) (r : Reading) (s : HasStreamed (ring_of p (is_paced mode)) most words e r) where
   pub words_are : 1 ≤ length p.cmd.list → words ≡ take (up_to e.count most) (munged_samples p)
   words_are some = s.are ∙ ap (λ (l : List ℕ). take (up_to e.count most) l) (munged_by_rule p (samples_of p) some)
 
-  kind_fits : (q : ReaderPart) (kind : EndKind) (count : ℕ) → IsFoundEnd (ring_of p mode) q kind count → FitsCount p kind count
+  kind_fits : (q : ReaderPart) (kind : EndKind) (count : ℕ) → IsFoundEnd (ring_of p (is_paced mode)) q kind count → FitsCount p kind count
   kind_fits q Done count says = says ∙ length-samples p
   kind_fits q Overrun count says = let all = length-samples p in let fewer = says.1 in omega arith
   kind_fits q Cancelled count says = tt

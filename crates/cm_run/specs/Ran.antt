@@ -10,6 +10,7 @@ use Rattle.cm_client.specs.LineRing.{ring_of}
 use Rattle.cm_client.specs.Streamed.{HasStreamed}
 use Rattle.cm_text.specs.Blocks.{block, drive_block}
 use Rattle.cm_text.specs.Ends.{tail_after}
+use Rattle.cm_job.specs.Modes.{is_paced}
 use Rattle.cm_job.specs.declared.line.Mode.{Mode}
 use Rattle.cm_job.specs.declared.line.RunLine.{RunLine}
 use Rattle.cm_job.specs.declared.line.RunLine.TheVariants.{Go, Drive}
@@ -18,7 +19,7 @@ use Rattle.cm_job.specs.declared.line.RunLine.TheVariants.{Go, Drive}
 pub record GoRan (p : PlanText) (mode : Mode) (most : Option ℕ) (text : List ℕ) (r : Reading) : Type 0 where
   pub words : List ℕ
   pub end : End
-  pub streamed : HasStreamed (ring_of p mode) most words end r
+  pub streamed : HasStreamed (ring_of p (is_paced mode)) most words end r
   pub is : text ≡ block p r.part.released (tail_after p most end.kind end.count)
 
 -- the same where the line has one reader

@@ -1,5 +1,5 @@
 -- What the streams of a job's lines sum up to.
-use Rattle.std.specs.Prelude.{◌≡◌, ℕ, List, [], ◌∷◌, length, slice_get, Option, Some, None}
+use Rattle.std.specs.Prelude.{◌≡◌, ℕ, true, List, [], ◌∷◌, length, slice_get, Option, Some, None}
 use Rattle.std.specs.List.{AllZip, sum}
 use Rattle.cm_board.specs.Board.{BoardText}
 use Rattle.cm_signal.specs.Signals.{SignalsText}
@@ -26,7 +26,7 @@ part_of p = record { count = length (munged_samples p); sum = sum (munged_sample
 
 -- the reader of a paced ring of a command found the end after all samples, and released them
 pub record IsWhole (p : PlanText) (r : Reading) : Type 0 where
-  pub of : r.ring ≡ ring_of p Paced
+  pub of : r.ring ≡ ring_of p true
   pub found : r.part.found ≡ Some (record { kind = ends.Done; count = length_of p })
   pub released : r.part.released ≡ length_of p
 

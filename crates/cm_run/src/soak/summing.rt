@@ -2,19 +2,20 @@
 ghost use Rattle.std.specs.Prelude.{◌≡◌, ◌<◌, length, slice_get, IfOk, IfSome, None};
 ghost use Rattle.std.specs.List.{All, AllZip};
 ghost use Rattle.cm_expand.specs.PlanView.{plan_text};
-ghost use Rattle.cm_client.specs.Going.{IsGo};
+ghost use Rattle.cm_job.specs.Going.{IsGo};
 ghost use Rattle.cm_run.specs.SoakSums as spec;
 ghost use Rattle.cm_job.specs.Calls as calls;
 ghost use Rattle.cm_job.specs.RunLines.{CanRun};
 
+use crate::gone::stream_go;
 use crate::running::stream_lines;
 use crate::soak::part::Part;
 use crate::soak::sum::Sum;
 use cm_base::gate::Gate;
 use cm_base::transfer::NoMemory;
 use cm_board::board::BoardDesc;
-use cm_client::going::{Go, go_of, stream_go};
 use cm_expand::plan::Plan;
+use cm_job::going::{Go, go_of};
 use cm_job::job::RunJob;
 use cm_job::line::{Mode, RunLine};
 use cm_ring::reader::Reader;

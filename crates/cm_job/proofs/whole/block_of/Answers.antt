@@ -2,8 +2,8 @@ use Rattle.std.proofs.Common.{◌≡◌, ℕ, List, IfOk, sym, subst}
 use Rattle.cm_expand.specs.Plan.{PlanText}
 use Rattle.cm_expand.specs.PlanView.{plan_text}
 use Rattle.cm_text.specs.Limits.{FitsCount}
-use Rattle.cm_client.proofs.Wholes.{block_is, count_fits}
-use Rattle.cm_client.proofs.whole.block_of.Goals as goal
+use Rattle.cm_job.proofs.Wholes.{block_is, count_fits}
+use Rattle.cm_job.proofs.whole.block_of.Goals as goal
 
 pub with_end-requires-clause-end : goal.with_end-requires-clause-end
 with_end-requires-clause-end c =

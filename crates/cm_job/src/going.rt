@@ -1,40 +1,30 @@
-// Input commands, whose samples a client reads.
-ghost use Rattle.std.specs.Prelude.{◌≡◌, ◌++◌, [], ℕ, take, IfOk, None};
-ghost use Rattle.cm_client.specs.Progress.{Accepts};
+// What a `go` line asks, the lines of its samples, and its block.
+ghost use Rattle.std.specs.Prelude.{◌≡◌, ◌++◌, IfOk, None};
 ghost use Rattle.cm_expand.specs.PlanView.{plan_text};
-ghost use Rattle.cm_client.specs.Going.{Asks, IsGo, IsGoLine};
-ghost use Rattle.cm_client.specs.Whole.{TakesAll};
+ghost use Rattle.cm_job.specs.Going.{AcceptsSamples, Asks, IsGo, IsGoLine};
+ghost use Rattle.cm_job.specs.Whole.{TakesAll};
 ghost use Rattle.cm_job.specs.Calls as calls;
 ghost use Rattle.cm_job.specs.RunLines.{CanRun};
-ghost use Rattle.cm_client.specs.LineRing as rings;
 ghost use Rattle.cm_text.specs.Ends as ends;
 ghost use Rattle.cm_text.specs.Limits.{FitsCount};
 ghost use Rattle.cm_text.specs.SampleText.{CanReport, no_lines};
-ghost use Rattle.cm_client.specs.Streamed.{StreamsTo};
 ghost use Rattle.cm_text.specs.Format.{format_of};
 ghost use Rattle.cm_text.specs.Tails.{tail_text};
 
-use crate::client::{Reads, Streamed};
-use crate::streaming::stream;
-use cm_base::gate::Gate;
+use crate::line::{Access, Mode, RunLine};
 use cm_base::prover::shows;
 use cm_base::transfer::NoMemory;
 use cm_board::board::BoardDesc;
 use cm_expand::board::Board;
 use cm_expand::call::plan_of;
 use cm_expand::plan::Plan;
-use cm_expand::rule::rule_of;
-use cm_job::line::{Access, Mode, RunLine};
 use cm_ring_core::view::End;
-use cm_sample::consuming::Consumer;
 use cm_signal::signals::Signals;
 use cm_test::test::Accepted;
 use cm_text::ending::tail_after;
 use cm_text::sample_text::SampleText;
 use cm_text::tail::put_tail;
 use std::alloc::Global;
-use std::sync::Wait;
-use std::thread::Threads;
 
 // How many samples a client makes ready for at most.
 const MOST_ROOM: u64 = 4_000_000;
@@ -79,16 +69,6 @@ pub fn go_of<'a>(board: &'a BoardDesc, signals: &'a Signals, line: &'a RunLine) 
     }
 }
 
-// Whether the board waits for room.
-fn is_paced(mode: Mode) -> bool
-    ensures { result ≡ rings.is_paced mode }
-{
-    match mode {
-        Mode::Paced => true,
-        Mode::Free => false,
-    }
-}
-
 // How many samples a client makes ready for: as many as the stop count says, and no more than it takes.
 // Without a stop count it makes ready for none.
 fn room_of(go: &Go<'_>) -> usize {
@@ -97,37 +77,11 @@ fn room_of(go: &Go<'_>) -> usize {
     taken.min(MOST_ROOM) as usize
 }
 
-/// Streams the line through a ring of the size of its subdevice's buffer to a consumer.
-pub fn stream_go<'a, R: Threads + Wait + Sync, C: Consumer + Send, G: Gate + Sync>(
-    rt: &R,
-    alloc: Global,
-    go: Go<'a>,
-    consumer: C,
-    gate: &G,
-    who: u32,
-) -> Result<Streamed<Plan<'a>, C>, NoMemory>
-    requires go { IsGo (plan_text go.plan) go.cmd.now }
-    requires new { (C.count consumer ≡ 0) × (C.made consumer ≡ C.makes consumer []) }
-    requires accepts { Accepts (C.accepts consumer) (rings.ring_of (plan_text go.plan) go.mode) }
-    ensures { IfOk result (λ s. StreamsTo (C.made s.samples) (C.makes consumer) (rings.ring_of (plan_text go.entry.plan) go.entry.mode) go.entry.take s.end s.reader) }
-{
-    let sub = go.plan.sub();
-    let rule = rule_of(alloc, sub, go.cmd)?;
-    let paced = is_paced(go.mode);
-    let reads = Reads {
-        by_map: go.access == Access::Map,
-        take: go.take,
-    };
-    stream(
-        rt, alloc, go.plan, consumer, sub.buffer, rule, paced, reads, gate, who,
-    )
-}
-
 /// The lines of the line's samples, before the first.
 pub fn text_of<'a>(alloc: Global, go: Go<'a>) -> Result<SampleText<'a>, NoMemory>
     requires { IsGo (plan_text go.plan) go.cmd.now }
     ensures new { IfOk result (λ t. t ≡ no_lines (format_of (plan_text go.entry.plan))) }
-    ensures accepts { IfOk result (λ t. Accepts (CanReport t) (rings.ring_of (plan_text go.entry.plan) go.entry.mode)) }
+    ensures accepts { IfOk result (λ t. AcceptsSamples (CanReport t) (plan_text go.entry.plan)) }
 {
     // The board tells what holds of each expansion: that the words are codes of their channels.
     let place = Board::new(go.plan).place();

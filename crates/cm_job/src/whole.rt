@@ -1,19 +1,17 @@
 // The blocks of lines that take all samples.
 ghost use Rattle.std.specs.Prelude.{◌≡◌, ◌<◌, length, slice_get, IfOk, IfSome};
-ghost use Rattle.cm_client.specs.Progress.{Accepts};
-ghost use Rattle.cm_client.specs.RunText.{line_block};
-ghost use Rattle.cm_client.specs.LineRing.{ring_of};
+ghost use Rattle.cm_job.specs.Going.{AcceptsSamples};
+ghost use Rattle.cm_job.specs.RunText.{line_block};
 ghost use Rattle.cm_text.specs.SampleText.{CanReport, no_lines};
-ghost use Rattle.cm_client.specs.Whole.{HasWhole, IsWhole, TakesAll, line_format};
+ghost use Rattle.cm_job.specs.Whole.{HasWhole, IsWhole, TakesAll, line_format};
 ghost use Rattle.cm_job.specs.Calls as calls;
 ghost use Rattle.cm_job.specs.RunLines.{CanRun};
-ghost use Rattle.cm_job.specs.declared.line.Mode.TheVariants.{Paced};
 
 use crate::going::{go_of, text_of, with_end};
+use crate::job::RunJob;
+use crate::line::RunLine;
 use cm_base::transfer::NoMemory;
 use cm_board::board::BoardDesc;
-use cm_job::job::RunJob;
-use cm_job::line::RunLine;
 use cm_ring_core::view::End;
 use cm_signal::signals::Signals;
 use cm_text::sample_text::SampleText;
@@ -65,7 +63,7 @@ pub fn text_for<'a>(
     requires run { CanRun board.now signals.now line.now }
     requires all { TakesAll line.now }
     ensures new { IfOk result (λ t. t ≡ no_lines (line_format board.entry.now signals.entry.now line.entry.now)) }
-    ensures accepts { IfOk result (λ t. Accepts (CanReport t) (ring_of (calls.plan_of board.entry.now signals.entry.now line.entry.now) Paced)) }
+    ensures accepts { IfOk result (λ t. AcceptsSamples (CanReport t) (calls.plan_of board.entry.now signals.entry.now line.entry.now)) }
 {
     text_of(alloc, go_of(board, signals, line))
 }

@@ -1,30 +1,23 @@
 -- The block of a line all of whose samples a client has.
-use Rattle.std.proofs.Common.{◌≡◌, ℕ, ◌≤◌, ◌++◌, List, length, take, refl, sym, ap, ◌∙◌, subst, arith, Option, Some, None}
+use Rattle.std.proofs.Common.{◌≡◌, ℕ, ◌++◌, List, length, take, refl, sym, ap, ◌∙◌, subst, arith, Option, Some, None}
 use Rattle.std.proofs.lemmas.List.{take_all}
 use Rattle.cm_board.specs.Board.{BoardText}
-use Rattle.cm_cmd.specs.Command.{CmdText}
-use Rattle.cm_expand.specs.Items.{samples_of}
 use Rattle.cm_expand.specs.Plan.{PlanText}
 use Rattle.cm_ring_core.specs.declared.view.End.{End}
 use Rattle.cm_ring_core.specs.declared.view.EndKind.{EndKind}
-use Rattle.cm_ring.specs.Roles.{Reading}
-use Rattle.cm_client.specs.Streamed.{HasStreamed}
 use Rattle.cm_job.specs.Calls.{plan_of}
-use Rattle.cm_job.specs.declared.line.Access.{Access}
-use Rattle.cm_job.specs.declared.line.Mode.TheVariants.{Paced}
 use Rattle.cm_job.specs.declared.line.RunLine.{RunLine}
 use Rattle.cm_job.specs.declared.line.RunLine.TheVariants.{Go, Drive}
 use Rattle.cm_signal.specs.Signals.{SignalsText}
 use Rattle.cm_expand.specs.Totals.{length_of}
 use Rattle.cm_text.specs.Blocks.{ending, munged_samples, paced_block}
-use Rattle.cm_client.specs.RunText.{line_block}
+use Rattle.cm_job.specs.RunText.{line_block}
 use Rattle.cm_text.specs.Limits.{FitsCount}
-use Rattle.cm_client.specs.LineRing.{ring_of}
 use Rattle.cm_text.specs.Ends.{tail_after}
 use Rattle.cm_text.specs.SampleText.{LinesText, lines_of}
-use Rattle.cm_client.specs.Going.{IsGoLine}
-use Rattle.cm_client.specs.Whole.{IsWhole, TakesAll, line_format}
-use Rattle.cm_text.proofs.Counts.{length-munged, munged_by_rule}
+use Rattle.cm_job.specs.Going.{IsGoLine}
+use Rattle.cm_job.specs.Whole.{IsWhole, TakesAll, line_format}
+use Rattle.cm_text.proofs.Counts.{length-munged}
 use Rattle.cm_text.specs.Format.{format_of, sample_lines}
 use Rattle.cm_text.specs.Tails.{tail_text}
 
@@ -44,7 +37,7 @@ module _ (board : BoardText) (signals : SignalsText) (line : RunLine) (words : L
   plan = plan_of board signals line
 
   -- its words are the first ones, up to the number of conversions
-  pub first_ones : words ≡ take (length_of plan) (munged_samples plan)
+  first_ones : words ≡ take (length_of plan) (munged_samples plan)
   first_ones = whole.all ∙ sym (take_all (length_of plan) (munged_samples plan) (omega (arith, length-munged plan)))
 
   pub count_fits : FitsCount plan end.kind end.count
@@ -60,15 +53,3 @@ module _ (board : BoardText) (signals : SignalsText) (line : RunLine) (words : L
   -- the same of a plan and a number to take that are known to be the line's
   pub block_is : (p : PlanText) (most : Option ℕ) (t : LinesText) → p ≡ plan → most ≡ None → t ≡ lines_of (line_format board signals line) words → t.text ++ tail_text (tail_after p most end.kind end.count) ≡ line_block board signals line
   block_is p most t is all lines = (λ i. (lines i).text ++ tail_text (tail_after (is i) (all i) end.kind end.count)) ∙ whole_text
-
--- the words that a client has of a paced line that takes all samples, and the end that it found, are those of the whole line
-pub streamed_whole : (board : BoardText) (signals : SignalsText) (line : RunLine) (access : Access) (t0 : ℕ) (cmd : CmdText) (p : PlanText) (words : List ℕ) (e : End) (r : Reading) → line ≡ Go Paced access t0 None cmd → p ≡ plan_of board signals line → 1 ≤ length p.cmd.list → HasStreamed (ring_of p Paced) None words e r
-    → IsWhole board signals line words e
-streamed_whole board signals line access t0 cmd p words e r is plan some s =
-    let whole = s.whole refl refl in
-    record {
-      takes = subst TakesAll (sym is) refl;
-      all = whole.1 ∙ (munged_by_rule p (samples_of p) some ∙ ap munged_samples plan);
-      done = whole.0;
-      count = sym s.count;
-    }

@@ -1,5 +1,5 @@
 -- A `go` line whose command can be streamed.
-use Rattle.std.specs.Prelude.{◌≡◌, ◌≤◌, ℕ, false, Option, ⊤}
+use Rattle.std.specs.Prelude.{◌≡◌, ◌<◌, ◌≤◌, ℕ, false, length, slice_index, Option, ⊤}
 use Rattle.cm_cmd.specs.Command.{CmdText}
 use Rattle.cm_expand.specs.Plan.{PlanText}
 use Rattle.cm_board.specs.Board.{is_output}
@@ -7,6 +7,8 @@ use Rattle.cm_job.specs.declared.line.Mode.{Mode}
 use Rattle.cm_job.specs.declared.line.RunLine.{RunLine}
 use Rattle.cm_job.specs.declared.line.RunLine.TheVariants.{Go, Drive}
 use Rattle.cm_test.specs.Questions.{tested}
+use Rattle.cm_expand.specs.Items.{samples_of}
+use Rattle.cm_expand.specs.Rule.{munged_at}
 use Rattle.cm_expand.specs.Totals.{length_of}
 
 -- the plan is of this command, which its subdevice, an input, accepts, and it has 4,000,000 conversions at most
@@ -25,3 +27,9 @@ IsGoLine (Drive t0 values cmd) = ⊥
 abbrev pub Asks : RunLine → Mode → Option ℕ → Type 0
 Asks (Go mode access t0 most cmd) its_mode its_most = (its_mode ≡ mode) × (its_most ≡ most)
 Asks (Drive t0 values cmd) its_mode its_most = ⊥
+
+-- a word may be the sample of a place, for each munged sample of an expansion
+abbrev pub AcceptsSamples : (ℕ → ℕ → Type 0) → PlanText → Type 0
+AcceptsSamples accepts p =
+    (place : ℕ) → place < length (samples_of p)
+    → accepts place (munged_at p.sub p.cmd place (slice_index (samples_of p) place))
