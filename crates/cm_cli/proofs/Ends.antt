@@ -7,7 +7,7 @@ use Rattle.std.proofs.lemmas.Bool.{not_from_false, or_parts}
 use Rattle.cm_base.specs.Causes.{Rose}
 use Rattle.cm_base.specs.Transfer.{AppendsPrefix, ReadsAll}
 use Rattle.cm_base.specs.declared.faults.Refused.{Refused}
-use Rattle.cm_replay.specs.Declined.{refused_text}
+use Rattle.cm_text.specs.Declined.{refused_text}
 use Rattle.cm_cli.specs.Answer.{Outcome, Accepted, Declined, Misused, BreaksOff, Concludes, as_outcome, bytes_said, too_long}
 use Rattle.cm_cli.specs.Answers.{Answers, Does, End, Ends, Reports, input_of}
 use Rattle.cm_cli.specs.Commands.{has_threads, is_soak, reads, streams}

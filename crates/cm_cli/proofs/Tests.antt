@@ -5,7 +5,7 @@ use Rattle.cm_base.specs.Transfer.{IsUnderWay}
 use Rattle.cm_base.proofs.UnderWay.{under_way-more}
 use Rattle.cm_board.specs.Board.{BoardText}
 use Rattle.cm_cmd.specs.Command.{CmdText}
-use Rattle.cm_replay.specs.Testing.{test_answer}
+use Rattle.cm_test.specs.Testing.{test_answer}
 use Rattle.cm_cli.specs.TestSession.{tests_text}
 use Rattle.cm_replay.proofs.Folds.{left-next}
 

@@ -4,7 +4,7 @@ use Rattle.std.specs.Io.KnownBytes.{Appends, Keeps}
 use Rattle.cm_base.specs.Transfer.{AppendsPrefix}
 use Rattle.cm_base.specs.declared.faults.Fault.TheVariants.{TooLong}
 use Rattle.cm_base.specs.declared.faults.Refused.{Refused}
-use Rattle.cm_replay.specs.Declined.{refused_text}
+use Rattle.cm_text.specs.Declined.{refused_text}
 use Rattle.cm_cli.specs.Said.{Work, Streams, Soaks, Written, said}
 use Rattle.cm_cli.specs.declared.command.Command.{Command}
 use Rattle.cm_cli.specs.declared.command.Command.TheVariants as commands

@@ -3,7 +3,7 @@ use Rattle.std.specs.Prelude.{ℕ, List}
 use Rattle.std.specs.List.{flat_map}
 use Rattle.cm_board.specs.Board.{BoardText}
 use Rattle.cm_cmd.specs.Command.{CmdText}
-use Rattle.cm_replay.specs.Testing.{test_answer}
+use Rattle.cm_test.specs.Testing.{test_answer}
 
 -- the answer to all commands of a `test` session
 abbrev pub tests_text : BoardText → List CmdText → List ℕ

@@ -10,7 +10,7 @@ use crate::stop::Stop;
 use cm_base::faults::{Fault, Refused};
 use cm_base::outside::{Sink, Source};
 use cm_base::transfer::{NoMemory, ReadError, WriteFault, read_all, write_all};
-use cm_replay::declining::refusal;
+use cm_text::declining::refusal;
 use std::alloc::Global;
 
 // The most bytes that are read.

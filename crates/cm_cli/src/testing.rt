@@ -10,7 +10,7 @@ use cm_base::outside::Sink;
 use cm_base::transfer::{TextStop, flush, flush_full};
 use cm_board::board::BoardDesc;
 use cm_cmd::command::Cmd;
-use cm_replay::testing::put_answer;
+use cm_test::testing::put_answer;
 use std::alloc::Global;
 
 /// Writes the answers to commands that are tested, in pieces of about 64 KiB.

@@ -4,8 +4,8 @@ use Rattle.std.specs.Prelude.{nat_eq, ◌&&◌, if◌then◌else◌}
 use Rattle.std.proofs.lemmas.Bool.{cases_lt, eqb-true, lt-ltb, le-ltb, le-leb, lt-leb}
 use Rattle.cm_base.proofs.Bools.{both}
 use Rattle.cm_replay.specs.Law.{IsDue, IsDueIfAny}
-use Rattle.cm_replay.specs.Timely.{IsTimely}
-use Rattle.cm_replay.specs.Running.{Schedule, arrived, end_by, has_stopped, is_out, lost_end, some_if}
+use Rattle.cm_running.specs.Timely.{IsTimely}
+use Rattle.cm_running.specs.Running.{Schedule, arrived, end_by, has_stopped, is_out, lost_end, some_if}
 use Rattle.cm_text.specs.declared.end.End.{End}
 use Rattle.cm_text.specs.declared.end.End.TheVariants.{Done, Dry, Overrun, Underrun}
 use Rattle.cm_expand.proofs.Come.{come-le, come-later}

@@ -12,7 +12,7 @@ use Rattle.cm_sub.specs.Claims.{nobody}
 use Rattle.cm_replay.specs.Law.{Spot, spot_at}
 use Rattle.cm_replay.specs.Ready.{CanMove, StaysReady}
 use Rattle.cm_replay.specs.Replies.{AreMany, AreWhole, CanCome, CanReplay, CanStep, HasCome, Steps, tried_of}
-use Rattle.cm_replay.specs.Running.{Running}
+use Rattle.cm_running.specs.Running.{Running}
 use Rattle.cm_replay.specs.Session.{brought_all, step}
 use Rattle.cm_replay.specs.State.{Device, State, at_start, idle_device}
 use Rattle.cm_replay.specs.Texts.{step_text, texts_from}

@@ -18,9 +18,10 @@ use Rattle.cm_session.specs.declared.op.SessionLine.{SessionLine}
 use Rattle.cm_replay.specs.Answers.{Ended, Reply, idle, unless_ended}
 use Rattle.cm_replay.specs.Calling.{insn_reply, trigger_reply}
 use Rattle.cm_replay.specs.Forms.{form, kind_checks, line_checks, reader_checks, writer_checks}
-use Rattle.cm_replay.specs.Reading.{look_reply, map_reply, on_running, read_reply, release_reply, reported_end}
+use Rattle.cm_replay.specs.Reading.{look_reply, map_reply, on_running, read_reply, release_reply}
+use Rattle.cm_running.specs.Reading.{reported_end}
 use Rattle.cm_replay.specs.Refusals.{ForeignLaw, IsForeign}
-use Rattle.cm_replay.specs.Running.{Running}
+use Rattle.cm_running.specs.Running.{Running}
 use Rattle.cm_replay.specs.Session.{Outcome, act, act_on, brought_all, closed_state, here, left_by, left_devices, unless_refused, with_reply}
 use Rattle.cm_replay.specs.State.{Device, Here, State, claim_of, device_at, idle_device, is_foreign, is_out_here}
 use Rattle.cm_replay.specs.Writing.{fill_reply, mark_reply, write_reply}

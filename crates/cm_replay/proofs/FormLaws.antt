@@ -14,14 +14,16 @@ use Rattle.cm_session.specs.declared.op.Op.{Op}
 use Rattle.cm_session.specs.declared.op.Op.TheVariants as ops
 use Rattle.cm_base.proofs.Bools.{not_false}
 use Rattle.cm_replay.specs.Answers.{Reply, unless_ended}
-use Rattle.cm_replay.specs.Calling.{cmd_reply, insn_reply, trigger_reply, waits}
+use Rattle.cm_replay.specs.Calling.{cmd_reply, insn_reply, trigger_reply}
+use Rattle.cm_running.specs.Triggering.{waits}
 use Rattle.cm_replay.specs.Forms.{form, reader_checks, writer_checks}
 use Rattle.cm_replay.specs.Law.{History, Keeps, Spot, no_history}
-use Rattle.cm_replay.specs.Reading.{look_reply, map_reply, mapped, on_running, read_reply, release_reply, reported_end}
-use Rattle.cm_replay.specs.Running.{Running, Schedule, is_out}
-use Rattle.cm_replay.specs.Schedules.{schedule_of, triggered}
+use Rattle.cm_replay.specs.Reading.{look_reply, map_reply, mapped, on_running, read_reply, release_reply}
+use Rattle.cm_running.specs.Reading.{reported_end}
+use Rattle.cm_running.specs.Running.{Running, Schedule, is_out}
+use Rattle.cm_running.specs.Schedules.{schedule_of, triggered}
 use Rattle.cm_replay.specs.State.{Here, claim_of, is_out_here, plan_here}
-use Rattle.cm_replay.specs.Timely.{IsTimely}
+use Rattle.cm_running.specs.Timely.{IsTimely}
 use Rattle.cm_replay.specs.Writing.{fill_reply, mark_reply, unmarked, write_reply}
 use Rattle.cm_text.specs.declared.end.End.{End}
 use Rattle.cm_replay.proofs.Checks.{le-false, lt-false, passes, passes-both}

@@ -10,11 +10,12 @@ use Rattle.cm_sub.specs.declared.errno.Errno.{Errno}
 use Rattle.cm_sub.specs.declared.errno.Errno.TheVariants.{Inval}
 use Rattle.cm_replay.specs.Answers.{Answer, Ended, Refused, Reply, idle, kept, unless_ended}
 use Rattle.cm_replay.specs.Forms.{Form, reader_checks}
-use Rattle.cm_replay.specs.Reading.{mapped, on_running, reported_end}
+use Rattle.cm_replay.specs.Reading.{mapped, on_running}
+use Rattle.cm_running.specs.Reading.{reported_end}
 use Rattle.cm_replay.specs.Replies.{Replies, Tells, checked, unless_kept}
 use Rattle.cm_replay.specs.Law.{Spot}
 use Rattle.cm_replay.specs.Ready.{CanMove}
-use Rattle.cm_replay.specs.Running.{Running, is_out}
+use Rattle.cm_running.specs.Running.{Running, is_out}
 use Rattle.cm_board.specs.Board.{SubText, is_output}
 use Rattle.cm_replay.specs.State.{Device, Here}
 use Rattle.cm_replay.specs.Texts.{answer_text}

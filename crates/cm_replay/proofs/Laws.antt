@@ -6,18 +6,18 @@ use Rattle.std.proofs.lemmas.Bool.{cases_eq, cases_Bool, eq-eqb, cond-true, cond
 use Rattle.std.proofs.lemmas.List.{drop-append-le}
 use Rattle.cm_sample.specs.Rule.{map_from}
 use Rattle.cm_expand.specs.Plan.{start_of}
-use Rattle.cm_replay.specs.Law.{Continues, HasPlaces, History, IsDueIfAny, IsInput, IsLawful, IsOf, IsOutput, Keeps, Spot, PutsOut, Remembers, remembered, served}
-use Rattle.cm_replay.specs.Timely.{IsTimely}
-use Rattle.cm_replay.specs.Running.{Running, Schedule, arrived, brought, collected, due, end_by, is_out, moved_on, munge_in, outputs, put_by, put_out, samples, started, written_by}
-use Rattle.cm_replay.specs.Schedules.{schedule_of, triggered}
-use Rattle.cm_replay.specs.Answers.{Answer, Ended, Filled, Looked, Mapped, Released, Written}
-use Rattle.cm_replay.specs.Calling.{has_come, trigger_on, waits}
-use Rattle.cm_replay.specs.Reading.{map_on, mapping, read_on, reported_end, taken, taking}
-use Rattle.cm_replay.specs.Writing.{fill_on, mark_on, munged_within, taken_in, write_on}
+use Rattle.cm_replay.specs.Law.{Continues, HasPlaces, History, IsDueIfAny, IsInput, IsLawful, IsOf, IsOutput, Keeps, Spot, PutsOut, Remembers, remembered}
+use Rattle.cm_running.specs.Running.{Running, Schedule, arrived, brought, collected, due, end_by, is_out, moved_on, munge_in, outputs, put_by, put_out, samples, served, started, written_by}
+use Rattle.cm_running.specs.Timely.{IsTimely}
+use Rattle.cm_running.specs.Schedules.{schedule_of, triggered}
+use Rattle.cm_replay.specs.Answers.{Answer, Ended, Filled, Looked, Mapped, Released, Taken, Written}
+use Rattle.cm_running.specs.Triggering.{has_come, trigger_on, waits}
+use Rattle.cm_running.specs.Reading.{map_on, mapping, read_on, reported_end, taken, taking}
+use Rattle.cm_running.specs.Writing.{fill_on, mark_on, munged_within, taken_in, write_on}
 use Rattle.cm_text.specs.declared.end.End.{End}
 use Rattle.cm_expand.proofs.Come.{come-later}
 use Rattle.cm_replay.proofs.Ends.{arrived-le, end-due}
-use Rattle.cm_replay.proofs.Samples.{length-samples}
+use Rattle.cm_running.proofs.Samples.{length-samples}
 use Rattle.cm_replay.proofs.Words.{map_from-append, map_from-after, map_from-drop, map_from-further, outputs-munged}
 
 -- the places of a command by its direction
@@ -212,13 +212,13 @@ input-on spot time h after c r ra inn kept order within more gone =
 long-taken : (n : ℕ) (c : Running) → c.w ≤ length c.schedule.conversions → length (take (taking n c) (drop c.r (samples c.schedule))) ≡ taking n c
 long-taken n c all = omega (arith, length-samples c.schedule, length-take (taking n c) (drop c.r (samples c.schedule)), length-drop c.r (samples c.schedule))
 
-pub taken-well : (spot : Spot) (n time : ℕ) (h : History) (c : Running) → is_out c.schedule ≡ false → c.ra ≡ c.r → Keeps spot time h (Some c) → IsWell spot time h (Some c) (taken n c) (Some (read_on n c))
+pub taken-well : (spot : Spot) (n time : ℕ) (h : History) (c : Running) → is_out c.schedule ≡ false → c.ra ≡ c.r → Keeps spot time h (Some c) → IsWell spot time h (Some c) (Taken c.schedule.format c.r (taken n c)) (Some (read_on n c))
 taken-well spot n time h c inn unmapped kept =
     let i = input (is_out c.schedule) time c inn kept.0.places in
     let all : c.w ≤ length c.schedule.conversions = omega (arith, i.w_come, arrived-le c.schedule time kept.0.timely) in
     let gone = remembers-in h c inn kept.2 in (
       (sym gone, ap (λ k. take k (drop c.r (samples c.schedule))) (sym (long-taken n c all))),
-      input-on spot time h (remembered h (taken n c)) c (c.r + taking n c) (c.r + taking n c) inn kept (omega arith) (omega (arith, i.r_ra, i.ra_w)) (omega arith) (omega (arith, gone, long-taken n c all)),
+      input-on spot time h (remembered h (Taken c.schedule.format c.r (taken n c))) c (c.r + taking n c) (c.r + taking n c) inn kept (omega arith) (omega (arith, i.r_ra, i.ra_w)) (omega arith) (omega (arith, gone, long-taken n c all)),
     )
 
 pub mapped-well : (spot : Spot) (n time : ℕ) (h : History) (c : Running) → is_out c.schedule ≡ false → Keeps spot time h (Some c) → IsWell spot time h (Some c) (Mapped (mapping n c)) (Some (map_on n c))

@@ -20,13 +20,15 @@ use Rattle.cm_session.specs.declared.op.Op.{Op}
 use Rattle.cm_session.specs.declared.op.Op.TheVariants as ops
 use Rattle.cm_session.specs.declared.op.SessionLine.{SessionLine}
 use Rattle.cm_replay.specs.Answers.{Answer, Data, Ended, Fine, Refused, Reply, unless_ended}
-use Rattle.cm_replay.specs.Calling.{cmd_reply, insn_reply, trigger_on, trigger_reply, waits}
+use Rattle.cm_replay.specs.Calling.{cmd_reply, insn_reply, trigger_reply}
+use Rattle.cm_running.specs.Triggering.{trigger_on, waits}
 use Rattle.cm_replay.specs.Forms.{form, line_checks, named_sub}
 use Rattle.cm_replay.specs.Job.{setting_of}
-use Rattle.cm_replay.specs.Law.{EndsWell, History, IsDue, IsDueIfAny, IsPrefix, Keeps, PrefixLaw, ReadsPrefixes, Spot, no_history, reported_after, reported_of, served, spot_at}
-use Rattle.cm_replay.specs.Reading.{look_reply, map_reply, on_running, read_reply, release_reply, reported_end}
-use Rattle.cm_replay.specs.Running.{Running, brought, is_out, moved_on, put_out, samples}
-use Rattle.cm_replay.specs.Schedules.{triggered}
+use Rattle.cm_replay.specs.Law.{EndsWell, History, IsDue, IsDueIfAny, IsPrefix, Keeps, PrefixLaw, ReadsPrefixes, Spot, no_history, reported_after, reported_of, spot_at}
+use Rattle.cm_running.specs.Running.{Running, brought, is_out, moved_on, put_out, samples, served}
+use Rattle.cm_replay.specs.Reading.{look_reply, map_reply, on_running, read_reply, release_reply}
+use Rattle.cm_running.specs.Reading.{reported_end}
+use Rattle.cm_running.specs.Schedules.{triggered}
 use Rattle.cm_replay.specs.Session.{Outcome, act, act_on, brought_all, brought_device, closed_state, here, with_reply}
 use Rattle.cm_replay.specs.State.{Device, Here, State, at_start, claim_of, device_at}
 use Rattle.cm_replay.specs.Writing.{fill_reply, mark_reply, write_reply}
@@ -35,7 +37,7 @@ use Rattle.cm_text.specs.declared.end.End.TheVariants as ends
 use Rattle.cm_replay.proofs.Checks.{passes, passes-both}
 use Rattle.cm_replay.proofs.Counts.{either-way}
 use Rattle.cm_replay.proofs.Laws.{ended-drained, ended-out, input, moves, moves-in, moves-out, served-in, stays, waits-early}
-use Rattle.cm_replay.proofs.Samples.{length-samples}
+use Rattle.cm_running.proofs.Samples.{length-samples}
 use Rattle.cm_replay.proofs.SessionLaws.{AllKeep, IsSoundState, all-brought, all-idle, device_at-brought, first-idle, left-at, reached, set-other, set-same, sound-brought, sound-start, sound-stepped, step-well}
 
 -- the passing of time marks nothing as read

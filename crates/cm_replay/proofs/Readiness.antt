@@ -18,14 +18,16 @@ use Rattle.cm_session.specs.declared.op.Op.{Op}
 use Rattle.cm_session.specs.declared.op.Op.TheVariants as ops
 use Rattle.cm_session.specs.declared.op.SessionLine.{SessionLine}
 use Rattle.cm_replay.specs.Answers.{Data, Fine, Reply, unless_ended}
-use Rattle.cm_replay.specs.Calling.{cmd_reply, insn_reply, trigger_on, trigger_reply, waits}
+use Rattle.cm_replay.specs.Calling.{cmd_reply, insn_reply, trigger_reply}
+use Rattle.cm_running.specs.Triggering.{trigger_on, waits}
 use Rattle.cm_replay.specs.Forms.{form, line_checks, named_sub}
 use Rattle.cm_replay.specs.Job.{JobText, setting_of}
-use Rattle.cm_replay.specs.Law.{HasPlaces, History, IsSoundJob, Keeps, Spot, no_history, served, spot_at}
-use Rattle.cm_replay.specs.Reading.{look_reply, map_reply, on_running, read_reply, release_reply, reported_end}
+use Rattle.cm_replay.specs.Law.{HasPlaces, History, IsSoundJob, Keeps, Spot, no_history, spot_at}
+use Rattle.cm_running.specs.Running.{Running, Schedule, arrived, brought, collected, is_out, moved_on, put_out, served}
+use Rattle.cm_replay.specs.Reading.{look_reply, map_reply, on_running, read_reply, release_reply}
+use Rattle.cm_running.specs.Reading.{reported_end}
 use Rattle.cm_replay.specs.Ready.{AllCanMove, CanMove, IsReady, StaysReady}
-use Rattle.cm_replay.specs.Running.{Running, Schedule, arrived, brought, collected, is_out, moved_on, put_out}
-use Rattle.cm_replay.specs.Schedules.{triggered}
+use Rattle.cm_running.specs.Schedules.{triggered}
 use Rattle.cm_replay.specs.Session.{Outcome, act, act_on, brought_all, brought_device, closed_state, here, step, with_reply}
 use Rattle.cm_replay.specs.State.{Device, Here, State, at_start, device_at, idle_device, plan_here}
 use Rattle.cm_replay.specs.Writing.{fill_reply, mark_reply, write_reply}

@@ -15,9 +15,10 @@ use Rattle.cm_session.specs.declared.op.SessionLine.{SessionLine}
 use Rattle.cm_replay.specs.Answers.{Answer, Data, Ended, Fine, Refused, Rejected, Reply, kept, unless_ended}
 use Rattle.cm_replay.specs.Calling.{insn_reply, trigger_reply}
 use Rattle.cm_replay.specs.Forms.{form, line_checks, named_sub}
-use Rattle.cm_replay.specs.Reading.{look_reply, map_reply, on_running, read_reply, release_reply, reported_end}
+use Rattle.cm_replay.specs.Reading.{look_reply, map_reply, on_running, read_reply, release_reply}
+use Rattle.cm_running.specs.Reading.{reported_end}
 use Rattle.cm_replay.specs.Refusals.{Leaves, RefusalLaw}
-use Rattle.cm_replay.specs.Running.{Running}
+use Rattle.cm_running.specs.Running.{Running}
 use Rattle.cm_replay.specs.Session.{Outcome, act, act_on, brought_all, closed_state, here, unless_refused, with_reply}
 use Rattle.cm_replay.specs.State.{Device, Here, State, device_at}
 use Rattle.cm_replay.specs.Writing.{fill_reply, mark_reply, write_reply}

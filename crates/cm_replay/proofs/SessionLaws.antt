@@ -23,7 +23,7 @@ use Rattle.cm_replay.specs.Answers.{Answer, Data, Fine, Refused, Reply}
 use Rattle.cm_replay.specs.Forms.{form, line_checks, named_sub}
 use Rattle.cm_replay.specs.Job.{setting_of}
 use Rattle.cm_replay.specs.Law.{Continues, GoesWell, History, Keeps, SessionLaw, no_history, remembered, remembered_at, spot_at}
-use Rattle.cm_replay.specs.Running.{Running}
+use Rattle.cm_running.specs.Running.{Running}
 use Rattle.cm_replay.specs.Session.{Outcome, act, act_on, brought_all, brought_device, closed_state, here, left_devices, step, with_reply}
 use Rattle.cm_replay.specs.State.{Device, Here, State, at_start, device_at, idle_device}
 use Rattle.cm_replay.proofs.Checks.{le-false, passes, passes-both}

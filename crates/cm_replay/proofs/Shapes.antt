@@ -11,8 +11,9 @@ use Rattle.cm_session.specs.declared.op.Op.TheVariants as ops
 use Rattle.cm_replay.specs.Answers.{Answer, Ended, Fine, Reply, claimed, goes_on, idle, kept, unless_ended}
 use Rattle.cm_replay.specs.Calling.{insn_here, insn_reply, start_reply, trigger_reply}
 use Rattle.cm_replay.specs.Forms.{form}
-use Rattle.cm_replay.specs.Reading.{look_reply, map_reply, on_running, read_reply, release_reply, reported_end}
-use Rattle.cm_replay.specs.Running.{Running}
+use Rattle.cm_replay.specs.Reading.{look_reply, map_reply, on_running, read_reply, release_reply}
+use Rattle.cm_running.specs.Reading.{reported_end}
+use Rattle.cm_running.specs.Running.{Running}
 use Rattle.cm_replay.specs.State.{Here}
 use Rattle.cm_replay.specs.Writing.{fill_reply, mark_reply, write_reply}
 use Rattle.cm_text.specs.declared.end.End.{End}

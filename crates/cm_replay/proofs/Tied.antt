@@ -19,9 +19,10 @@ use Rattle.cm_session.specs.declared.op.SessionLine.{SessionLine}
 use Rattle.cm_replay.specs.Answers.{Answer, Ended, Fine, Reply, idle, unless_ended}
 use Rattle.cm_replay.specs.Calling.{insn_reply, trigger_reply}
 use Rattle.cm_replay.specs.Forms.{form, kind_checks, line_checks}
-use Rattle.cm_replay.specs.Reading.{look_reply, map_reply, on_running, read_reply, release_reply, reported_end}
+use Rattle.cm_replay.specs.Reading.{look_reply, map_reply, on_running, read_reply, release_reply}
+use Rattle.cm_running.specs.Reading.{reported_end}
 use Rattle.cm_replay.specs.Refusals.{IsTied, TiedLaw}
-use Rattle.cm_replay.specs.Running.{Running, brought}
+use Rattle.cm_running.specs.Running.{Running, brought}
 use Rattle.cm_replay.specs.Session.{Outcome, act, act_on, brought_all, brought_device, closed_state, here, left_devices, unless_refused, with_reply}
 use Rattle.cm_replay.specs.State.{Device, Here, State, claim_of, device_at, idle_device}
 use Rattle.cm_replay.specs.Writing.{fill_reply, mark_reply, write_reply}

@@ -2,7 +2,7 @@
 use Rattle.std.proofs.Common.{◌≡◌, ℕ, ◌-◌, true, false, [], drop, take, refl, sym, ap, ◌∙◌, inl, inr, arith, Option, Some, None}
 use Rattle.std.proofs.lemmas.Bool.{cases_Bool, cond-true, cond-false}
 use Rattle.cm_replay.specs.Law.{BringingLaw, NothingIsLeft}
-use Rattle.cm_replay.specs.Running.{Running, brought, collected, due, is_out, moved_on, outputs, put_by, put_out}
+use Rattle.cm_running.specs.Running.{Running, brought, collected, due, is_out, moved_on, outputs, put_by, put_out}
 use Rattle.cm_text.specs.declared.end.End.{End}
 use Rattle.cm_replay.proofs.Laws.{moves, moves-in, moves-out, stays}
 

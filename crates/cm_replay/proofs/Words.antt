@@ -5,8 +5,8 @@ use Rattle.std.proofs.lemmas.Bool.{cases_lt, lt-ltb, le-ltb, le-leb, lt-leb}
 use Rattle.cm_expand.specs.declared.conv.Conv.{Conv}
 use Rattle.cm_sample.specs.Rule.{map_from}
 use Rattle.cm_text.specs.Outputs.{Output}
-use Rattle.cm_replay.specs.Running.{outputs}
-use Rattle.cm_replay.specs.Writing.{munged_within}
+use Rattle.cm_running.specs.Running.{outputs}
+use Rattle.cm_running.specs.Writing.{munged_within}
 
 pub map_from-append : (f : ℕ → ℕ → ℕ) (place : ℕ) (xs ys : List ℕ) → map_from f place (xs ++ ys) ≡ map_from f place xs ++ map_from f (place + length xs) ys
 map_from-append f place [] ys = ap (λ p. map_from f p ys) (omega arith)

@@ -4,7 +4,7 @@ use Rattle.cm_cmd.specs.Command.{CmdText}
 use Rattle.cm_sub.specs.Files.{FilesText, with_runner}
 use Rattle.cm_sub.specs.declared.errno.Errno.{Errno}
 use Rattle.cm_text.specs.Format.{Format}
-use Rattle.cm_replay.specs.Running.{Running}
+use Rattle.cm_running.specs.Running.{Running}
 use Rattle.cm_replay.specs.State.{Device, Here}
 use Rattle.cm_text.specs.declared.end.End.{End}
 

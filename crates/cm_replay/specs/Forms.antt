@@ -12,7 +12,8 @@ use Rattle.cm_test.specs.ValidList.{is_valid_list}
 use Rattle.cm_session.specs.declared.op.Op.{Op}
 use Rattle.cm_session.specs.declared.op.Op.TheVariants as ops
 use Rattle.cm_replay.specs.Answers.{Fine, Reply, claimed, idle, kept}
-use Rattle.cm_replay.specs.Calling.{cmd_reply, insn_here, insn_reply, takes_number, trigger_reply, waits}
+use Rattle.cm_replay.specs.Calling.{cmd_reply, insn_here, insn_reply, trigger_reply}
+use Rattle.cm_running.specs.Triggering.{takes_number, waits}
 use Rattle.cm_replay.specs.Reading.{contents_reply, look_reply, map_reply, mapped, on_running, read_reply}
 use Rattle.cm_replay.specs.Reading.{release_reply}
 use Rattle.cm_replay.specs.State.{Here, claim_of, is_foreign, is_out_here}

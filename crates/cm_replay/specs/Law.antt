@@ -13,12 +13,12 @@ use Rattle.cm_text.specs.Outputs.{Output}
 use Rattle.cm_replay.specs.Answers.{Answer, Begun, Ended, Filled, Looked, Released, Taken, Written}
 use Rattle.cm_replay.specs.Forms.{named_sub}
 use Rattle.cm_replay.specs.Job.{JobText, IsJob, setting_of}
-use Rattle.cm_replay.specs.Running.{Running, arrived, brought, due, is_out, munge_in, outputs, put_by, samples}
-use Rattle.cm_replay.specs.Schedules.{schedule_of, triggered}
+use Rattle.cm_running.specs.Running.{Running, arrived, brought, due, is_out, munge_in, outputs, put_by, samples, served}
+use Rattle.cm_running.specs.Schedules.{schedule_of, triggered}
 use Rattle.cm_replay.specs.Session.{brought_all, step}
 use Rattle.cm_replay.specs.State.{State, at_start, device_at}
-use Rattle.cm_replay.specs.Timely.{IsTimely}
-use Rattle.cm_replay.specs.Writing.{munged_within}
+use Rattle.cm_running.specs.Timely.{IsTimely}
+use Rattle.cm_running.specs.Writing.{munged_within}
 use Rattle.cm_text.specs.declared.end.End.{End}
 use Rattle.cm_text.specs.declared.end.End.TheVariants.{Done, Dry, Overrun, Underrun, Fifo}
 
@@ -33,10 +33,6 @@ IsDue quiet place all = place ≡ all
 abbrev pub IsDueIfAny : Option End → ℕ → ℕ → Type 0
 IsDueIfAny None place all = Unit {0}
 IsDueIfAny (Some e) place all = IsDue e place all
-
--- the place up to which the board has served a command: written, or put out
-abbrev pub served : Running → ℕ
-served c = if is_out c.schedule then c.r else c.w
 
 -- the places of an input that was brought to a time
 pub record IsInput (time : ℕ) (c : Running) : Type 0 where

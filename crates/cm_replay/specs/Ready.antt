@@ -2,12 +2,12 @@
 use Rattle.std.specs.Prelude.{◌≡◌, ℕ, ◌≤◌, List, [], ◌∷◌, Option, Some, None}
 use Rattle.cm_signal.specs.Setting.{Setting}
 use Rattle.cm_session.specs.declared.op.SessionLine.{SessionLine}
-use Rattle.cm_replay.specs.Law.{IsOf, Spot, served, spot_at}
-use Rattle.cm_replay.specs.Running.{Running, arrived}
-use Rattle.cm_replay.specs.Schedules.{schedule_of}
+use Rattle.cm_replay.specs.Law.{IsOf, Spot, spot_at}
+use Rattle.cm_running.specs.Running.{Running, arrived, served}
+use Rattle.cm_running.specs.Schedules.{schedule_of}
 use Rattle.cm_replay.specs.Session.{brought_all, step}
 use Rattle.cm_replay.specs.State.{State, device_at}
-use Rattle.cm_replay.specs.Timely.{IsTimely}
+use Rattle.cm_running.specs.Timely.{IsTimely}
 
 -- a command of the subdevice with a number is ready to be brought to a time:
 -- all that was served has come by then, which isn't after the horizon,

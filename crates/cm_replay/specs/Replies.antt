@@ -19,9 +19,9 @@ use Rattle.cm_sub.specs.Claims.{use_checks}
 use Rattle.cm_replay.specs.Calling.{insn_here, insn_reply}
 use Rattle.cm_replay.specs.Answers.{Answer, Refused, Reply, kept}
 use Rattle.cm_replay.specs.Forms.{Form, form, is_unfit, kind_checks, named_sub}
-use Rattle.cm_replay.specs.Law.{IsSoundJob, Spot, served}
+use Rattle.cm_replay.specs.Law.{IsSoundJob, Spot}
+use Rattle.cm_running.specs.Running.{Running, arrived, served}
 use Rattle.cm_replay.specs.Ready.{AllCanMove, CanMove}
-use Rattle.cm_replay.specs.Running.{Running, arrived}
 use Rattle.cm_replay.specs.Session.{Outcome, Step}
 use Rattle.cm_replay.specs.State.{Device, Here, State, claim_of, device_at, idle_device}
 use Rattle.cm_replay.specs.Texts.{answer_text, step_text}

@@ -14,7 +14,7 @@ use Rattle.cm_session.specs.declared.op.SessionLine.{SessionLine}
 use Rattle.cm_text.specs.Outputs.{Output}
 use Rattle.cm_replay.specs.Answers.{Answer, Data, Fine, Refused, Reply}
 use Rattle.cm_replay.specs.Forms.{form, line_checks, named_sub}
-use Rattle.cm_replay.specs.Running.{Running, brought, due}
+use Rattle.cm_running.specs.Running.{Running, brought, due}
 use Rattle.cm_replay.specs.State.{Device, Here, State, device_at}
 
 -- what a line that names a subdevice sees

@@ -9,7 +9,7 @@ use Rattle.cm_sub.specs.Claims.{is_other}
 use Rattle.cm_sub.specs.Files.{FilesText, claim_at, no_files}
 use Rattle.cm_sub.specs.State.{StateText, first_state}
 use Rattle.cm_sub.specs.declared.claim.Claim.{Claim}
-use Rattle.cm_replay.specs.Running.{Running}
+use Rattle.cm_running.specs.Running.{Running}
 
 -- a subdevice in a session: what it keeps, and its command
 pub record Device : Type 0 where

@@ -5,9 +5,9 @@ use Rattle.cm_cmd.specs.CommandText.{command_text}
 use Rattle.cm_sub.specs.Checks.{number_of}
 use Rattle.cm_signal.specs.Setting.{Setting}
 use Rattle.cm_session.specs.declared.op.SessionLine.{SessionLine}
-use Rattle.cm_text.specs.Format.{sample_line, sample_lines}
 use Rattle.cm_text.specs.Outputs.{output_texts}
 use Rattle.cm_text.specs.Tails.{end_words}
+use Rattle.cm_running.specs.Texts.{codes_text, count_text, looked_text, taken_text, words_text}
 use Rattle.cm_replay.specs.Answers.{Answer, Begun, Data, Ended, Filled, Fine, Holds, Idle, Looked, Mapped}
 use Rattle.cm_replay.specs.Answers.{Marked, Refused, Rejected, Released, Taken, Triggered, Written}
 use Rattle.cm_replay.specs.Session.{Step, step}
@@ -25,27 +25,14 @@ end_start lossy = codes "err 32 "
 abbrev pub end_text : End → List ℕ
 end_text e = end_start e ++ (end_words e ++ codes "\n")
 
--- a count
-abbrev pub count_text : ℕ → List ℕ
-count_text k = codes "ok " ++ decimal k ++ codes "\n"
-
--- words, each after a space
-abbrev pub words_text : List ℕ → List ℕ
-words_text [] = []
-words_text (word ∷ words) = codes " " ++ decimal word ++ words_text words
-
--- samples in codes, after their count
-abbrev pub codes_text : List ℕ → List ℕ
-codes_text words = codes "ok " ++ decimal (length words) ++ words_text words ++ codes "\n"
-
 -- the text of an answer
 abbrev pub answer_text : Answer → List ℕ
 answer_text Fine = codes "ok\n"
 answer_text Begun = codes "ok\n"
 answer_text Triggered = codes "ok 1\n"
-answer_text (Taken f place words) = count_text (length words) ++ sample_lines f place words
+answer_text (Taken f place words) = taken_text f place words
 answer_text (Mapped k) = count_text k
-answer_text (Looked f place word) = codes "ok " ++ sample_line f place word
+answer_text (Looked f place word) = looked_text f place word
 answer_text (Released k) = count_text k
 answer_text (Holds k) = count_text k
 answer_text (Written words) = count_text (length words)

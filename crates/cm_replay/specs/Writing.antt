@@ -1,12 +1,11 @@
 -- What the lines do that write into a command's buffer, each where no check refuses it.
-use Rattle.std.specs.Prelude.{ℕ, suc, ◌+◌, ◌-◌, Bool, true, ◌&&◌, nat_le, nat_lt}
-use Rattle.std.specs.Prelude.{List, [], ◌∷◌, ◌++◌, length, take, Option, Some, None, if◌then◌else◌}
+use Rattle.std.specs.Prelude.{ℕ, suc, ◌-◌, Bool, true, ◌&&◌, nat_le, List, [], ◌∷◌, Option, Some, None}
 use Rattle.cm_board.specs.Board.{SubText, maxdata_of}
 use Rattle.cm_cmd.specs.Entry.{chan}
-use Rattle.cm_sample.specs.Rule.{map_from}
 use Rattle.cm_expand.specs.Rule.{entry_at}
+use Rattle.cm_running.specs.Running.{Running}
+use Rattle.cm_running.specs.Writing.{fill_on, mark_on, taken_in, write_on}
 use Rattle.cm_replay.specs.Answers.{Filled, Marked, Reply, Written, goes_on, kept}
-use Rattle.cm_replay.specs.Running.{Running, munge_in}
 use Rattle.cm_replay.specs.State.{Here}
 
 -- how many words are filled and not marked
@@ -32,26 +31,6 @@ all_fit most place (word ∷ words) = nat_le word (most place) && all_fit most (
 -- the words of a line are ones of their places' channels
 abbrev pub fit : Here → List ℕ → Bool
 fit h words = all_fit (most_at h.sub h.device.running) (next_place h.device.running) words
-
--- the words for which there is room
-abbrev pub taken_in : List ℕ → Running → List ℕ
-taken_in words c = take (c.r + c.schedule.size - c.a) words
-
--- a command whose client stored more words
-abbrev pub fill_on : List ℕ → Running → Running
-fill_on words c = record c { a = c.a + length words; words = c.words ++ words }
-
--- the munged word of a place from `low` up to `high`, and the word of any other place
-abbrev pub munged_within : (ℕ → ℕ → ℕ) → ℕ → ℕ → ℕ → ℕ → ℕ
-munged_within munge low high place word = if nat_le low place && nat_lt place high then munge place word else word
-
--- a command whose client marked `k` more words, which munges them
-abbrev pub mark_on : ℕ → Running → Running
-mark_on k c = record c { w = c.w + k; words = map_from (munged_within (munge_in c.schedule) c.w (c.w + k)) c.r c.words }
-
--- a command whose client stored more words and marked them
-abbrev pub write_on : List ℕ → Running → Running
-write_on words c = mark_on (length words) (fill_on words c)
 
 -- `fill`: the first words, as far as there is room
 abbrev pub fill_reply : List ℕ → Here → Running → Reply

@@ -9,9 +9,10 @@ ghost use Rattle.cm_session.specs.declared.op.Op.TheVariants as ops;
 
 use crate::at::At;
 use crate::seat::Seat;
-use crate::text::{put_count, put_data, put_refused};
+use crate::text::{put_data, put_refused};
 use cm_base::transfer::NoMemory;
 use cm_insn::insn::{InsnCode, Instr, insn, time_words};
+use cm_running::text::put_count;
 use cm_sub::files::Files;
 
 // The most data words of an instruction.

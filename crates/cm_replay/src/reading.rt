@@ -5,14 +5,15 @@ ghost use Rattle.cm_replay.specs.Forms.{form};
 ghost use Rattle.cm_replay.specs.Reading as spec;
 ghost use Rattle.cm_replay.specs.Ready.{CanMove};
 ghost use Rattle.cm_replay.specs.Replies.{IsReached, Replies, Tells, checked, here_at, spot_of};
-ghost use Rattle.cm_replay.specs.Running.{Running};
+ghost use Rattle.cm_running.specs.Running.{Running};
 ghost use Rattle.cm_replay.specs.Texts.{codes_answer};
 ghost use Rattle.cm_session.specs.declared.op.Op.TheVariants as ops;
 
 use crate::at::At;
 use crate::seat::Seat;
-use crate::text::{put_count, put_end, put_fine, put_idle, put_refused};
+use crate::text::{put_end, put_fine, put_idle, put_refused};
 use cm_base::transfer::NoMemory;
+use cm_running::text::put_count;
 use cm_sub::errno::Errno;
 use cm_sub::files::Files;
 

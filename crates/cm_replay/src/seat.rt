@@ -1,6 +1,6 @@
 // A subdevice in a session.
 
-use crate::command::Command;
+use cm_running::command::Command;
 use cm_sub::state::SubState;
 use std::marker::Model;
 

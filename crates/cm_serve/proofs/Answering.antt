@@ -4,7 +4,7 @@ use Rattle.cm_base.specs.Lines.{LineText, lines_of}
 use Rattle.cm_base.specs.Reading.{at_line}
 use Rattle.cm_base.specs.declared.faults.Fault.{Fault}
 use Rattle.cm_base.specs.declared.faults.Refused.{Refused}
-use Rattle.cm_replay.specs.Declined.{refused_text}
+use Rattle.cm_text.specs.Declined.{refused_text}
 use Rattle.cm_signal.specs.declared.bounds.Bounds.{Bounds}
 use Rattle.cm_serve.specs.Playing.{Play, bounds_at}
 use Rattle.cm_serve.specs.Dialogue.{replied, replied_if, reply, reply_of, unchanged}

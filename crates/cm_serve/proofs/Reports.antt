@@ -10,7 +10,7 @@ use Rattle.cm_serve.specs.Asking.{asked_op, asked_text, asked_time, line_of, rep
 use Rattle.cm_replay.specs.Forms.{form, is_of_command, line_checks, named_sub}
 use Rattle.cm_replay.specs.Answers.{Answer, Refused}
 use Rattle.cm_replay.specs.Replies.{LeadsTelling, Tells, checked, place_checks}
-use Rattle.cm_replay.specs.Running.{Running}
+use Rattle.cm_running.specs.Running.{Running}
 use Rattle.cm_replay.specs.Session.{Outcome, act, act_on, brought_all, brought_device, due_from, here, step}
 use Rattle.cm_replay.specs.State.{Device, Here, State, device_at}
 use Rattle.cm_replay.specs.Texts.{answer_text}

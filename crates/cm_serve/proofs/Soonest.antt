@@ -14,17 +14,17 @@ use Rattle.cm_expand.specs.declared.conv.Conv.{Conv}
 use Rattle.cm_expand.proofs.Come.{come-first, come-le, come-later_first, come-none, from_start}
 use Rattle.cm_fifo.specs.Handed.{last_time, time_or}
 use Rattle.cm_fifo.proofs.Lists.{come-by, found-come, past_none}
-use Rattle.cm_replay.specs.Awaiting.{await_time, deciding, is_served, quiet_time}
+use Rattle.cm_running.specs.Awaiting.{await_time, deciding, is_served, quiet_time}
 use Rattle.cm_serve.specs.Soonest.{AwaitLaw, AwaitsAreSoonest, AreSoonestAtLines, IsSoonest, is_there}
 use Rattle.cm_replay.specs.Job.{setting_of}
 use Rattle.cm_replay.specs.Law.{GoesWell, History, Keeps, Spot, no_history, spot_at}
-use Rattle.cm_replay.specs.Running.{Running, Schedule, arrived, brought, end_by, has_stopped, is_out, lost_end, moved_on, put_by, some_if, written_by}
+use Rattle.cm_running.specs.Running.{Running, Schedule, arrived, brought, end_by, has_stopped, is_out, lost_end, moved_on, put_by, some_if, written_by}
 use Rattle.cm_replay.specs.Session.{brought_all}
 use Rattle.cm_replay.specs.State.{Device, State, at_start, device_at}
-use Rattle.cm_replay.specs.Timely.{IsTimely}
+use Rattle.cm_running.specs.Timely.{IsTimely}
 use Rattle.cm_text.specs.declared.end.End.{End}
 use Rattle.cm_text.specs.declared.end.End.TheVariants.{Done, Dry}
-use Rattle.cm_replay.proofs.Bringing.{none-yet, quiet-none}
+use Rattle.cm_running.proofs.Bringing.{none-yet, quiet-none}
 use Rattle.cm_replay.proofs.Laws.{moves-in, moves-out}
 use Rattle.cm_replay.proofs.SessionLaws.{device_at-brought, session_law}
 use Rattle.cm_replay.proofs.Twice.{bringing_law}

@@ -9,12 +9,13 @@ use Rattle.cm_session.specs.declared.op.SessionLine.{SessionLine}
 use Rattle.cm_text.specs.Outputs.{output_texts}
 use Rattle.cm_text.specs.Tails.{end_words}
 use Rattle.cm_replay.specs.Answers.{Answer, Holds}
-use Rattle.cm_replay.specs.Awaiting.{await_time}
-use Rattle.cm_replay.specs.Reading.{peeked, reported_end}
-use Rattle.cm_replay.specs.Running.{Running}
+use Rattle.cm_running.specs.Awaiting.{await_time}
+use Rattle.cm_running.specs.Reading.{peeked, reported_end}
+use Rattle.cm_running.specs.Running.{Running}
 use Rattle.cm_replay.specs.Session.{brought_all, step}
 use Rattle.cm_replay.specs.State.{State, device_at}
-use Rattle.cm_replay.specs.Texts.{answer_text, codes_answer, codes_text, count_text}
+use Rattle.cm_replay.specs.Texts.{answer_text, codes_answer}
+use Rattle.cm_running.specs.Texts.{codes_text, count_text}
 use Rattle.cm_text.specs.declared.end.End.{End}
 use Rattle.cm_serve.specs.declared.asked.Asked.{Asked}
 use Rattle.cm_serve.specs.declared.asked.Fetch.{Fetch}

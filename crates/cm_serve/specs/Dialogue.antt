@@ -5,10 +5,10 @@ use Rattle.cm_base.specs.Reading.{at_line}
 use Rattle.cm_base.specs.declared.faults.Refused.{Refused}
 use Rattle.cm_board_text.specs.Printed.{printed_board}
 use Rattle.cm_serve.specs.Asking.{asked_text, awaits, line_of, takes, taking_time}
-use Rattle.cm_replay.specs.Declined.{refused_text}
+use Rattle.cm_text.specs.Declined.{refused_text}
 use Rattle.cm_serve.specs.Playing.{Play, bounds_at, line_text}
 use Rattle.cm_serve.specs.Playing as playing
-use Rattle.cm_replay.specs.Testing.{test_answer}
+use Rattle.cm_test.specs.Testing.{test_answer}
 use Rattle.cm_serve.specs.Lines.{said_by}
 use Rattle.cm_serve.specs.Turns.{Turn, Line, Answer}
 use Rattle.cm_serve.specs.declared.asked.Asked.{Asked}

@@ -3,7 +3,7 @@ use Rattle.std.specs.Prelude.{◌≡◌, ℕ, ◌⊎◌, List, [], ◌∷◌, �
 use Rattle.std.specs.List.{All}
 use Rattle.cm_base.specs.declared.faults.Refused.{Refused}
 use Rattle.cm_signal.specs.Setting.{Setting}
-use Rattle.cm_replay.specs.Declined.{refused_text}
+use Rattle.cm_text.specs.Declined.{refused_text}
 use Rattle.cm_serve.specs.Ahead.{AreAhead, BeginsLong, IsLine}
 use Rattle.cm_serve.specs.Heading.{IsHead, IsLongHead}
 use Rattle.cm_serve.specs.Serving.{conversation, setting_said}

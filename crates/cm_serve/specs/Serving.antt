@@ -6,7 +6,7 @@ use Rattle.cm_base.specs.declared.faults.Refused.{Refused}
 use Rattle.cm_board_text.specs.BoardPart.{board_of}
 use Rattle.cm_signal.specs.SignalsPart.{signals_at}
 use Rattle.cm_signal.specs.Setting.{Setting}
-use Rattle.cm_replay.specs.Declined.{refused_text}
+use Rattle.cm_text.specs.Declined.{refused_text}
 use Rattle.cm_serve.specs.Playing.{first_play}
 use Rattle.cm_serve.specs.Dialogue.{dialogue}
 use Rattle.cm_serve.specs.Heading.{head_of, text_of}

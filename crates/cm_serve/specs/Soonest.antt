@@ -3,10 +3,10 @@ use Rattle.std.specs.Prelude.{◌≡◌, ◌⊎◌, ℕ, ◌<◌, ◌≤◌, Boo
 use Rattle.std.specs.Option.{is_some}
 use Rattle.cm_signal.specs.Setting.{Setting}
 use Rattle.cm_session.specs.declared.op.SessionLine.{SessionLine}
-use Rattle.cm_replay.specs.Awaiting.{await_time, is_served}
+use Rattle.cm_running.specs.Awaiting.{await_time, is_served}
 use Rattle.cm_replay.specs.Job.{JobText, setting_of}
 use Rattle.cm_replay.specs.Law.{IsSoundJob}
-use Rattle.cm_replay.specs.Running.{Running, brought}
+use Rattle.cm_running.specs.Running.{Running, brought}
 use Rattle.cm_replay.specs.Session.{brought_all, step}
 use Rattle.cm_replay.specs.State.{State, at_start, device_at}
 

@@ -2,13 +2,13 @@
 ghost use Rattle.std.specs.Prelude.{◌≡◌, ◌<◌, ◌++◌, length, None, IfOk, OnOk};
 ghost use Rattle.std.specs.List.{All};
 ghost use Rattle.cm_serve.specs.Asking.{asked_op, asked_text, asked_time, info_text, line_of, report, told_time};
-ghost use Rattle.cm_replay.specs.Awaiting.{await_time};
-ghost use Rattle.cm_replay.specs.Reading.{peeked};
+ghost use Rattle.cm_running.specs.Awaiting.{await_time};
+ghost use Rattle.cm_running.specs.Reading.{peeked};
 ghost use Rattle.cm_replay.specs.Forms.{form};
 ghost use Rattle.cm_replay.specs.Replies.{CanAct, CanStep, HasCome, LeadsTelling, Tells, checked, here_at};
 ghost use Rattle.cm_replay.specs.Session as session;
 ghost use Rattle.cm_replay.specs.State.{device_at};
-ghost use Rattle.cm_replay.specs.Texts.{codes_text, count_text};
+ghost use Rattle.cm_running.specs.Texts.{codes_text, count_text};
 
 use crate::asked::{Asked, Question};
 use crate::standing::{put_no_places, put_places};
@@ -17,7 +17,8 @@ use cm_replay::at::At;
 use cm_replay::passing::bring_all;
 use cm_replay::reading::read_codes;
 use cm_replay::seat::Seat;
-use cm_replay::text::{put_count, put_refused};
+use cm_replay::text::put_refused;
+use cm_running::text::put_count;
 use cm_signal::setting::Setting;
 use cm_sub::errno::Errno;
 use cm_sub::files::Files;

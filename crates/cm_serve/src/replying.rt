@@ -2,7 +2,7 @@
 ghost use Rattle.std.specs.Prelude.{◌≡◌, ◌<◌, ◌≤◌, ◌^◌, ◌++◌, length, None, IfOk, OnOk, codes};
 ghost use Rattle.cm_base.specs.Lines.{lines_of};
 ghost use Rattle.cm_board_text.specs.Printed.{printed_board};
-ghost use Rattle.cm_replay.specs.Declined.{refused_text};
+ghost use Rattle.cm_text.specs.Declined.{refused_text};
 ghost use Rattle.cm_serve.specs.Playing.{line_text, played};
 ghost use Rattle.cm_session.specs.Limits.{IsLimited};
 ghost use Rattle.cm_serve.specs.Dialogue.{replied, reply};
@@ -17,10 +17,10 @@ use cm_base::lines::{Line, split_lines};
 use cm_base::transfer::NoMemory;
 use cm_board::board::BoardDesc;
 use cm_board_text::printing::print_board;
-use cm_replay::declining::refusal;
-use cm_replay::testing::put_answer;
 use cm_replay::trying::try_line;
 use cm_session::op::SessionLine;
+use cm_test::testing::put_answer;
+use cm_text::declining::refusal;
 use std::alloc::Global;
 use std::sync::Wait;
 

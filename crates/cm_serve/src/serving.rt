@@ -15,9 +15,9 @@ use cm_base::lines::split_lines;
 use cm_base::transfer::{NoMemory, WriteFault};
 use cm_board::board::BoardDesc;
 use cm_board_text::reading::read_board;
-use cm_replay::declining::refusal;
 use cm_signal::reading::read_signals;
 use cm_signal::signals::Signals;
+use cm_text::declining::refusal;
 use std::alloc::Global;
 use std::sync::Wait;
 

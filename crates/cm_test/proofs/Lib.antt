@@ -7,3 +7,4 @@ pub mod Passed
 pub mod Rounding
 pub mod Moved
 pub mod Walks
+pub mod Tested

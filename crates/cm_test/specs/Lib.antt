@@ -5,3 +5,4 @@ pub mod Passed
 pub mod ValidList
 pub mod Steps
 pub mod Questions
+pub mod Testing

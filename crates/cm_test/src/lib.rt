@@ -8,4 +8,5 @@ pub mod lists;
 mod orders;
 pub mod sources;
 pub mod test;
+pub mod testing;
 pub mod times;

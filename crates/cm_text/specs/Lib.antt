@@ -11,3 +11,4 @@ pub mod Blocks
 pub mod Ends
 pub mod SampleLines
 pub mod Repeated
+pub mod Declined

@@ -3,6 +3,7 @@
 
 pub mod blocks;
 mod bytes;
+pub mod declining;
 pub mod end;
 pub mod ending;
 mod gathered;

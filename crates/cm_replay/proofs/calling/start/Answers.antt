@@ -2,13 +2,13 @@ use Rattle.std.proofs.Common.{Some, sym, ap, ◌∙◌, subst}
 use Rattle.cm_board.specs.Board as board
 use Rattle.cm_signal.specs.Signals as signals
 use Rattle.cm_expand.specs.Plan.{PlanText}
-use Rattle.cm_replay.specs.Planned.{IsSchedule}
+use Rattle.cm_running.specs.Planned.{IsSchedule}
 use Rattle.cm_replay.specs.Replies.{here_at}
-use Rattle.cm_replay.specs.Running.{Running, started}
-use Rattle.cm_replay.specs.Schedules.{schedule_of}
+use Rattle.cm_running.specs.Running.{Running, started}
+use Rattle.cm_running.specs.Schedules.{schedule_of}
 use Rattle.cm_replay.specs.State.{Device, Here, plan_here}
 use Rattle.cm_replay.proofs.Called.{called}
-use Rattle.cm_replay.proofs.Plans.{planned-schedule}
+use Rattle.cm_running.proofs.Plans.{planned-schedule}
 use Rattle.cm_replay.proofs.calling.start.Goals as goal
 
 pub start-requires-clause-planned : goal.start-requires-clause-planned

@@ -4,7 +4,7 @@ use Rattle.cm_sub.specs.Checks.{first_refusal}
 use Rattle.cm_sub.specs.Claims.{cancel_checks}
 use Rattle.cm_sub.specs.declared.claim.Claim.{Claim}
 use Rattle.cm_replay.specs.Replies.{here_at}
-use Rattle.cm_replay.specs.Running.{Running}
+use Rattle.cm_running.specs.Running.{Running}
 use Rattle.cm_replay.specs.State.{Device, claim_of}
 use Rattle.cm_replay.proofs.Triggering.{trigger-replies}
 use Rattle.cm_replay.proofs.calling.trigger.Goals as goal

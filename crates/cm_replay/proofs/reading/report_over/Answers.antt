@@ -1,6 +1,6 @@
 use Rattle.std.proofs.Common.{◌≡◌, sym, ap, ◌∙◌, None, Some}
 use Rattle.std.proofs.lemmas.Result.{on_ok_weaker}
-use Rattle.cm_replay.specs.Reading.{reported_end}
+use Rattle.cm_running.specs.Reading.{reported_end}
 use Rattle.cm_replay.specs.Replies.{here_at}
 use Rattle.cm_replay.specs.State.{Device}
 use Rattle.cm_replay.specs.Texts.{answer_text, codes_answer}

@@ -1,7 +1,7 @@
 use Rattle.std.proofs.Common.{◌++◌, ap, sym, ◌∙◌}
 use Rattle.cm_board.specs.Board.{BoardText}
 use Rattle.cm_cmd.specs.Command.{CmdText}
-use Rattle.cm_replay.specs.Testing.{test_answer}
+use Rattle.cm_test.specs.Testing.{test_answer}
 use Rattle.cm_serve.specs.Dialogue.{replied}
 use Rattle.cm_serve.specs.declared.said.Said.{Said}
 use Rattle.cm_serve.proofs.replying.put_said.Goals as goal

@@ -1,0 +1,17 @@
+pub mod Ahead
+pub mod Awaited
+pub mod Bringing
+pub mod Come
+pub mod Commands
+pub mod Delays
+pub mod Fillings
+pub mod Pacing
+pub mod Peeks
+pub mod Plans
+pub mod Puttings
+pub mod Samples
+pub mod Sizes
+pub mod Storings
+pub mod Takings
+pub mod Triggering
+pub mod Wordings
