@@ -11,7 +11,8 @@ pub record LinesText : Type 0 where
 abbrev pub lines_text : ℕ → List ℕ → LinesText
 lines_text number text = record { list = lines_from number (raw_lines text); end = number + length (raw_lines text) }
 
--- what the lines keep: the text is short enough to number its lines from this number on, and the end is that of the text
+-- what the lines keep: the text is short enough to number its lines from this number on,
+-- and the end is that of the text
 pub record IsLines (number : ℕ) (text : List ℕ) (end : ℕ) : Type 0 where
   pub first : 1 ≤ number
   pub short : number + length text < 2 ^ 32

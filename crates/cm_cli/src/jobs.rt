@@ -1,7 +1,7 @@
 // The jobs of the calls with threads.
 use cm_job::job::RunJob;
 use cm_job::loop_job::LoopJob;
-use cm_stream::job::WatchJob;
+use cm_watch::job::WatchJob;
 
 /// A job that is streamed with threads.
 #[derive(Drop)]

@@ -4,6 +4,7 @@ use Rattle.std.specs.Fmt.{decimal}
 use Rattle.std.specs.List.{join_with_byte, slice_split}
 use Rattle.std.specs.Str.{bytes_eq}
 use Rattle.cm_base.specs.Reading.{◌>>=◌}
+use Rattle.cm_base.specs.Stops.{is_byte}
 use Rattle.cm_base.specs.Words.{keyword, number_in, three, up_to, values}
 use Rattle.cm_base.specs.declared.faults.Fault.{Fault}
 use Rattle.cm_cmd.specs.Entry.{pack, chan, range, aref}

@@ -1,3 +1,4 @@
+pub mod AtEnd
 pub mod InRow
 pub mod Mungers
 pub mod Pieces

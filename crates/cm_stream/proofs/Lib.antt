@@ -3,11 +3,5 @@ pub mod Coming
 pub mod Cuts
 pub mod Merged
 pub mod Rounds
-pub mod Stopped
-pub mod Told
 pub mod Streams
-pub mod Followed
-pub mod Openings
-pub mod Starts
-pub mod Wholes
 pub mod Merges

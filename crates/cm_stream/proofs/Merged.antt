@@ -10,7 +10,7 @@ use Rattle.std.proofs.lemmas.List.Elements.{recursion_from_All}
 use Rattle.std.proofs.lemmas.Option.{slice_get-map, get_or_from_slice_get}
 use Rattle.cm_ring_core.specs.declared.view.RingConstants.{RingConstants}
 use Rattle.cm_ring.specs.Samples.{munged_plan, first_munged, piece}
-use Rattle.cm_client.proofs.AtEnd.{whole_plan}
+use Rattle.cm_ring.proofs.AtEnd.{whole_plan}
 use Rattle.cm_stream.specs.Scans.{ScanText}
 use Rattle.cm_stream.specs.Stream.{Streaming, IsOver, IsSameStream}
 use Rattle.cm_stream.specs.Step.{HasStepped, given_scans}

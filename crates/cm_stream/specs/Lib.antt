@@ -4,9 +4,4 @@ pub mod Polled
 pub mod Scans
 pub mod Step
 pub mod Stream
-pub mod Opened
-pub mod Watched
-pub mod Told
-pub mod Watching
-pub mod Whole
 pub mod Merges

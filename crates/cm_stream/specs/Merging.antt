@@ -105,7 +105,12 @@ AddsScan add other old new = new ≡ old
 abbrev pub released_of : Streaming → ℕ
 released_of s = s.reader.part.released
 
--- the munged samples that it has released
+-- how many a source has released
+abbrev pub IsReleasedOf : List Streaming → ℕ → ℕ → Type 0
+IsReleasedOf streams source count =
+    (s : Streaming) × (slice_get streams source ≡ Some s) × (count ≡ released_of s)
+
+-- the munged samples that a stream has released
 abbrev pub given_words : Streaming → List ℕ
 given_words s = first_munged s.reader.ring s.reader.part.released
 

@@ -3,8 +3,7 @@ ghost use Rattle.std.specs.Prelude.{◌≡◌, ◌<◌, ◌^◌, length, map, If
 ghost use Rattle.std.specs.List.{All};
 ghost use Rattle.cm_stream.specs.Appended.{HasAppendedOf, HasReleasedNothing};
 ghost use Rattle.cm_stream.specs.Stream.{asked_stream};
-ghost use Rattle.cm_stream.specs.Merging.{merging, first_after, last_after, released_of, HasGoneRound, HasMerged, IsEndOf, IsFresh};
-ghost use Rattle.cm_stream.specs.Told.{IsReleasedOf};
+ghost use Rattle.cm_stream.specs.Merging.{merging, first_after, last_after, released_of, HasGoneRound, HasMerged, IsEndOf, IsFresh, IsReleasedOf};
 
 use crate::round::{append_of, ask_all, released_of_each, round};
 use crate::scan::Scan;

@@ -1,5 +1,0 @@
-use Rattle.cm_stream.proofs.Stopped.{all_asked}
-use Rattle.cm_stream.proofs.client.give_up.Goals as goal
-
-pub invariant_of-result : goal.invariant_of-result
-invariant_of-result g c = record { asked = all_asked c.stop_all.new.self _ _ c.stop_all.ensures }

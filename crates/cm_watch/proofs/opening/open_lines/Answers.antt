@@ -1,0 +1,27 @@
+use Rattle.std.proofs.Common.{◌<◌, length, map, sym, ap, ◌∙◌, subst, arith}
+use Rattle.std.specs.List.{All}
+use Rattle.cm_job.specs.Whole.{line_format}
+use Rattle.cm_watch.specs.Opened.{line_start, stream_start}
+use Rattle.cm_watch.specs.Watched.{text_format}
+use Rattle.cm_base.proofs.Elements.{all_more, same_more}
+use Rattle.cm_watch.proofs.Starts.{paced_one, read_more, starts_with}
+use Rattle.cm_watch.proofs.opening.open_lines.Goals as goal
+
+pub loop-i-preserved : goal.loop-i-preserved
+loop-i-preserved c =
+    let board = c.args.board.now in
+    let signals = c.args.signals.now in
+    let lines = c.args.lines.now in
+    let opened = c.loop-i.opened in
+    let have = c.loop-i.invariant in
+    let is = c.in_ok-side.ensures in
+    record {
+      sides = subst (All (λ side. side.board.sub < length board.subs)) (sym c.in_ok-push.ensures.items) (all_more (λ side. side.board.sub < length board.subs) _ _ have.sides is.side);
+      count = (let e = c.in_ok-push.ensures.len in let n = have.count in omega arith);
+      events = (let e = c.in_ok-push-4.ensures.len in let n = have.events in omega arith);
+      streams = ap (map stream_start) c.in_ok-push-2.ensures.items
+          ∙ same_more stream_start (line_start board signals) opened.streams.items _ lines c.loop-i.i c.index-lines-i.result c.loop-i-test.true have.streams (is.stream ∙ ap (line_start board signals) c.index-lines-i.is);
+      formats = ap (map text_format) c.in_ok-push-3.ensures.items
+          ∙ same_more text_format (line_format board signals) opened.texts.items _ lines c.loop-i.i c.index-lines-i.result c.loop-i-test.true have.formats (ap text_format is.text ∙ ap (line_format board signals) c.index-lines-i.is);
+      read = read_more opened.streams.items _ opened.texts.items _ c.in_ok-side.field-0.stream _ c.in_ok-push-2.ensures.items c.in_ok-push-3.ensures.items have.read (paced_one board signals c.in_ok-side.field-0.stream c.index-lines-i.result is.stream) (starts_with board signals c.in_ok-side.field-0.stream c.index-lines-i.result c.in_ok-side.field-0.text is.stream is.text is.report);
+    }

@@ -1,0 +1,17 @@
+use Rattle.std.proofs.Common.{◌≡◌, ◌<◌, length, map, take}
+use Rattle.std.specs.List.{All}
+use Rattle.cm_job.specs.Whole.{line_format}
+use Rattle.cm_watch.specs.Opened.{line_start, stream_start}
+use Rattle.cm_watch.specs.Watched.{AreRead, text_format}
+use Rattle.cm_watch.proofs.opening.open_lines.Given as goal
+
+-- the lines so far are opened
+abbrev pub invariant-loop-i : goal.invariant-loop-i
+invariant-loop-i l = record {
+  sides : All (λ side. side.board.sub < length l.board.subs) l.opened.sides.items;
+  count : length l.opened.sides.items ≡ l.i;
+  events : length l.opened.events.items ≡ l.i;
+  streams : map stream_start l.opened.streams.items ≡ map (line_start l.board l.signals) (take l.i l.lines);
+  formats : map text_format l.opened.texts.items ≡ map (line_format l.board l.signals) (take l.i l.lines);
+  read : AreRead l.opened.streams.items l.opened.texts.items;
+}

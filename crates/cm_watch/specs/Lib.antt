@@ -1,0 +1,5 @@
+pub mod Opened
+pub mod Watched
+pub mod Told
+pub mod Watching
+pub mod Whole

@@ -1,0 +1,166 @@
+// The threads of the watched lines.
+ghost use Rattle.std.specs.Prelude.{◌≡◌, ◌+◌, ◌<◌, ◌≤◌, ◌^◌, [], length, IfOk, MatchOption};
+ghost use Rattle.std.specs.List.{All};
+ghost use Rattle.std.specs.Thread.{IsSync};
+ghost use Rattle.cm_client.specs.Idle.{IsIdle};
+ghost use Rattle.cm_watch.specs.Watched.{AreRead, HasWatched};
+ghost use Rattle.cm_client.specs.Streamed.{EndsTruly};
+
+use crate::client::{GaveUp, Watched, give_up, read_scans};
+use crate::events::WatchEvents;
+use crate::side::{BoardSide, LineBoard};
+use cm_base::gate::Gate;
+use cm_base::prover::shows;
+use cm_client::claiming::{another_seat, claim_waiting};
+use cm_client::munging::munge_waiting;
+use cm_client::waiting::Relay;
+use cm_client::words::Words;
+use cm_client::workers::{AllMunged, TrueEnd, Worker, with_worker};
+use cm_ring::munger::Munger;
+use cm_ring::writer::Closed;
+use cm_sample::planned::Planned;
+use cm_sub::owners::{OwnerSeat, Owners};
+use std::alloc::Global;
+use std::sync::Wait;
+use std::thread::Threads;
+
+// A board's thread: it has its subdevice while it puts its words.
+fn board_thread<R: Wait + Sync, P: Planned, W: Words, G: Gate>(
+    rt: &R,
+    owners: &Owners,
+    mut seat: OwnerSeat,
+    board: LineBoard<P, W>,
+    waiting: Relay<'_>,
+    gate: &G,
+    who: u32,
+) -> Closed<P>
+    requires idle { IsIdle owners.now seat }
+    requires place { board.sub < length owners.now.channels }
+    ensures of { result.ring ≡ board.board }
+    ensures end { EndsTruly result }
+{
+    let sub = board.sub();
+    let state = claim_waiting(rt, owners, &mut seat, sub);
+    let closed = board.put_while(rt, &seat, waiting, gate, who);
+    owners.give_back(&mut seat, sub, state);
+    closed
+}
+
+// Takes the last side.
+fn last_side<P: Planned, W: Words>(
+    owners: &Owners,
+    sides: &mut Vec<BoardSide<P, W>>,
+) -> Option<BoardSide<P, W>>
+    requires { All (λ side. side.board.sub < length owners.now.channels) sides.old.items }
+    ensures { MatchOption result (sides.old.items ≡ []) (λ side.
+        (side.board.sub < length owners.now.channels)
+        × All (λ side. side.board.sub < length owners.now.channels) sides.new.items
+        × (length sides.old.items ≡ length sides.new.items + 1)) }
+{
+    // It is here for the contract alone: the owners have each side's place.
+    shows(owners);
+    sides.pop()
+}
+
+/// Starts a board's thread and a munger's for each side, and reads all streams to their ends in this
+/// one. All threads have ended when it returns. Where a thread can't be made, and where memory runs out, it
+/// gives up.
+#[cycle(sides)]
+pub(crate) fn watch_sides<
+    'a,
+    R: Threads + Wait + Sync,
+    P: Planned + Send + Sync,
+    W: Words + Send,
+    G: Gate + Sync,
+>(
+    rt: &R,
+    alloc: Global,
+    owners: &Owners,
+    mut seat: OwnerSeat,
+    mut sides: Vec<BoardSide<P, W>>,
+    client: Watched<'a, P>,
+    events: &WatchEvents,
+    gate: &G,
+) -> Result<Watched<'a, P>, GaveUp<'a, P>>
+    requires idle { IsIdle owners.now seat }
+    requires sides { All (λ side. side.board.sub < length owners.now.channels) sides.items }
+    requires few { length sides.items < 2 ^ 32 }
+    requires events { length sides.items ≤ length events.now.lines.items }
+    requires streams { length client.merge.streams ≤ length events.now.lines.items }
+    requires read { AreRead client.merge.streams client.texts.items }
+    ensures { IfOk result (λ w. HasWatched client.entry.merge.streams w.merge.streams client.entry.texts.items w.texts.items) }
+{
+    let Some(side) = last_side(owners, &mut sides) else {
+        return read_scans(rt, alloc, client, events, gate);
+    };
+    let theirs = another_seat(owners, &mut seat);
+    let who = sides.len() as u32;
+    let waiting = events.board(sides.len());
+    let BoardSide { board, munger } = side;
+    let (_, watched) = with_worker(
+        rt,
+        TrueEnd,
+        move || -> Closed<P>
+            requires { IsIdle owners.now theirs × (board.sub < length owners.now.channels) }
+            ensures { EndsTruly result }
+        { board_thread(rt, owners, theirs, board, waiting, gate, who) },
+        move |putting| -> Result<Watched<'_, P>, GaveUp<'_, P>>
+            requires { IsSync R.row × IsSync G.row × IsIdle owners.now seat × All (λ side. side.board.sub < length owners.now.channels) sides.items × (length sides.items < 2 ^ 32) × (length sides.items < length events.now.lines.items) × (length client.merge.streams ≤ length events.now.lines.items) × AreRead client.merge.streams client.texts.items }
+            ensures { IfOk result (λ w. HasWatched client.entry.merge.streams w.merge.streams client.entry.texts.items w.texts.items) }
+        {
+            munge_beside(
+                rt, alloc, owners, seat, sides, munger, putting, client, events, gate,
+            )
+        },
+    );
+    watched
+}
+
+// Starts the munger's thread of a line whose board's thread has started, and goes on to the others.
+#[cycle(sides)]
+fn munge_beside<
+    'a,
+    R: Threads + Wait + Sync,
+    P: Planned + Send + Sync,
+    W: Words + Send,
+    G: Gate + Sync,
+>(
+    rt: &R,
+    alloc: Global,
+    owners: &Owners,
+    seat: OwnerSeat,
+    sides: Vec<BoardSide<P, W>>,
+    munger: Munger<P>,
+    other: Worker,
+    client: Watched<'a, P>,
+    events: &WatchEvents,
+    gate: &G,
+) -> Result<Watched<'a, P>, GaveUp<'a, P>>
+    requires idle { IsIdle owners.now seat }
+    requires sides { All (λ side. side.board.sub < length owners.now.channels) sides.items }
+    requires few { length sides.items < 2 ^ 32 }
+    requires events { length sides.items < length events.now.lines.items }
+    requires streams { length client.merge.streams ≤ length events.now.lines.items }
+    requires read { AreRead client.merge.streams client.texts.items }
+    ensures { IfOk result (λ w. HasWatched client.entry.merge.streams w.merge.streams client.entry.texts.items w.texts.items) }
+{
+    if other == Worker::Refused {
+        return Err(give_up(client, events));
+    }
+    let waiting = events.munger(sides.len());
+    let (_, watched) = with_worker(
+        rt,
+        AllMunged,
+        move || munge_waiting(rt, munger, waiting),
+        move |munging| -> Result<Watched<'_, P>, GaveUp<'_, P>>
+            requires { IsSync R.row × IsSync G.row × IsIdle owners.now seat × All (λ side. side.board.sub < length owners.now.channels) sides.items × (length sides.items < 2 ^ 32) × (length sides.items ≤ length events.now.lines.items) × (length client.merge.streams ≤ length events.now.lines.items) × AreRead client.merge.streams client.texts.items }
+            ensures { IfOk result (λ w. HasWatched client.entry.merge.streams w.merge.streams client.entry.texts.items w.texts.items) }
+        {
+            if munging == Worker::Refused {
+                return Err(give_up(client, events));
+            }
+            watch_sides(rt, alloc, owners, seat, sides, client, events, gate)
+        },
+    );
+    watched
+}

@@ -1,0 +1,127 @@
+// The rings of watched lines.
+ghost use Rattle.std.specs.Prelude.{◌≡◌, ◌<◌, length, IfOk};
+ghost use Rattle.std.specs.List.{All};
+ghost use Rattle.cm_client.specs.Progress.{Accepts};
+ghost use Rattle.cm_text.specs.SampleText.{CanReport, no_lines};
+ghost use Rattle.cm_job.specs.Whole.{line_format};
+ghost use Rattle.cm_job.specs.RunLines.{CanRun};
+ghost use Rattle.cm_job.specs.WatchLines.{IsWatched};
+ghost use Rattle.cm_watch.specs.Opened.{AreFor, line_start, stream_start};
+ghost use Rattle.cm_watch.specs.Watched.{AreRead};
+
+use crate::events::LineEvents;
+use crate::side::{BoardSide, LineBoard};
+use cm_base::transfer::NoMemory;
+use cm_board::board::BoardDesc;
+use cm_client::opening::{PacedRing, open_paced};
+use cm_job::whole::text_for;
+use cm_client::words::WordSource;
+use cm_expand::call::plan_of;
+use cm_expand::plan::Plan;
+use cm_job::line::RunLine;
+use cm_signal::signals::Signals;
+use cm_stream::stream::ScanStream;
+use cm_text::sample_text::SampleText;
+use std::alloc::Global;
+
+/// The side of a line for its own expansion.
+pub type Side<'a> = BoardSide<Plan<'a>, WordSource<'a>>;
+
+// A line's side, what its workers wait for, its stream, and the lines of its samples.
+#[derive(Drop)]
+struct OpenedLine<'a> {
+    side: Side<'a>,
+    events: LineEvents,
+    stream: ScanStream<Plan<'a>>,
+    text: SampleText<'a>,
+}
+
+/// The sides of some lines, and for each what its workers wait for, a stream, and the lines of its
+/// samples.
+#[derive(Drop)]
+pub struct Opened<'a> {
+    pub sides: Vec<Side<'a>>,
+    pub events: Vec<LineEvents>,
+    pub streams: Vec<ScanStream<Plan<'a>>>,
+    pub texts: Vec<SampleText<'a>>,
+}
+
+// What the workers of a line wait for.
+fn events_of(board: &BoardDesc, signals: &Signals, line: &RunLine) -> LineEvents
+    requires { CanRun board.now signals.now line.now }
+{
+    LineEvents::new(plan_of(board, signals, line).sub().buffer)
+}
+
+// Opens the ring of a line, with a stream of its scans and the lines of its samples, before the first.
+fn open_line<'a>(
+    alloc: Global,
+    board: &'a BoardDesc,
+    signals: &'a Signals,
+    line: &'a RunLine,
+) -> Result<OpenedLine<'a>, NoMemory>
+    requires run { CanRun board.now signals.now line.now }
+    requires watch { IsWatched board.now line.now }
+    ensures side { IfOk result (λ o. o.side.board.sub < length board.entry.now.subs) }
+    ensures stream { IfOk result (λ o. stream_start o.stream ≡ line_start board.entry.now signals.entry.now line.entry.now) }
+    ensures text { IfOk result (λ o. o.text ≡ no_lines (line_format board.entry.now signals.entry.now line.entry.now)) }
+    ensures report { IfOk result (λ o. Accepts (CanReport o.text) (line_start board.entry.now signals.entry.now line.entry.now).ring) }
+{
+    let events = events_of(board, signals, line);
+    let text = text_for(alloc, board, signals, line)?;
+    let plan = plan_of(board, signals, line);
+    let cmd = line.cmd();
+    let PacedRing {
+        board,
+        munger,
+        reader,
+    } = open_paced(alloc, plan, cmd)?;
+    let scan = cmd.cmd().list.len() as u32;
+    let stream = ScanStream::new(alloc, reader, scan);
+    let side = BoardSide {
+        board: LineBoard::new(board, line.sub()),
+        munger,
+    };
+    Ok(OpenedLine {
+        side,
+        events,
+        stream,
+        text,
+    })
+}
+
+/// Opens the rings of some lines.
+pub(crate) fn open_lines<'a>(
+    alloc: Global,
+    board: &'a BoardDesc,
+    signals: &'a Signals,
+    lines: &'a [RunLine],
+) -> Result<Opened<'a>, NoMemory>
+    requires run { All (CanRun board.now signals.now) lines.now }
+    requires watched { All (IsWatched board.now) lines.now }
+    ensures sides { IfOk result (λ o. All (λ side. side.board.sub < length board.entry.now.subs) o.sides.items) }
+    ensures count { IfOk result (λ o. length o.sides.items ≡ length lines.entry.now) }
+    ensures events { IfOk result (λ o. length o.events.items ≡ length lines.entry.now) }
+    ensures start { IfOk result (λ o. AreFor board.entry.now signals.entry.now lines.entry.now o.streams.items o.texts.items) }
+    ensures read { IfOk result (λ o. AreRead o.streams.items o.texts.items) }
+{
+    let mut opened = Opened {
+        sides: Vec::new(alloc),
+        events: Vec::new(alloc),
+        streams: Vec::new(alloc),
+        texts: Vec::new(alloc),
+    };
+    for i in 0..lines.len() {
+        let OpenedLine {
+            side,
+            events,
+            stream,
+            text,
+        } = open_line(alloc, board, signals, &lines[i])?;
+        opened.sides.push(side)?;
+        opened.streams.push(stream)?;
+        opened.texts.push(text)?;
+        opened.events.push(events)?;
+    }
+    Ok(opened)
+}
