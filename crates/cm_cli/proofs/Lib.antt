@@ -1,4 +1,3 @@
 pub mod Ends
-pub mod Expansions
 pub mod Served
 pub mod Tests

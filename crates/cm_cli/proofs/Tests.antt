@@ -7,7 +7,7 @@ use Rattle.cm_board.specs.Board.{BoardText}
 use Rattle.cm_cmd.specs.Command.{CmdText}
 use Rattle.cm_test.specs.Testing.{test_answer}
 use Rattle.cm_cli.specs.TestSession.{tests_text}
-use Rattle.cm_replay.proofs.Folds.{left-next}
+use Rattle.cm_base.proofs.Elements.{left-next}
 
 -- one command more is answered
 pub test-answered : (board : BoardText) (a b : Option (List ℕ)) (cmds : List CmdText) (i : ℕ) (cmd : CmdText) (text more whole : List ℕ) → i < length cmds → cmd ≡ get_or cmds i cmd →

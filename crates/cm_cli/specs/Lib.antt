@@ -2,7 +2,6 @@ pub mod Answer
 pub mod Answers
 pub mod Asked
 pub mod Commands
-pub mod ExpandSession
 pub mod Said
 pub mod Serving
 pub mod Statuses

@@ -20,7 +20,7 @@ use Rattle.cm_loop.specs.LoopText.{loop_text}
 use Rattle.cm_replay.specs.Job.{JobText, setting_of}
 use Rattle.cm_replay.specs.Texts.{replay_text}
 use Rattle.cm_run.specs.Soak.{soak_text}
-use Rattle.cm_cli.specs.ExpandSession.{expands_text}
+use Rattle.cm_job.specs.ExpandSession.{expands_text}
 use Rattle.cm_cli.specs.TestSession.{tests_text}
 use Rattle.cm_cli.specs.declared.command.Command.{Command}
 use Rattle.cm_cli.specs.declared.command.Command.TheVariants as commands

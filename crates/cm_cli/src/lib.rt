@@ -5,7 +5,6 @@ pub mod answer;
 pub mod asked;
 pub mod comedi;
 pub mod command;
-pub mod expanding;
 mod flow;
 pub mod jobs;
 pub mod serving;

@@ -8,7 +8,6 @@ ghost use Rattle.cm_cli.specs.Said.{expands_said, job_of, lines_said, said, sess
 ghost use Rattle.cm_cli.specs.Serving.{Serves};
 
 use crate::command::Command;
-use crate::expanding::expand_all;
 use crate::stop::Stop;
 use crate::testing::test_all;
 use cm_base::faults::ReadStop;
@@ -17,6 +16,7 @@ use cm_base::outside::Sink;
 use cm_board::board::BoardDesc;
 use cm_board_text::reading::read_board;
 use cm_job::expand_lines::read_expands;
+use cm_job::expanding::expand_all;
 use cm_job::test_lines::read_tests;
 use cm_replay::job::Job;
 use cm_replay::replay::replay;

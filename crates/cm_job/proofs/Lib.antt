@@ -10,5 +10,6 @@ pub mod LoopRules
 pub mod Sooner
 pub mod LoopWords
 pub mod ExpandLines
+pub mod Expansions
 pub mod Reported
 pub mod Wholes

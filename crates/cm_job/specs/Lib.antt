@@ -19,4 +19,5 @@ pub mod Whole
 pub mod RunText
 pub mod TestLines
 pub mod ExpandLines
+pub mod ExpandSession
 pub mod Law

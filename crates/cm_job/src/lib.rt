@@ -6,6 +6,7 @@ pub mod accepting;
 pub mod ahead;
 pub mod asked;
 pub mod expand_lines;
+pub mod expanding;
 pub mod going;
 pub mod head;
 pub mod job;

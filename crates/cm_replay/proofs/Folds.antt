@@ -1,8 +1,9 @@
 -- A session line by line.
 use Rattle.std.proofs.Common.{◌≡◌, ℕ, zero, suc, ◌+◌, ◌<◌, ◌≤◌, List, [], ◌∷◌, length, get_or, map, drop, refl, sym, ap, ◌∙◌, subst, arith, Option, Some, None}
 use Rattle.std.specs.List.{All}
-use Rattle.std.proofs.lemmas.List.{drop_all, drop_more, length-map, length-replicate}
+use Rattle.std.proofs.lemmas.List.{drop_all, length-map, length-replicate}
 use Rattle.cm_base.specs.Transfer.{IsUnderWay}
+use Rattle.cm_base.proofs.Elements.{left-next}
 use Rattle.cm_base.proofs.UnderWay.{under_way-more}
 use Rattle.cm_cmd.specs.Command.{CmdText}
 use Rattle.cm_signal.specs.Setting.{Setting}
@@ -19,10 +20,6 @@ use Rattle.cm_replay.specs.Texts.{step_text, texts_from}
 use Rattle.cm_replay.proofs.Counts.{length-brought, step-claims, step-devices}
 use Rattle.cm_replay.proofs.Readiness.{ready-at}
 use Rattle.cm_replay.proofs.Wholes.{whole-brought, whole-step}
-
--- what is left is the next item and those after it
-pub left-next : {X : Type 0} (xs : List X) (i : ℕ) (x : X) → i < length xs → x ≡ get_or xs i x → drop i xs ≡ x ∷ drop (i + 1) xs
-left-next xs i x within is = drop_more xs i x within ∙ ap (λ y. y ∷ drop (i + 1) xs) (sym is)
 
 -- each line has its limits
 limits-at : (horizon time : ℕ) (lines : List SessionLine) (i : ℕ) (line : SessionLine) → InOrder horizon time lines → i < length lines → line ≡ get_or lines i line → IsLimited horizon line

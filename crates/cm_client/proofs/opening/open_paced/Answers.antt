@@ -7,8 +7,8 @@ use Rattle.cm_sample.specs.Rule.{IsRule}
 use Rattle.cm_test.specs.Questions.{tested}
 use Rattle.cm_client.proofs.opening.open_paced.Goals as goal
 
-pub rule_of-rule-requires : goal.rule_of-rule-requires
-rule_of-rule-requires c = (λ i. (tested (c.sub-sub.ensures i) (sym c.requires.cmd i)).0) ∙ c.args.plan.sound.passed
+pub rule_of-requires : goal.rule_of-requires
+rule_of-requires c = (λ i. (tested (c.sub-sub.ensures i) (sym c.requires.cmd i)).0) ∙ c.args.plan.sound.passed
 
 pub open-requires-clause-rule : goal.open-requires-clause-rule
 open-requires-clause-rule c =

@@ -1,6 +1,5 @@
 use Rattle.std.proofs.Common.{◌≡◌, IfOk, sym, ap, ◌∙◌, subst, arith}
 use Rattle.cm_board.specs.Board.{SubText, IsSoundSub}
-use Rattle.cm_cmd.specs.Command.{CmdText}
 use Rattle.cm_client.specs.Progress.{Accepts}
 use Rattle.cm_expand.specs.PlanView.{plan_text}
 use Rattle.cm_expand.specs.Rule.{rule_of}
@@ -11,8 +10,8 @@ use Rattle.cm_sample.specs.Rule.{IsRule}
 use Rattle.cm_test.specs.Questions.{tested}
 use Rattle.cm_client.proofs.streaming.stream_command.Goals as goal
 
-pub rule_of-rule-requires : goal.rule_of-rule-requires
-rule_of-rule-requires g c κs within = (λ i. (tested (c.sub-sub.ensures i) (sym c.requires.cmd i)).0) ∙ c.args.plan.sound.passed
+pub rule_of-requires : goal.rule_of-requires
+rule_of-requires g c = (λ i. (tested (c.sub-sub.ensures i) (sym c.requires.cmd i)).0) ∙ c.args.plan.sound.passed
 
 pub stream-requires-clause-rule : goal.stream-requires-clause-rule
 stream-requires-clause-rule g c κs within =

@@ -16,8 +16,8 @@ use Rattle.cm_expand.specs.Taking.{left_of}
 use Rattle.cm_expand.specs.declared.conv.Conv.{Conv}
 use Rattle.cm_job.specs.ExpandLines.{plan_of}
 use Rattle.cm_job.specs.declared.expand_lines.ExpandLine.{ExpandLine}
-use Rattle.cm_cli.specs.ExpandSession.{conversion_line, end_line, expands_text, expansion_text}
-use Rattle.cm_replay.proofs.Folds.{left-next}
+use Rattle.cm_job.specs.ExpandSession.{conversion_line, end_line, expands_text, expansion_text}
+use Rattle.cm_base.proofs.Elements.{left-next}
 
 -- the text of what a board has left
 abbrev pub left_text : BoardState → List ℕ

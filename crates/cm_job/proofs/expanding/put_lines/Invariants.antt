@@ -1,7 +1,7 @@
 use Rattle.std.proofs.Common.{◌≡◌, ◌*◌, ◌≤◌, length, drop}
 use Rattle.std.specs.List.{flat_map}
-use Rattle.cm_cli.specs.ExpandSession.{conversion_line}
-use Rattle.cm_cli.proofs.expanding.put_lines.Given as goal
+use Rattle.cm_job.specs.ExpandSession.{conversion_line}
+use Rattle.cm_job.proofs.expanding.put_lines.Given as goal
 
 -- the lines of the conversions from one on are made, and there is room for the others
 abbrev pub invariant-loop-i : goal.invariant-loop-i

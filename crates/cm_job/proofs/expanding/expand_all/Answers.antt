@@ -1,9 +1,9 @@
 use Rattle.std.proofs.Common.{◌+◌, ◌++◌, drop, arith}
 use Rattle.cm_base.proofs.UnderWay.{on_err, under_way-failed, under_way-moved}
 use Rattle.cm_expand.specs.PlanView.{plan_text}
-use Rattle.cm_cli.specs.ExpandSession.{expands_text, expansion_text}
-use Rattle.cm_cli.proofs.Expansions.{expansion-gathered}
-use Rattle.cm_cli.proofs.expanding.expand_all.Goals as goal
+use Rattle.cm_job.specs.ExpandSession.{expands_text, expansion_text}
+use Rattle.cm_job.proofs.Expansions.{expansion-gathered}
+use Rattle.cm_job.proofs.expanding.expand_all.Goals as goal
 
 pub returns-in_err-put_expansion-clause-prefix : goal.returns-in_err-put_expansion-clause-prefix
 returns-in_err-put_expansion-clause-prefix g c =

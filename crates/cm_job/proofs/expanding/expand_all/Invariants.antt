@@ -1,7 +1,7 @@
 use Rattle.std.proofs.Common.{◌≤◌, drop}
 use Rattle.cm_base.specs.Transfer.{IsUnderWay}
-use Rattle.cm_cli.specs.ExpandSession.{expands_text}
-use Rattle.cm_cli.proofs.expanding.expand_all.Given as goal
+use Rattle.cm_job.specs.ExpandSession.{expands_text}
+use Rattle.cm_job.proofs.expanding.expand_all.Given as goal
 
 -- a prefix of the expansions is written, the next part waits, and the rest is that of the lines that are left
 abbrev pub invariant-loop-line : goal.invariant-loop-line

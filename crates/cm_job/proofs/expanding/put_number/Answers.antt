@@ -1,6 +1,6 @@
 use Rattle.std.proofs.Common.{rules, ◌-◌, ◌≤◌, length, arith, decimal, length-set}
 use Rattle.std.proofs.lemmas.Fmt.{length-decimal-le}
-use Rattle.cm_cli.proofs.expanding.put_number.Goals as goal
+use Rattle.cm_job.proofs.expanding.put_number.Goals as goal
 
 pub write_digits-requires : goal.write_digits-requires
 write_digits-requires c =

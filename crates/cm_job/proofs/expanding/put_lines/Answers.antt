@@ -1,8 +1,8 @@
 use Rattle.std.proofs.Common.{length, sym, ap, ◌∙◌, arith}
 use Rattle.std.specs.List.{flat_map}
 use Rattle.std.proofs.lemmas.List.{drop_all}
-use Rattle.cm_cli.specs.ExpandSession.{conversion_line}
-use Rattle.cm_cli.proofs.expanding.put_lines.Goals as goal
+use Rattle.cm_job.specs.ExpandSession.{conversion_line}
+use Rattle.cm_job.proofs.expanding.put_lines.Goals as goal
 
 pub loop-i-init : goal.loop-i-init
 loop-i-init c =
