@@ -8,8 +8,8 @@ use Rattle.cm_text.specs.Declined.{refused_text}
 use Rattle.cm_signal.specs.declared.bounds.Bounds.{Bounds}
 use Rattle.cm_serve.specs.Playing.{Play, bounds_at}
 use Rattle.cm_serve.specs.Dialogue.{replied, replied_if, reply, reply_of, unchanged}
-use Rattle.cm_serve.specs.Lines.{said_by}
-use Rattle.cm_serve.specs.declared.said.Said.{Said}
+use Rattle.cm_dialogue.specs.Lines.{said_by}
+use Rattle.cm_dialogue.specs.declared.said.Said.{Said}
 
 -- the same line with another number
 renumbered-ok : {X : Type 0} (number other : ℕ) (read : Result X Fault) (x : X) → at_line number read ≡ Ok x → at_line other read ≡ Ok x

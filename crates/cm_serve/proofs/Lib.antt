@@ -1,17 +1,8 @@
 pub mod Answering
-pub mod Coming
-pub mod FirstLine
-pub mod Fits
-pub mod Heads
-pub mod Hearing
-pub mod Limited
-pub mod Outside
 pub mod Plays
-pub mod Readings
 pub mod Records
 pub mod Replays
 pub mod Reports
-pub mod Saying
 pub mod Servings
 pub mod Soonest
 pub mod Talking

@@ -8,11 +8,11 @@ use Rattle.cm_session.specs.Limits.{InOrder, IsLimited}
 use Rattle.cm_session.specs.declared.op.SessionLine.{SessionLine}
 use Rattle.cm_signal.specs.Fitting.{FitBoard}
 use Rattle.cm_signal.specs.Signals.{IsSoundSignals}
-use Rattle.cm_serve.specs.Asking.{asked_op, line_of}
+use Rattle.cm_dialogue.specs.Asked.{asked_op, line_of}
 use Rattle.cm_serve.specs.Playing.{Play, first_play, played}
-use Rattle.cm_serve.specs.declared.asked.Asked.{Asked}
-use Rattle.cm_serve.specs.declared.asked.Question.{Question}
-use Rattle.cm_serve.specs.declared.asked.Question.TheVariants.{Await, Info, Codes, Peek}
+use Rattle.cm_dialogue.specs.declared.asked.Asked.{Asked}
+use Rattle.cm_dialogue.specs.declared.asked.Question.{Question}
+use Rattle.cm_dialogue.specs.declared.asked.Question.TheVariants.{Await, Info, Codes, Peek}
 use Rattle.cm_serve.specs.PlayingView.{IsPlay}
 use Rattle.cm_replay.specs.Ready.{StaysReady}
 use Rattle.cm_replay.specs.Replies.{CanStep, HasCome, tried_of}

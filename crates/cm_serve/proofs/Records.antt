@@ -6,17 +6,18 @@ use Rattle.cm_base.specs.Reading.{at_line}
 use Rattle.cm_base.specs.declared.faults.Fault.{Fault}
 use Rattle.cm_session.specs.Limits.{InOrder}
 use Rattle.cm_session.specs.declared.op.SessionLine.{SessionLine}
-use Rattle.cm_serve.specs.Asking.{awaits, line_of, takes, taking_time}
+use Rattle.cm_dialogue.specs.Asked.{awaits, line_of, takes}
+use Rattle.cm_serve.specs.Asking.{taking_time}
 use Rattle.cm_serve.specs.Playing.{Play, bounds_at, first_play, line_text, played}
 use Rattle.cm_replay.specs.Texts.{texts_from}
 use Rattle.cm_serve.specs.Dialogue.{fetched, next_number, replied, replied_if, reply_of}
 use Rattle.cm_serve.specs.Law.{RecordReplays, answer_of, lines_of_fetch, play_after, played_all, record_of, recorded, recorded_answers, said_in}
-use Rattle.cm_serve.specs.Lines.{said_by}
-use Rattle.cm_serve.specs.Reading.{IsFit}
-use Rattle.cm_serve.specs.declared.asked.Fetch.{Fetch}
-use Rattle.cm_serve.specs.declared.said.Said.{Said}
-use Rattle.cm_serve.specs.declared.said.Said.TheVariants as says
-use Rattle.cm_serve.proofs.Fits.{said_fits}
+use Rattle.cm_dialogue.specs.Lines.{said_by}
+use Rattle.cm_dialogue.specs.Reading.{IsFit}
+use Rattle.cm_dialogue.specs.declared.asked.Fetch.{Fetch}
+use Rattle.cm_dialogue.specs.declared.said.Said.{Said}
+use Rattle.cm_dialogue.specs.declared.said.Said.TheVariants as says
+use Rattle.cm_dialogue.proofs.Fits.{said_fits}
 
 -- the record of these lines from here on replays
 record IsReplayed (p : Play) (n : ℕ) (lines : List (List ℕ)) : Type 0 where

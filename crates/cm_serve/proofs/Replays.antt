@@ -18,14 +18,14 @@ use Rattle.cm_session.proofs.After.{last-after}
 use Rattle.cm_serve.specs.Playing.{Play, bounds_at, first_play, line_text, played}
 use Rattle.cm_replay.specs.State.{at_start}
 use Rattle.cm_replay.specs.Texts.{texts_from}
-use Rattle.cm_serve.specs.Ahead.{IsLine}
+use Rattle.cm_dialogue.specs.Ahead.{IsLine}
 use Rattle.cm_serve.specs.Dialogue.{Reply, dialogue, next_number, replied, replied_if, reply, reply_of}
 use Rattle.cm_serve.specs.Law.{AnswersAsReplay, answers}
-use Rattle.cm_serve.specs.Lines.{questions, said_by}
-use Rattle.cm_serve.specs.declared.said.Said.{Said}
-use Rattle.cm_serve.specs.declared.said.Said.TheVariants as says
-use Rattle.cm_serve.proofs.FirstLine.{one-counts}
-use Rattle.cm_serve.proofs.Limited.{untimed}
+use Rattle.cm_dialogue.specs.Lines.{questions, said_by}
+use Rattle.cm_dialogue.specs.declared.said.Said.{Said}
+use Rattle.cm_dialogue.specs.declared.said.Said.TheVariants as says
+use Rattle.cm_dialogue.proofs.FirstLine.{one-counts}
+use Rattle.cm_dialogue.proofs.Limited.{untimed}
 
 -- two tests of a word
 is_not : (word key : List ℕ) → (word ≡ key → ⊥) → bytes_eq word key ≡ false

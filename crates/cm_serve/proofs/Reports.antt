@@ -6,7 +6,8 @@ use Rattle.cm_sub.specs.declared.errno.Errno.{Errno}
 use Rattle.cm_signal.specs.Setting.{Setting}
 use Rattle.cm_session.specs.declared.op.SessionLine.{SessionLine}
 use Rattle.cm_text.specs.Outputs.{output_texts}
-use Rattle.cm_serve.specs.Asking.{asked_op, asked_text, asked_time, line_of, report, told_time}
+use Rattle.cm_dialogue.specs.Asked.{asked_op, line_of}
+use Rattle.cm_serve.specs.Asking.{asked_text, asked_time, report, told_time}
 use Rattle.cm_replay.specs.Forms.{form, is_of_command, line_checks, named_sub}
 use Rattle.cm_replay.specs.Answers.{Answer, Refused}
 use Rattle.cm_replay.specs.Replies.{LeadsTelling, Tells, checked, place_checks}
@@ -14,9 +15,9 @@ use Rattle.cm_running.specs.Running.{Running}
 use Rattle.cm_replay.specs.Session.{Outcome, act, act_on, brought_all, brought_device, due_from, here, step}
 use Rattle.cm_replay.specs.State.{Device, Here, State, device_at}
 use Rattle.cm_replay.specs.Texts.{answer_text}
-use Rattle.cm_serve.specs.declared.asked.Asked.{Asked}
-use Rattle.cm_serve.specs.declared.asked.Question.{Question}
-use Rattle.cm_serve.specs.declared.asked.Question.TheVariants.{Await, Info, Codes, Peek}
+use Rattle.cm_dialogue.specs.declared.asked.Asked.{Asked}
+use Rattle.cm_dialogue.specs.declared.asked.Question.{Question}
+use Rattle.cm_dialogue.specs.declared.asked.Question.TheVariants.{Await, Info, Codes, Peek}
 use Rattle.cm_replay.proofs.Acted.{acted, found, refused-there}
 
 -- a question's line names its subdevice, and acts on that subdevice

@@ -11,23 +11,23 @@ use Rattle.cm_base.specs.declared.faults.Refused.{Refused}
 use Rattle.cm_signal.specs.Setting.{Setting}
 use Rattle.cm_serve.specs.Playing.{Play, first_play}
 use Rattle.cm_serve.specs.Conversing.{Converses}
-use Rattle.cm_serve.specs.Ahead.{AreAhead, Came, IsLine}
+use Rattle.cm_dialogue.specs.Ahead.{AreAhead, Came, IsLine}
 use Rattle.cm_serve.specs.Dialogue.{dialogue, next_number, reply}
-use Rattle.cm_serve.specs.Heading.{Follows, HasHead, IsHead, head_of, text_of}
+use Rattle.cm_dialogue.specs.Heading.{Follows, HasHead, IsHead, head_of, text_of}
 use Rattle.cm_serve.specs.Served.{Declines, Holds, IsCutShort, IsHeld, IsNearlyHeld, IsTooLong, Serves, refusal}
 use Rattle.cm_serve.specs.Serving.{conversation, follows, setting_of, setting_said}
-use Rattle.cm_serve.specs.Stops.{read_stop, too_long}
-use Rattle.cm_serve.specs.Turns.{Turn, Answer, Line, Says}
-use Rattle.cm_serve.specs.declared.heading.DialogueHead.{DialogueHead}
+use Rattle.cm_dialogue.specs.Stops.{read_stop, too_long}
+use Rattle.cm_dialogue.specs.Turns.{Turn, Answer, Line, Says}
+use Rattle.cm_dialogue.specs.declared.heading.DialogueHead.{DialogueHead}
 use Rattle.cm_serve.specs.declared.serving.Served.{Served}
 use Rattle.cm_serve.specs.declared.serving.Served.TheVariants as served
-use Rattle.cm_serve.specs.declared.stop.ServeStop.{ServeStop}
-use Rattle.cm_serve.specs.declared.stop.ServeStop.TheVariants as serves
-use Rattle.cm_serve.specs.declared.stop.TalkStop.{TalkStop}
-use Rattle.cm_serve.specs.declared.stop.TalkStop.TheVariants.{NoMemory, TooLong}
-use Rattle.cm_serve.proofs.Coming.{came-ahead, others}
-use Rattle.cm_serve.proofs.Heads.{head-follows, head-prefix, later-head}
-use Rattle.cm_serve.proofs.Saying.{says-more, says-same}
+use Rattle.cm_dialogue.specs.declared.stop.ServeStop.{ServeStop}
+use Rattle.cm_dialogue.specs.declared.stop.ServeStop.TheVariants as serves
+use Rattle.cm_dialogue.specs.declared.stop.TalkStop.{TalkStop}
+use Rattle.cm_dialogue.specs.declared.stop.TalkStop.TheVariants.{NoMemory, TooLong}
+use Rattle.cm_dialogue.proofs.Coming.{came-ahead, others}
+use Rattle.cm_dialogue.proofs.Heads.{head-follows, head-prefix, later-head}
+use Rattle.cm_dialogue.proofs.Saying.{says-more, says-same}
 
 -- what is said with a client whose first lines are a head
 after_head : (lines more : List (List ℕ)) → head_of (lines ++ more) ≡ lines → conversation (lines ++ more) ≡ map Line lines ++ follows (setting_of (text_of lines)) (length lines + 1) more

@@ -4,17 +4,17 @@ use Rattle.std.specs.List.{All}
 use Rattle.std.specs.Result.{IsErrAnd}
 use Rattle.std.proofs.lemmas.List.Elements.{All-nil, All-push}
 use Rattle.cm_serve.specs.Playing.{Play}
-use Rattle.cm_serve.specs.Ahead.{AreAhead, BeginsLong, Came, IsLine}
+use Rattle.cm_dialogue.specs.Ahead.{AreAhead, BeginsLong, Came, IsLine}
 use Rattle.cm_serve.specs.Conversing.{Converses}
 use Rattle.cm_serve.specs.Dialogue.{dialogue, next_number, reply}
-use Rattle.cm_serve.specs.Stops.{heard_stop}
-use Rattle.cm_serve.specs.Turns.{Turn, Answer, Line, Says}
+use Rattle.cm_dialogue.specs.Stops.{heard_stop}
+use Rattle.cm_dialogue.specs.Turns.{Turn, Answer, Line, Says}
 use Rattle.cm_base.specs.declared.transfer.ReadError.{ReadError}
 use Rattle.cm_base.specs.declared.transfer.ReadError.TheVariants as hears
-use Rattle.cm_serve.specs.declared.stop.TalkStop.{TalkStop}
-use Rattle.cm_serve.specs.declared.stop.TalkStop.TheVariants.{NoMemory, TooLong}
-use Rattle.cm_serve.proofs.Coming.{came-ahead, came-more, came-none, others}
-use Rattle.cm_serve.proofs.Saying.{says-more, says-nothing, says-same, says-still}
+use Rattle.cm_dialogue.specs.declared.stop.TalkStop.{TalkStop}
+use Rattle.cm_dialogue.specs.declared.stop.TalkStop.TheVariants.{NoMemory, TooLong}
+use Rattle.cm_dialogue.proofs.Coming.{came-ahead, came-more, came-none, others}
+use Rattle.cm_dialogue.proofs.Saying.{says-more, says-nothing, says-same, says-still}
 
 -- some lines were heard and answered, after which the dialogue goes on from here
 pub record IsUnderWay (ahead left : Option (List (List ℕ))) (old now : Option (List Turn)) (p : Play) (first : ℕ) (here : Play) (number : ℕ) : Type 0 where

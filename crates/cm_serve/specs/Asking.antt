@@ -3,9 +3,6 @@
 use Rattle.std.specs.Prelude.{ℕ, max, min, List, ◌++◌, codes, Option, Some, None}
 use Rattle.std.specs.Fmt.{decimal}
 use Rattle.cm_signal.specs.Setting.{Setting}
-use Rattle.cm_session.specs.declared.op.Op.{Op}
-use Rattle.cm_session.specs.declared.op.Op.TheVariants as ops
-use Rattle.cm_session.specs.declared.op.SessionLine.{SessionLine}
 use Rattle.cm_text.specs.Outputs.{output_texts}
 use Rattle.cm_text.specs.Tails.{end_words}
 use Rattle.cm_replay.specs.Answers.{Answer, Holds}
@@ -17,21 +14,11 @@ use Rattle.cm_replay.specs.State.{State, device_at}
 use Rattle.cm_replay.specs.Texts.{answer_text, codes_answer}
 use Rattle.cm_running.specs.Texts.{codes_text, count_text}
 use Rattle.cm_text.specs.declared.end.End.{End}
-use Rattle.cm_serve.specs.declared.asked.Asked.{Asked}
-use Rattle.cm_serve.specs.declared.asked.Fetch.{Fetch}
-use Rattle.cm_serve.specs.declared.asked.Question.{Question}
-use Rattle.cm_serve.specs.declared.asked.Question.TheVariants.{Await, Info, Codes, Peek}
-
--- what the line asks that a question is in other words
-abbrev pub asked_op : ℕ → Question → Op
-asked_op sub (Await n) = ops.Contents sub
-asked_op sub Info = ops.Contents sub
-asked_op sub (Codes n) = ops.Read sub n
-asked_op sub (Peek from n) = ops.Contents sub
-
--- the line that a question is in other words
-abbrev pub line_of : Asked → SessionLine
-line_of asked = record { time = asked.time; file = asked.file; op = asked_op asked.sub asked.question }
+use Rattle.cm_dialogue.specs.Asked.{awaits, line_of}
+use Rattle.cm_dialogue.specs.declared.asked.Asked.{Asked}
+use Rattle.cm_dialogue.specs.declared.asked.Fetch.{Fetch}
+use Rattle.cm_dialogue.specs.declared.asked.Question.{Question}
+use Rattle.cm_dialogue.specs.declared.asked.Question.TheVariants.{Await, Info, Codes, Peek}
 
 -- how a command stands, as its client sees it: an input's end is seen where nothing is left to read
 abbrev pub standing : Option End → List ℕ
@@ -71,14 +58,6 @@ told_time question time running answer = time
 abbrev pub asked_time : Setting → Asked → State → ℕ
 asked_time s asked state =
     told_time asked.question asked.time (asked_about asked state) (step s (line_of asked) state).answer
-
--- the first question of a fetch: it awaits its samples
-abbrev pub awaits : Fetch → Asked
-awaits fetch = record { time = fetch.time; file = fetch.file; sub = fetch.sub; question = Await fetch.wanted }
-
--- its second question: from this time it takes some
-abbrev pub takes : ℕ → Fetch → Asked
-takes time fetch = record { time = time; file = fetch.file; sub = fetch.sub; question = Codes fetch.n }
 
 -- that time is the one that the await tells, and neither before the fetch nor after the horizon
 abbrev pub taking_time : Setting → Fetch → State → ℕ

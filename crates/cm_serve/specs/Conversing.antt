@@ -2,11 +2,11 @@
 use Rattle.std.specs.Prelude.{◌≡◌, ℕ, List, [], ◌++◌, Option, Result, Ok, Err}
 use Rattle.std.specs.List.{All}
 use Rattle.cm_serve.specs.Playing.{Play}
-use Rattle.cm_serve.specs.Ahead.{AreAhead, BeginsLong, IsLine}
+use Rattle.cm_dialogue.specs.Ahead.{AreAhead, BeginsLong, IsLine}
 use Rattle.cm_serve.specs.Dialogue.{dialogue}
-use Rattle.cm_serve.specs.Turns.{Turn, Says}
-use Rattle.cm_serve.specs.declared.stop.TalkStop.{TalkStop}
-use Rattle.cm_serve.specs.declared.stop.TalkStop.TheVariants.{TooLong}
+use Rattle.cm_dialogue.specs.Turns.{Turn, Says}
+use Rattle.cm_dialogue.specs.declared.stop.TalkStop.{TalkStop}
+use Rattle.cm_dialogue.specs.declared.stop.TalkStop.TheVariants.{TooLong}
 
 -- all lines to come were heard and answered, each before the next one
 abbrev pub HasConversed : Option (List (List ℕ)) → Option (List Turn) → Option (List Turn) → Play → ℕ → Type 0

@@ -4,17 +4,18 @@ use Rattle.cm_base.specs.Lines.{LineText, lines_of}
 use Rattle.cm_base.specs.Reading.{at_line}
 use Rattle.cm_base.specs.declared.faults.Refused.{Refused}
 use Rattle.cm_board_text.specs.Printed.{printed_board}
-use Rattle.cm_serve.specs.Asking.{asked_text, awaits, line_of, takes, taking_time}
+use Rattle.cm_dialogue.specs.Asked.{awaits, line_of, takes}
+use Rattle.cm_serve.specs.Asking.{asked_text, taking_time}
 use Rattle.cm_text.specs.Declined.{refused_text}
 use Rattle.cm_serve.specs.Playing.{Play, bounds_at, line_text}
 use Rattle.cm_serve.specs.Playing as playing
 use Rattle.cm_test.specs.Testing.{test_answer}
-use Rattle.cm_serve.specs.Lines.{said_by}
-use Rattle.cm_serve.specs.Turns.{Turn, Line, Answer}
-use Rattle.cm_serve.specs.declared.asked.Asked.{Asked}
-use Rattle.cm_serve.specs.declared.asked.Fetch.{Fetch}
-use Rattle.cm_serve.specs.declared.said.Said.{Said}
-use Rattle.cm_serve.specs.declared.said.Said.TheVariants as says
+use Rattle.cm_dialogue.specs.Lines.{said_by}
+use Rattle.cm_dialogue.specs.Turns.{Turn, Line, Answer}
+use Rattle.cm_dialogue.specs.declared.asked.Asked.{Asked}
+use Rattle.cm_dialogue.specs.declared.asked.Fetch.{Fetch}
+use Rattle.cm_dialogue.specs.declared.said.Said.{Said}
+use Rattle.cm_dialogue.specs.declared.said.Said.TheVariants as says
 
 -- an answer, and how the session stands after it
 pub record Reply : Type 0 where

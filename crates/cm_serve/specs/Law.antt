@@ -8,16 +8,17 @@ use Rattle.cm_signal.specs.Setting.{Setting}
 use Rattle.cm_session.specs.Limits.{InOrder}
 use Rattle.cm_session.specs.SessionPart.{session_of}
 use Rattle.cm_session.specs.declared.op.SessionLine.{SessionLine}
-use Rattle.cm_serve.specs.Asking.{awaits, line_of, takes, taking_time}
+use Rattle.cm_dialogue.specs.Asked.{awaits, line_of, takes}
+use Rattle.cm_serve.specs.Asking.{taking_time}
 use Rattle.cm_serve.specs.Playing.{Play, bounds_at, first_play, line_text, played}
 use Rattle.cm_replay.specs.Texts.{replay_text, texts_from}
-use Rattle.cm_serve.specs.Ahead.{IsLine}
+use Rattle.cm_dialogue.specs.Ahead.{IsLine}
 use Rattle.cm_serve.specs.Dialogue.{dialogue, next_number, reply}
-use Rattle.cm_serve.specs.Lines.{said_by}
-use Rattle.cm_serve.specs.Turns.{Turn, Answer, Line}
-use Rattle.cm_serve.specs.declared.asked.Fetch.{Fetch}
-use Rattle.cm_serve.specs.declared.said.Said.{Said}
-use Rattle.cm_serve.specs.declared.said.Said.TheVariants as says
+use Rattle.cm_dialogue.specs.Lines.{said_by}
+use Rattle.cm_dialogue.specs.Turns.{Turn, Answer, Line}
+use Rattle.cm_dialogue.specs.declared.asked.Fetch.{Fetch}
+use Rattle.cm_dialogue.specs.declared.said.Said.{Said}
+use Rattle.cm_dialogue.specs.declared.said.Said.TheVariants as says
 
 -- the answers, one after another
 abbrev pub answers : List Turn → List ℕ

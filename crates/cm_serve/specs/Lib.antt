@@ -1,17 +1,9 @@
-pub mod Ahead
 pub mod Asking
 pub mod Conversing
 pub mod Dialogue
-pub mod Heading
 pub mod Law
-pub mod Lines
 pub mod Playing
 pub mod PlayingView
-pub mod Reading
-pub mod Script
 pub mod Served
 pub mod Serving
 pub mod Soonest
-pub mod Standard
-pub mod Stops
-pub mod Turns

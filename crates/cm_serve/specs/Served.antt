@@ -4,16 +4,16 @@ use Rattle.std.specs.List.{All}
 use Rattle.cm_base.specs.declared.faults.Refused.{Refused}
 use Rattle.cm_signal.specs.Setting.{Setting}
 use Rattle.cm_text.specs.Declined.{refused_text}
-use Rattle.cm_serve.specs.Ahead.{AreAhead, BeginsLong, IsLine}
-use Rattle.cm_serve.specs.Heading.{IsHead, IsLongHead}
+use Rattle.cm_dialogue.specs.Ahead.{AreAhead, BeginsLong, IsLine}
+use Rattle.cm_dialogue.specs.Heading.{IsHead, IsLongHead}
 use Rattle.cm_serve.specs.Serving.{conversation, setting_said}
-use Rattle.cm_serve.specs.Stops.{too_long}
-use Rattle.cm_serve.specs.Turns.{Turn, Answer, Line, Says}
+use Rattle.cm_dialogue.specs.Stops.{too_long}
+use Rattle.cm_dialogue.specs.Turns.{Turn, Answer, Line, Says}
 use Rattle.cm_serve.specs.declared.serving.Served.{Served}
 use Rattle.cm_serve.specs.declared.serving.Served.TheVariants as served
-use Rattle.cm_serve.specs.declared.stop.ServeStop.{ServeStop}
-use Rattle.cm_serve.specs.declared.stop.ServeStop.TheVariants as stops
-use Rattle.cm_serve.specs.declared.stop.TalkStop.TheVariants.{TooLong}
+use Rattle.cm_dialogue.specs.declared.stop.ServeStop.{ServeStop}
+use Rattle.cm_dialogue.specs.declared.stop.ServeStop.TheVariants as stops
+use Rattle.cm_dialogue.specs.declared.stop.TalkStop.TheVariants.{TooLong}
 
 -- all lines to come were heard, their board and signals are accepted, and all was said that is said with such a client
 abbrev pub IsHeld : Option (List (List ℕ)) → Option (List Turn) → Option (List Turn) → Type 0

@@ -9,8 +9,8 @@ use Rattle.cm_signal.specs.Setting.{Setting}
 use Rattle.cm_text.specs.Declined.{refused_text}
 use Rattle.cm_serve.specs.Playing.{first_play}
 use Rattle.cm_serve.specs.Dialogue.{dialogue}
-use Rattle.cm_serve.specs.Heading.{head_of, text_of}
-use Rattle.cm_serve.specs.Turns.{Turn, Line, Answer}
+use Rattle.cm_dialogue.specs.Heading.{head_of, text_of}
+use Rattle.cm_dialogue.specs.Turns.{Turn, Line, Answer}
 
 -- the board and the signals that a text says
 abbrev pub setting_of : List ℕ → Result Setting Refused

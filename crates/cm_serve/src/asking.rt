@@ -1,7 +1,8 @@
 // What is reported to a client between the lines of a session.
 ghost use Rattle.std.specs.Prelude.{◌≡◌, ◌<◌, ◌++◌, length, None, IfOk, OnOk};
 ghost use Rattle.std.specs.List.{All};
-ghost use Rattle.cm_serve.specs.Asking.{asked_op, asked_text, asked_time, info_text, line_of, report, told_time};
+ghost use Rattle.cm_dialogue.specs.Asked.{asked_op, line_of};
+ghost use Rattle.cm_serve.specs.Asking.{asked_text, asked_time, info_text, report, told_time};
 ghost use Rattle.cm_running.specs.Awaiting.{await_time};
 ghost use Rattle.cm_running.specs.Reading.{peeked};
 ghost use Rattle.cm_replay.specs.Forms.{form};
@@ -10,9 +11,9 @@ ghost use Rattle.cm_replay.specs.Session as session;
 ghost use Rattle.cm_replay.specs.State.{device_at};
 ghost use Rattle.cm_running.specs.Texts.{codes_text, count_text};
 
-use crate::asked::{Asked, Question};
 use crate::standing::{put_no_places, put_places};
 use cm_base::transfer::NoMemory;
+use cm_dialogue::asked::{Asked, Question};
 use cm_replay::at::At;
 use cm_replay::passing::bring_all;
 use cm_replay::reading::read_codes;

@@ -5,12 +5,12 @@ ghost use Rattle.cm_serve.specs.Playing.{first_play};
 ghost use Rattle.cm_signal.specs.Fitting.{FitBoard};
 ghost use Rattle.cm_serve.specs.Conversing.{Converses};
 
-use crate::client::Client;
 use crate::kept::Kept;
 use crate::playing::Playing;
 use crate::replying::put_reply;
-use crate::stop::TalkStop;
 use cm_board::board::BoardDesc;
+use cm_dialogue::client::Client;
+use cm_dialogue::stop::TalkStop;
 use cm_signal::signals::Signals;
 use std::alloc::Global;
 use std::sync::Wait;

@@ -2,17 +2,18 @@
 ghost use Rattle.std.specs.Prelude.{◌≡◌, ◌≤◌, ◌++◌, IfOk};
 ghost use Rattle.cm_session.specs.Limits.{IsLimited};
 ghost use Rattle.cm_signal.specs.Fitting.{FitBoard};
-ghost use Rattle.cm_serve.specs.Asking.{asked_time, line_of};
+ghost use Rattle.cm_dialogue.specs.Asked.{line_of};
+ghost use Rattle.cm_serve.specs.Asking.{asked_time};
 ghost use Rattle.cm_serve.specs.Dialogue.{asked_reply, fetched};
 ghost use Rattle.cm_serve.specs.Playing.{bounds_at, first_play, line_text, played};
-ghost use Rattle.cm_serve.specs.Reading.{IsFetch};
+ghost use Rattle.cm_dialogue.specs.Reading.{IsFetch};
 ghost use Rattle.cm_replay.specs.Replies.{tried_of};
 
-use crate::asked::{Asked, Fetch};
 use crate::asking::ask;
 use cm_base::prover::shows;
 use cm_base::transfer::NoMemory;
 use cm_board::board::BoardDesc;
+use cm_dialogue::asked::{Asked, Fetch};
 use cm_replay::acting::step;
 use cm_replay::replay::seats_of;
 use cm_replay::seat::Seat;

@@ -6,15 +6,15 @@ ghost use Rattle.cm_signal.specs.Fitting.{FitBoard};
 ghost use Rattle.cm_serve.specs.Served.{Declines, Holds, Serves, exit_status};
 ghost use Rattle.cm_serve.specs.Serving.{setting_of};
 
-use crate::client::Client;
 use crate::conversing::converse;
-use crate::heading::hear_head;
-use crate::stop::{ServeStop, TalkStop};
 use cm_base::faults::{Fault, ReadStop, Refused};
 use cm_base::lines::split_lines;
 use cm_base::transfer::{NoMemory, WriteFault};
 use cm_board::board::BoardDesc;
 use cm_board_text::reading::read_board;
+use cm_dialogue::client::Client;
+use cm_dialogue::heading::hear_head;
+use cm_dialogue::stop::{ServeStop, TalkStop};
 use cm_signal::reading::read_signals;
 use cm_signal::signals::Signals;
 use cm_text::declining::refusal;

@@ -1,9 +1,9 @@
 // Dialogues in memory.
 use cm_base::transfer::{NoMemory, ReadError, WriteFault};
-use cm_serve::client::{Client, LINE_LIMIT};
-use cm_serve::script::{Script, Spoken};
+use cm_dialogue::client::{Client, LINE_LIMIT};
+use cm_dialogue::script::{Script, Spoken};
+use cm_dialogue::standard::StdClient;
 use cm_serve::serving::{Served, serve};
-use cm_serve::standard::StdClient;
 use std::alloc::Global;
 use std::io::{Error, ErrorKind, Read, Result as IoResult, Write};
 use std::test::Fail;

@@ -1,8 +1,8 @@
 // The program: a dialogue over the process's own input and output.
 #![tactic(auto)]
 
+use cm_dialogue::standard::StdClient;
 use cm_serve::serving::{Served, exit_status, serve};
-use cm_serve::standard::StdClient;
 use std::io;
 use std::process::ExitCode;
 use std::sync::Wait;

@@ -1,6 +1,6 @@
 use Rattle.std.proofs.Common.{List, None, sym, subst}
 use Rattle.std.proofs.lemmas.Result.{IfOk-weaker, on_ok_weaker}
-use Rattle.cm_serve.specs.Asking.{line_of}
+use Rattle.cm_dialogue.specs.Asked.{line_of}
 use Rattle.cm_replay.specs.Replies.{CanStep}
 use Rattle.cm_replay.specs.State.{Device, State}
 use Rattle.cm_serve.proofs.Reports.{asked-said, asked-state, asked-timed}

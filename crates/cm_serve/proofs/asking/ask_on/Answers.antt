@@ -1,7 +1,8 @@
 use Rattle.std.proofs.Common.{◌≡◌, sym, ◌∙◌, subst, None, Result, Ok, IfOk, OnOk}
 use Rattle.std.proofs.lemmas.Result.{IfOk-weaker}
 use Rattle.cm_replay.specs.Forms.{form}
-use Rattle.cm_serve.specs.Asking.{asked_op, line_of, report, told_time}
+use Rattle.cm_dialogue.specs.Asked.{asked_op, line_of}
+use Rattle.cm_serve.specs.Asking.{report, told_time}
 use Rattle.cm_replay.specs.Replies.{CanAct, Tells, checked, here_at}
 use Rattle.cm_replay.specs.State.{State}
 use Rattle.cm_replay.proofs.Acted.{can-act, same-here}

@@ -1,9 +1,9 @@
 use Rattle.std.proofs.Common.{ℕ, List, [], ◌∷◌, ◌++◌, ap, refl, sym, ◌∙◌, arith}
 use Rattle.cm_serve.specs.Playing.{Play, first_play}
 use Rattle.cm_serve.specs.Dialogue.{reply}
-use Rattle.cm_serve.specs.declared.stop.TalkStop.TheVariants.{NoMemory, WriteFault}
-use Rattle.cm_serve.proofs.Coming.{came-still, came_last, came_line}
-use Rattle.cm_serve.proofs.Hearing.{heard_line, heard_nothing, said_text}
+use Rattle.cm_dialogue.specs.declared.stop.TalkStop.TheVariants.{NoMemory, WriteFault}
+use Rattle.cm_dialogue.proofs.Coming.{came-still, came_last, came_line}
+use Rattle.cm_dialogue.proofs.Hearing.{heard_line, heard_nothing, said_text}
 use Rattle.cm_serve.proofs.Talking.{talk-cut, talk-done, talk-more, talk-none, talk-start, talk-stopped}
 use Rattle.cm_serve.proofs.conversing.talk.Goals as goal
 

@@ -6,7 +6,7 @@ use Rattle.cm_base.specs.Reading.{at_line}
 use Rattle.cm_base.specs.declared.faults.ReadStop.{ReadStop}
 use Rattle.cm_base.proofs.Places.{line_taken}
 use Rattle.cm_serve.specs.Dialogue.{Reply}
-use Rattle.cm_serve.specs.Lines.{said_by}
+use Rattle.cm_dialogue.specs.Lines.{said_by}
 use Rattle.cm_serve.proofs.Answering.{reply-refused}
 use Rattle.cm_serve.proofs.replying.put_reply.Goals as goal
 

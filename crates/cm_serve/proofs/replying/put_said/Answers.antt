@@ -3,7 +3,7 @@ use Rattle.cm_board.specs.Board.{BoardText}
 use Rattle.cm_cmd.specs.Command.{CmdText}
 use Rattle.cm_test.specs.Testing.{test_answer}
 use Rattle.cm_serve.specs.Dialogue.{replied}
-use Rattle.cm_serve.specs.declared.said.Said.{Said}
+use Rattle.cm_dialogue.specs.declared.said.Said.{Said}
 use Rattle.cm_serve.proofs.replying.put_said.Goals as goal
 
 pub returns-in_ok-put_answer-in-Test-clause-text :

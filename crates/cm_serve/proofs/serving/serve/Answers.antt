@@ -1,6 +1,6 @@
 use Rattle.std.proofs.Common.{Err, subst}
 use Rattle.cm_serve.specs.Served.{Holds}
-use Rattle.cm_serve.specs.declared.stop.ServeStop.{ServeStop}
+use Rattle.cm_dialogue.specs.declared.stop.ServeStop.{ServeStop}
 use Rattle.cm_serve.proofs.Servings.{answered-cut, answered-refused}
 use Rattle.cm_serve.proofs.serving.serve.Goals as goal
 

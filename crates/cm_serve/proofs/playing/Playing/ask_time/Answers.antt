@@ -1,5 +1,5 @@
 use Rattle.std.proofs.Common.{sym, subst, None}
-use Rattle.cm_serve.specs.Asking.{line_of}
+use Rattle.cm_dialogue.specs.Asked.{line_of}
 use Rattle.cm_serve.specs.PlayingView.{IsPlay, play_of}
 use Rattle.cm_replay.specs.State.{State}
 use Rattle.cm_serve.proofs.Plays.{ComesNext, play-after, play-can, play-come, untried}

@@ -2,10 +2,11 @@ use Rattle.std.proofs.Common.{◌≡◌, ◌++◌, ℕ, List, ap, ap₂, ◌∙�
 use Rattle.std.specs.Prelude.{max, min}
 use Rattle.std.proofs.lemmas.Result.{IfOk-weaker}
 use Rattle.cm_signal.specs.Signals.{SignalsText}
-use Rattle.cm_serve.specs.Asking.{asked_time, awaits, takes}
+use Rattle.cm_dialogue.specs.Asked.{awaits, takes}
+use Rattle.cm_serve.specs.Asking.{asked_time}
 use Rattle.cm_serve.specs.Dialogue.{asked_reply}
 use Rattle.cm_serve.specs.Playing.{Play}
-use Rattle.cm_serve.specs.declared.asked.Asked.{Asked}
+use Rattle.cm_dialogue.specs.declared.asked.Asked.{Asked}
 use Rattle.cm_serve.proofs.playing.Playing.fetch.Goals as goal
 
 pub returns-clause-after : goal.returns-clause-after

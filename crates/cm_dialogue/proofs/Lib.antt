@@ -1,0 +1,9 @@
+pub mod Coming
+pub mod FirstLine
+pub mod Fits
+pub mod Heads
+pub mod Hearing
+pub mod Limited
+pub mod Outside
+pub mod Readings
+pub mod Saying

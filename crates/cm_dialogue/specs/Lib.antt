@@ -1,0 +1,9 @@
+pub mod Ahead
+pub mod Asked
+pub mod Heading
+pub mod Lines
+pub mod Reading
+pub mod Script
+pub mod Standard
+pub mod Stops
+pub mod Turns
