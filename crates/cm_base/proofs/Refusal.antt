@@ -1,12 +1,15 @@
 -- What is refused is the first line that fails, after lines that are read.
-use Rattle.std.proofs.Common.{◌≡◌, ℕ, Bool, true, false, cond, drop, List, [], ◌∷◌, ◌++◌, Result, Ok, Err, refl, sym, ap, ◌∙◌}
+use Rattle.std.proofs.Common.{◌≡◌, ℕ, Bool, true, false, cond, drop, List, [], ◌∷◌, ◌++◌, Result, Ok, Err, refl, sym, ap, subst, ◌∙◌}
+use Rattle.std.specs.Prelude.{IsErrAnd}
 use Rattle.cm_base.specs.Lines.{LineText}
 use Rattle.cm_base.specs.Parts.{begins, fixed}
 use Rattle.cm_base.specs.Reading.{◌>>=◌, at_line, read_each}
+use Rattle.cm_base.specs.ReadStop.{Gives, Stops}
 use Rattle.cm_base.specs.Refusal.{FirstFault, RefusesFirst}
 use Rattle.cm_base.specs.Words.{Form}
 use Rattle.cm_base.specs.declared.faults.Fault.{Fault}
 use Rattle.cm_base.specs.declared.faults.Fault.TheVariants as faults
+use Rattle.cm_base.specs.declared.faults.ReadStop.{ReadStop}
 use Rattle.cm_base.specs.declared.faults.Refused.{Refused}
 
 pub err_is : {X : Type 0} (a b : Refused) → ◌≡◌ {A = Result X Refused} (Err a) (Err b) → a ≡ b
@@ -84,3 +87,8 @@ fixed_number {X = X} end key form line rest refused e = by line.bad (begins key 
     by true begun e = ap (λ (r : Refused). r.line) (sym (err_is _ _ e))
     by false false e = ap (λ (r : Refused). r.line) (sym (err_is _ _ e))
     by false true e = at_line_number line.number (form (drop 1 line.words)) refused e
+
+-- an answer that stops for the same reason
+pub gives_err : {X Y : Type 0} (view : X → Y) (r : Result X ReadStop) (stop : ReadStop) (read : Result Y Refused) → IsErrAnd r (λ e. e ≡ stop) → Stops stop read → Gives view r read
+gives_err view (Ok x) stop read h s = absurd h
+gives_err view (Err e) stop read h s = subst (λ st. Stops st read) (sym h) s

@@ -5,7 +5,7 @@ use Rattle.cm_base.specs.Reading.{◌>>=◌}
 use Rattle.cm_base.specs.declared.faults.Refused.{Refused}
 use Rattle.cm_board.specs.Board.{BoardText}
 use Rattle.cm_board_text.specs.BoardPart.{board_of}
-use Rattle.cm_signal.specs.SignalsPart.{signals_at}
+use Rattle.cm_signal_text.specs.SignalsPart.{signals_at}
 use Rattle.cm_signal.specs.Bounds.{bounds_of}
 use Rattle.cm_signal.specs.Setting.{Setting}
 use Rattle.cm_session.specs.SessionPart.{session_of}

@@ -21,7 +21,7 @@ use cm_job::test_lines::read_tests;
 use cm_replay::job::Job;
 use cm_replay::replay::replay;
 use cm_session::reading::read_session;
-use cm_signal::reading::read_signals;
+use cm_signal_text::reading::read_signals;
 use cm_signal::signals::Signals;
 use std::alloc::Global;
 

@@ -22,7 +22,7 @@ use cm_job::loop_reading::read_loop;
 use cm_job::reading::{read_run, read_watch};
 use cm_loop::looping::loop_job;
 use cm_run::running::run_job;
-use cm_signal::reading::read_signals;
+use cm_signal_text::reading::read_signals;
 use cm_signal::signals::Signals;
 use cm_text::blocks::Blocks;
 use cm_watch::job::WatchJob;

@@ -19,7 +19,7 @@ use cm_job::whole::block_text;
 use cm_ring::open::open;
 use cm_ring_core::view::{End, EndKind};
 use cm_ring_tests::rule::rule_of;
-use cm_signal::reading::read_signals;
+use cm_signal_text::reading::read_signals;
 use std::alloc::Global;
 use std::sync::Wait;
 use std::test::Fail;

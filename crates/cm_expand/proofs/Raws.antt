@@ -3,7 +3,7 @@ use Rattle.std.proofs.Common.{◌≡◌, ℕ, zero, suc, ◌+◌, List, [], ◌�
 use Rattle.cm_board.specs.Munge.{unmunged}
 use Rattle.cm_sample.specs.Sample.{code_of}
 use Rattle.cm_signal.specs.Signals.{wave_level}
-use Rattle.cm_signal.specs.SignalsPart.{progression}
+use Rattle.cm_signal.specs.Adding.{progression}
 use Rattle.cm_expand.specs.Item.{moving_raw}
 use Rattle.cm_expand.specs.declared.moving.Moving.{Moving}
 

@@ -6,7 +6,7 @@ use Rattle.std.proofs.lemmas.Slice.{take-put_mid}
 use borrow.Rule.Slice.PartMut.{put_mid}
 use Rattle.std.proofs.Math.Seq.{take-add}
 use Rattle.cm_sample.specs.Rule.{map_from}
-use Rattle.cm_signal.specs.SignalsPart.{progression}
+use Rattle.cm_signal.specs.Adding.{progression}
 use Rattle.cm_expand.specs.Board.{IsBoard}
 use Rattle.cm_expand.specs.CourseView.{course_text}
 use Rattle.cm_expand.specs.Items.{conv_at, items_of, raw_at}

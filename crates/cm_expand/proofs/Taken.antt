@@ -9,7 +9,7 @@ use Rattle.std.proofs.lemmas.Option.{slice_get-get_or}
 use Rattle.std.proofs.Math.Nat.{mod-add-mod}
 use Rattle.std.proofs.Math.Seq.{take-add}
 use Rattle.cm_sample.specs.Rule.{map_from}
-use Rattle.cm_signal.specs.SignalsPart.{progression}
+use Rattle.cm_signal.specs.Adding.{progression}
 use Rattle.cm_signal.proofs.Progressions.{later_time}
 use Rattle.cm_expand.specs.Board.{IsBoard}
 use Rattle.cm_expand.specs.Course.{Course as CourseText, IsCourse, as_long_as, conversion, next_begin}

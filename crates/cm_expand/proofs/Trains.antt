@@ -2,7 +2,7 @@
 use Rattle.std.proofs.Common.{◌≡◌, ℕ, zero, suc, ◌+◌, ◌-◌, ◌*◌, ◌%◌, ◌^◌, ◌<◌, ◌≤◌, List, [], ◌∷◌, ◌++◌, length, Option, Some, true, refl, ap, sym, subst, ◌∙◌, arith, min, ◌/◌, mul-le-mul_right}
 use Rattle.std.specs.Prelude.{◌&&◌, Bool}
 use Rattle.std.proofs.lemmas.Bool.{eq-eqb}
-use Rattle.cm_signal.specs.SignalsPart.{progression}
+use Rattle.cm_signal.specs.Adding.{progression}
 use Rattle.cm_expand.specs.Course.{Course, Begins, Every, Converts, AtOnce, Spaced, IsCourse, as_long_as, begins_from, conversion, conversion_time, is_full, are_full, next_begin, up_to}
 use Rattle.cm_expand.specs.Spot.{IsCut, IsSpot, IsTick, begin_edges, convert_edges, full_from, rest_from, scans_from}
 use Rattle.cm_expand.specs.Train.{IsEven, IsTrain, IsWidth}

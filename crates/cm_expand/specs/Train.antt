@@ -1,6 +1,6 @@
 -- Conversions at even distances.
 use Rattle.std.specs.Prelude.{◌≡◌, ℕ, ◌+◌, ◌-◌, ◌*◌, ◌%◌, ◌<◌, ◌≤◌, ◌^◌, ◌++◌, [], Some}
-use Rattle.cm_signal.specs.SignalsPart.{progression}
+use Rattle.cm_signal.specs.Adding.{progression}
 use Rattle.cm_expand.specs.Course.{Course, Every, conversion_time, next_begin}
 use Rattle.cm_expand.specs.Extent.{IsExtent}
 use Rattle.cm_expand.specs.Spot.{IsSpot, convert_edges, full_from, rest_from}

@@ -7,7 +7,7 @@ use Rattle.cm_cmd.specs.declared.command.Trig.{Trig}
 use Rattle.cm_expand.specs.Plan.{PlanText}
 use Rattle.cm_expand.specs.declared.conv.Conv.{Conv}
 use Rattle.cm_signal.specs.Signals.{SignalsText}
-use Rattle.cm_signal.specs.SignalsPart.{silent}
+use Rattle.cm_signal.specs.Adding.{silent}
 use Rattle.cm_fifo.specs.Counts.{count_of}
 use Rattle.cm_fifo.specs.Handed.{handed_of}
 

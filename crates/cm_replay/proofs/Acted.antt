@@ -1,17 +1,14 @@
 -- What a line does with the subdevices of a session.
-use Rattle.std.proofs.Common.{◌≡◌, ℕ, ◌<◌, ◌≤◌, Bool, true, false, List, [], ◌∷◌, ◌++◌, length, get_or, set, Option, Some, None, Result, Ok, Err, OnOk, refl, sym, ap, ap₂, ◌∙◌, arith, subst}
-use Rattle.std.specs.Prelude.{◌||◌, ◌&&◌, not}
+use Rattle.std.proofs.Common.{◌≡◌, ℕ, ◌<◌, ◌≤◌, Bool, List, [], ◌∷◌, ◌++◌, length, get_or, set, Option, Some, None, Result, Ok, Err, OnOk, refl, sym, ap, ap₂, ◌∙◌, arith, subst}
 use Rattle.std.proofs.lemmas.List.{get_or_default, set-get_or}
 use Rattle.std.proofs.lemmas.Result.{on_ok_weaker}
-use Rattle.cm_board.specs.Board.{is_unused, no_sub, takes_commands}
+use Rattle.cm_board.specs.Board.{no_sub}
 use Rattle.cm_cmd.specs.Command.{CmdText}
-use Rattle.cm_sub.specs.Checks.{first_refusal, refuse}
+use Rattle.cm_sub.specs.Checks.{first_refusal}
 use Rattle.cm_sub.specs.Files.{FilesText, reach_checks}
 use Rattle.cm_sub.specs.declared.errno.Errno.{Errno}
-use Rattle.cm_sub.specs.declared.errno.Errno.TheVariants.{Io}
 use Rattle.cm_signal.specs.Setting.{Setting}
 use Rattle.cm_session.specs.declared.op.Op.{Op}
-use Rattle.cm_session.specs.declared.op.Op.TheVariants as ops
 use Rattle.cm_session.specs.declared.op.SessionLine.{SessionLine}
 use Rattle.cm_replay.specs.Answers.{Answer, Refused, Reply}
 use Rattle.cm_replay.specs.Forms.{form, is_of_command, kind_checks, line_checks, named_sub}
@@ -103,12 +100,3 @@ acted said s line state i h (Ok u) files device old new same index reached repli
       };
       reported = replies.reported ∙ ap (λ (r : Reply). old ++ said r.answer) reply ∙ sym (ap (λ (t : Outcome). old ++ said t.answer) led);
     }
-
-takes-if : (unused takes : Bool) → first_refusal (refuse Io (unused || (true && not takes)) ∷ []) ≡ None → takes ≡ true
-takes-if unused true fit = refl
-takes-if true false fit = absurd (cc)
-takes-if false false fit = absurd (cc)
-
--- a command's line that fits its subdevice has one that takes commands
-pub fit-takes : (op : Op) (cmd : CmdText) (h : Here) → op ≡ ops.Cmd cmd → first_refusal (kind_checks op h) ≡ None → takes_commands h.sub ≡ true
-fit-takes op cmd h is fit = takes-if (is_unused h.sub.kind) (takes_commands h.sub) (subst (λ (o : Op). first_refusal (kind_checks o h) ≡ None) is fit)

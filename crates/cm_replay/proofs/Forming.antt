@@ -1,14 +1,13 @@
 -- What a line comes to, by whether one of its checks refuses it.
-use Rattle.std.proofs.Common.{◌≡◌, ℕ, ◌-◌, ◌≤◌, Bool, true, false, List, [], ◌∷◌, ◌++◌, refl, sym, ap, ◌∙◌, arith, subst, Option, Some, None, Result, OnOk}
+use Rattle.std.proofs.Common.{◌≡◌, ℕ, ◌-◌, ◌≤◌, Bool, false, List, [], ◌∷◌, ◌++◌, sym, ap, ◌∙◌, arith, subst, Option, Some, None, Result, OnOk}
 use Rattle.std.specs.Prelude.{IfSome, nat_eq, not}
-use Rattle.std.proofs.lemmas.Result.{on_ok_weaker}
 use Rattle.std.proofs.lemmas.Bool.{eqb-true}
 use Rattle.cm_base.proofs.Bools.{not_false}
 use Rattle.cm_sub.specs.Checks.{first_refusal, refuse}
 use Rattle.cm_sub.specs.Files.{FilesText}
 use Rattle.cm_sub.specs.declared.errno.Errno.{Errno}
 use Rattle.cm_sub.specs.declared.errno.Errno.TheVariants.{Inval}
-use Rattle.cm_replay.specs.Answers.{Answer, Ended, Refused, Reply, idle, kept, unless_ended}
+use Rattle.cm_replay.specs.Answers.{Answer, Ended, Reply, idle, unless_ended}
 use Rattle.cm_replay.specs.Forms.{Form, reader_checks}
 use Rattle.cm_replay.specs.Reading.{mapped, on_running}
 use Rattle.cm_running.specs.Reading.{reported_end}
@@ -18,23 +17,12 @@ use Rattle.cm_replay.specs.Ready.{CanMove}
 use Rattle.cm_running.specs.Running.{Running, is_out}
 use Rattle.cm_board.specs.Board.{SubText, is_output}
 use Rattle.cm_replay.specs.State.{Device, Here}
-use Rattle.cm_replay.specs.Texts.{answer_text}
 use Rattle.cm_text.specs.declared.end.End.{End}
 use Rattle.cm_replay.proofs.Checks.{passes, passes-both}
 
 -- where no check refuses, the reply is the form's
 pub checked-ok : (f : Form) (h : Here) → first_refusal f.checks ≡ None → checked f h ≡ f.reply
 checked-ok f h passed = ap (λ (e : Option Errno). unless_kept e h f.reply) passed
-
--- where one does, the line is refused
-pub checked-err : (f : Form) (h : Here) (e : Errno) → first_refusal f.checks ≡ Some e → checked f h ≡ kept h (Refused e)
-checked-err f h e failed = ap (λ (x : Option Errno). unless_kept x h f.reply) failed
-
--- a line that is refused
-pub line-refused : {T E : Type 0} (f : Form) (h : Here) (e : Errno) (r : Result T E) (old new : List ℕ) → Some e ≡ first_refusal f.checks →
-    OnOk r (new ≡ old ++ answer_text (Refused e)) → OnOk r (Replies (checked f h) h.files h.device old new)
-line-refused f h e r old new failed text =
-    on_ok_weaker r (λ said. subst (λ (reply : Reply). Replies reply h.files h.device old new) (sym (checked-err f h e (sym failed))) (record { its_files = refl; its_device = refl; reported = said })) text
 
 -- a line that isn't
 pub line-done : {T E : Type 0} (f : Form) (h : Here) (r : Result T E) (files : FilesText) (device : Device) (old new : List ℕ) → None ≡ first_refusal f.checks →
@@ -76,8 +64,3 @@ its-direction spot number time (Some d) c out is ready direction =
 pub reads-input : (spot : Spot) (number time : ℕ) (running : Option Running) (c : Running) (rest : List (Option Errno)) → running ≡ Some c → CanMove spot number time running →
     first_refusal (refuse Inval (is_output spot.sub.kind) ∷ rest) ≡ None → is_out c.schedule ≡ false
 reads-input spot number time running c rest is ready passed = its-direction spot number time running c false is ready (passes Inval _ rest passed).0
-
--- a line that writes and isn't refused is one of an output
-pub writes-output : (spot : Spot) (number time : ℕ) (running : Option Running) (c : Running) (rest : List (Option Errno)) → running ≡ Some c → CanMove spot number time running →
-    first_refusal (refuse Inval (not (is_output spot.sub.kind)) ∷ rest) ≡ None → is_out c.schedule ≡ true
-writes-output spot number time running c rest is ready passed = its-direction spot number time running c true is ready (not_false _ (passes Inval _ rest passed).0)

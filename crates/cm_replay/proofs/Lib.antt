@@ -4,7 +4,6 @@ pub mod Checks
 pub mod Closings
 pub mod Counts
 pub mod Ends
-pub mod Fits
 pub mod Folds
 pub mod Foreign
 pub mod FormLaws

@@ -19,14 +19,14 @@ use Rattle.cm_session.specs.declared.op.Op.TheVariants as ops
 use Rattle.cm_session.specs.declared.op.SessionLine.{SessionLine}
 use Rattle.cm_replay.specs.Answers.{Data, Fine, Reply, unless_ended}
 use Rattle.cm_replay.specs.Calling.{cmd_reply, insn_reply, trigger_reply}
-use Rattle.cm_running.specs.Triggering.{trigger_on, waits}
+use Rattle.cm_running.specs.Triggering.{trigger_on}
 use Rattle.cm_replay.specs.Forms.{form, line_checks, named_sub}
 use Rattle.cm_replay.specs.Job.{JobText, setting_of}
 use Rattle.cm_replay.specs.Law.{HasPlaces, History, IsSoundJob, Keeps, Spot, no_history, spot_at}
 use Rattle.cm_running.specs.Running.{Running, Schedule, arrived, brought, collected, is_out, moved_on, put_out, served}
 use Rattle.cm_replay.specs.Reading.{look_reply, map_reply, on_running, read_reply, release_reply}
 use Rattle.cm_running.specs.Reading.{reported_end}
-use Rattle.cm_replay.specs.Ready.{AllCanMove, CanMove, IsReady, StaysReady}
+use Rattle.cm_replay.specs.Ready.{AllCanMove, CanMove, StaysReady}
 use Rattle.cm_running.specs.Schedules.{triggered}
 use Rattle.cm_replay.specs.Session.{Outcome, act, act_on, brought_all, brought_device, closed_state, here, step, with_reply}
 use Rattle.cm_replay.specs.State.{Device, Here, State, at_start, device_at, idle_device, plan_here}
@@ -34,7 +34,7 @@ use Rattle.cm_replay.specs.Writing.{fill_reply, mark_reply, write_reply}
 use Rattle.cm_text.specs.declared.end.End.{End}
 use Rattle.cm_expand.proofs.Come.{come-later}
 use Rattle.cm_replay.proofs.Counts.{either-way}
-use Rattle.cm_replay.proofs.Laws.{input, moves, output, served-in, served-out, stays, waits-early}
+use Rattle.cm_replay.proofs.Laws.{input, moves, output, served-in, served-out, stays}
 use Rattle.cm_replay.proofs.SessionLaws.{AllKeep, IsSoundState, all-brought, all-idle, device_at-brought, first-idle, left-at, reached, set-other, set-same, sound-brought, sound-start, sound-stepped, step-well}
 
 -- what holds of a command's plan
@@ -202,10 +202,6 @@ can-move spot number before time h (Some c) later by keeps called = record {
 -- the same of a subdevice that is there, whatever stands for one that isn't
 pub ready-at : (s : Setting) (time : ℕ) (state : State) (i : ℕ) (d : Device) → AllCanMove s time state → i < length state.devices → CanMove (spot_at s i) i time (get_or state.devices i d).running
 ready-at s time state i d all within = subst (λ (x : Device). CanMove (spot_at s i) i time x.running) (get_or_default state.devices i (idle_device no_sub) d within) (all i)
-
--- nothing was served of a command that waits for its trigger
-pub waits-unserved : (spot : Spot) (number time : ℕ) (c : Running) → IsReady spot number time c → waits time (Some c) ≡ true → served c ≡ 0
-waits-unserved spot number time c ready waiting = omega (arith, ready.come, ready.timely.early time (waits-early time c waiting))
 
 -- a lawful session stays ready
 stays_ready : (s : Setting) (time : ℕ) (histories : ℕ → History) (state : State) (lines : List SessionLine) → IsSoundState s state → AllKeep s time histories state.devices → AllPlans (IsCalled time) state.devices →

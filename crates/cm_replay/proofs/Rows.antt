@@ -13,7 +13,7 @@ use Rattle.cm_cmd.specs.Entry.{chan, range}
 use Rattle.cm_cmd.specs.declared.command.Trig.{Trig}
 use Rattle.cm_sample.specs.Sample.{micro_of}
 use Rattle.cm_signal.specs.Signals.{SignalsText}
-use Rattle.cm_signal.specs.SignalsPart.{silent}
+use Rattle.cm_signal.specs.Adding.{silent}
 use Rattle.cm_signal.specs.declared.wave.Wave.TheVariants as waves
 use Rattle.cm_sub.specs.Checks.{number_of}
 use Rattle.cm_signal.specs.Setting.{Setting}

@@ -8,7 +8,7 @@ use Rattle.std.proofs.lemmas.List.Elements.{All-append, All-nil, All-push}
 use Rattle.cm_board.specs.Board.{SubText, is_output}
 use Rattle.cm_signal.specs.Fitting.{FitBoard, HasChannel, HasSub}
 use Rattle.cm_signal.specs.Signals.{IsSoundSignals, SignalsText, is_at}
-use Rattle.cm_signal.specs.SignalsPart.{silent}
+use Rattle.cm_signal.specs.Adding.{silent}
 use Rattle.cm_signal.specs.declared.wave.WaveAt.{WaveAt}
 use Rattle.cm_signal.proofs.Grown.{more_waves, silent_sound}
 use Rattle.cm_test.specs.Accepting.{sub_at}

@@ -12,7 +12,7 @@ use Rattle.cm_board.specs.declared.board.Range.{Range}
 use Rattle.cm_cmd.specs.Command.{CmdText}
 use Rattle.cm_cmd.specs.Entry.{pack}
 use Rattle.cm_signal.specs.Signals.{SignalsText}
-use Rattle.cm_signal.specs.SignalsPart.{silent}
+use Rattle.cm_signal.specs.Adding.{silent}
 use Rattle.cm_signal.specs.declared.wave.Wave.TheVariants as waves
 use Rattle.cm_signal.specs.declared.wave.WaveAt.{WaveAt}
 use Rattle.cm_job.specs.Job.{RunJobText}

@@ -1,16 +1,14 @@
 -- When what is awaited comes.
-use Rattle.std.proofs.Common.{◌≡◌, ℕ, zero, suc, ◌+◌, ◌-◌, ◌≤◌, List, [], ◌∷◌, ◌++◌, length, min, take, drop, Bool, false, Option, Some, None, refl, sym, ap, ap₂, ◌∙◌, inl, inr, arith, append-nil, drop-drop, take-add, length-append, length-drop}
-use Rattle.std.specs.Prelude.{◌||◌, is_some, slice_get, option_map, if◌then◌else◌}
+use Rattle.std.proofs.Common.{◌≡◌, ℕ, zero, suc, ◌+◌, ◌-◌, ◌≤◌, List, [], ◌∷◌, ◌++◌, length, take, drop, Bool, Option, Some, None, refl, sym, ap, ◌∙◌, inl, inr, arith, append-nil, drop-drop, take-add, length-append, length-drop}
+use Rattle.std.specs.Prelude.{slice_get, option_map}
 use Rattle.std.proofs.lemmas.Bool.{cases_lt}
 use Rattle.std.proofs.lemmas.List.{take_all}
 use Rattle.cm_expand.specs.Taking.{come}
 use Rattle.cm_expand.specs.declared.conv.Conv.{Conv}
 use Rattle.cm_expand.proofs.Come.{come-first, come-later_first, come-le}
 use Rattle.cm_fifo.specs.Handed.{last_time, time_or}
-use Rattle.cm_running.specs.Awaiting.{await_time, deciding, is_served, last_after, quiet_after, quiet_time}
-use Rattle.cm_running.specs.Running.{Running}
+use Rattle.cm_running.specs.Awaiting.{last_after, quiet_after}
 use Rattle.cm_running.specs.ToCome.{ToCome}
-use Rattle.cm_text.specs.declared.end.End.{End}
 use Rattle.cm_running.proofs.Ahead.{first-left}
 use Rattle.cm_running.proofs.Takings.{take-more}
 
@@ -99,13 +97,3 @@ quiet-same t cs last horizon = by_parts t.conversions t.complete t.edge t.lost_a
     by_parts : (old : List Conv) (complete : Bool) (edge lost : Option ℕ) → quiet_after (record { conversions = cs; complete = complete; edge = edge; lost_at = lost }) last horizon ≡ quiet_after (record { conversions = old; complete = complete; edge = edge; lost_at = lost }) last horizon
     by_parts old complete edge None = refl
     by_parts old complete edge (Some at) = refl
-
--- the time of an await where what is awaited isn't there
-pub await-later : (n from : ℕ) (c : Running) (place time : ℕ) → is_served n c ≡ false → c.end ≡ None → place ≡ deciding n c →
-    time ≡ min c.schedule.horizon (time_or (quiet_time c.schedule) (slice_get c.schedule.arrivals place)) → time ≡ await_time n from (Some c)
-await-later n from c place time few none there is =
-    let s = c.schedule in
-    let later : ℕ = min s.horizon (time_or (quiet_time s) (slice_get s.arrivals (deciding n c))) in
-    is
-    ∙ ap (λ p. min s.horizon (time_or (quiet_time s) (slice_get s.arrivals p))) there
-    ∙ sym (ap₂ (λ b (e : Option End). if b || is_some e then from else later) few none)

@@ -1,14 +1,14 @@
 -- A command's fields against what contracts see.
-use Rattle.std.proofs.Common.{◌≡◌, ℕ, ◌+◌, ◌<◌, ◌≤◌, ◌^◌, Bool, true, false, List, [], length, drop, Option, None, sym, ap, ap₂, ◌∙◌, arith, subst, ◌-◌, ◌++◌, min, take, get_or, codes, length-drop, length-take, get_or-drop, get_or-take}
+use Rattle.std.proofs.Common.{◌≡◌, ℕ, ◌+◌, ◌<◌, ◌≤◌, ◌^◌, true, false, List, [], length, drop, Option, sym, ap, ap₂, ◌∙◌, arith, subst, ◌-◌, ◌++◌, min, take, get_or, codes, length-drop, length-take, get_or-drop, get_or-take}
 use Rattle.cm_ring_core.specs.Local.{Ring}
 use Rattle.cm_text.specs.Format.{IsSample, sample_lines}
 use Rattle.cm_running.specs.CommandView.{IsCommand, IsInStep, IsPaced, IsServed, its_schedule, running_of}
 use Rattle.cm_running.specs.Filling.{filled, moving}
-use Rattle.std.specs.Prelude.{nat_eq, ◌||◌, if◌then◌else◌}
+use Rattle.std.specs.Prelude.{if◌then◌else◌}
 use Rattle.std.proofs.lemmas.Bool.{cond-false, cond-true}
 use Rattle.cm_running.specs.Putting.{without}
-use Rattle.cm_running.specs.Reading.{reported_end, taken}
-use Rattle.cm_running.specs.Running.{Running, Schedule, arrived, collected, end_by, is_out, missed, samples, written_by}
+use Rattle.cm_running.specs.Reading.{taken}
+use Rattle.cm_running.specs.Running.{Schedule, arrived, collected, end_by, is_out, missed, samples, written_by}
 use Rattle.cm_running.specs.Texts.{taken_text}
 use Rattle.std.specs.Fmt.{decimal}
 use Rattle.cm_running.specs.ToCome.{ToCome, end_shown}
@@ -124,10 +124,3 @@ read-answer c command input unmapped n granted was = ap₂ (λ count words. code
     long_words : length words ≡ k
     long_words =
         omega (arith, step.within, command.planned.timely.within, length-take k (drop c.ring.r (samples (its_schedule c))), length-drop c.ring.r (samples (its_schedule c)), length-samples (its_schedule c))
-
--- an output reports its end, and an input where nothing is left, and only there
-pub reported-by : (c : Running) (out : Bool) → out ≡ is_out c.schedule → (out || nat_eq c.r c.w) ≡ true → c.end ≡ reported_end c
-reported-by c out same shows = sym (ap (λ (b : Bool). if b || nat_eq c.r c.w then c.end else None) (sym same) ∙ ap (λ (b : Bool). if b then c.end else None) shows)
-
-pub unreported-by : (c : Running) (out : Bool) → out ≡ is_out c.schedule → (out || nat_eq c.r c.w) ≡ false → None ≡ reported_end c
-unreported-by c out same hides = sym (ap (λ (b : Bool). if b || nat_eq c.r c.w then c.end else None) (sym same) ∙ ap (λ (b : Bool). if b then c.end else None) hides)

@@ -89,15 +89,6 @@ drained-same at t n old new edge is none next after =
         handed-enough f last horizon (length items) (drop (old.taken + n) items) (omega (arith, length-drop (old.taken + n) items))
         ∙ sym (handed-enough f last horizon m (drop (old.taken + n) items) few) ∙ ap (λ k. handed f last horizon m (drop k items)) place
 
--- an overflow too, and loses the next one
-pub lost-same : (at t : ℕ) (old new : FifoState) (edge : Option ℕ) → IsSoundFifo old → old.ready ≡ 0 → next_of old ≡ Overflows t → new ≡ record old { ready = old.fifo.depth; over = true } → to_hand_over t new edge ≡ to_hand_over at old edge
-lost-same at t old new edge is none next after =
-    ap (λ (b : FifoState). to_hand_over t b edge) after
-    ∙ ap (λ xs. let c : ToCome = record { conversions = xs; complete = is_complete old.plan; edge = edge; lost_at = Some t } in c) (append-nil (map (at_time t) (take old.fifo.depth (drop old.taken (items_of old.plan)))))
-    ∙ ap (λ xs. let c : ToCome = record { conversions = map (at_time t) (take old.fifo.depth xs); complete = is_complete old.plan; edge = edge; lost_at = Some t } in c) (sym (same-left old none))
-    ∙ sym (ap₂ (packed (is_complete old.plan) edge) (none-ready at old none)
-    (later-on at old (on_of old (Overflows t) next (λ x. cc)) ∙ ap (handed_after old.fifo old.plan (old.taken + old.ready)) (more-of old (overflows-left old t is next)) ∙ step-overflows old (length (items_of old.plan) - 1) t next))
-
 -- the first of some conversions that are handed over at a time
 first-at : (t n : ℕ) (xs ys : List Conv) → 1 ≤ n → 1 ≤ length xs → option_map (λ (c : Conv). c.time) (slice_get (map (at_time t) (take n xs) ++ ys) 0) ≡ Some t
 first-at t zero xs ys some there = absurd (omega arith)

@@ -1,5 +1,5 @@
 -- Commands of outputs, and commands before their first conversion.
-use Rattle.std.proofs.Common.{◌≡◌, ℕ, ◌+◌, ◌-◌, ◌<◌, ◌≤◌, ◌^◌, min, Bool, true, false, List, [], length, take, drop, Option, Some, None, refl, sym, ap, ap₂, ◌∙◌, arith, subst, drop-drop, length-drop}
+use Rattle.std.proofs.Common.{◌≡◌, ℕ, ◌+◌, ◌-◌, ◌<◌, ◌≤◌, ◌^◌, min, Bool, true, false, List, [], length, take, drop, Option, None, refl, sym, ap, ap₂, ◌∙◌, arith, subst, drop-drop, length-drop}
 use Rattle.std.specs.Prelude.{if◌then◌else◌}
 use Rattle.std.proofs.lemmas.Bool.{cond-true}
 use Rattle.cm_sample.specs.Rule.{RuleText, map_from, munged_word}
@@ -9,7 +9,7 @@ use Rattle.cm_ring_core.specs.Local.{IsFresh, IsRing, Ring}
 use Rattle.cm_running.specs.CommandView.{IsCommand, IsPaced, IsServed, its_schedule, running_of}
 use Rattle.cm_expand.specs.Taking.{come}
 use Rattle.cm_running.specs.Putting.{Moves, emptied, going, without}
-use Rattle.cm_running.specs.Running.{Running, Schedule, arrived, due, end_by, is_out, munge_in, outputs, put_by, put_out, samples, started}
+use Rattle.cm_running.specs.Running.{Schedule, arrived, due, end_by, is_out, munge_in, outputs, put_by, put_out, samples, started}
 use Rattle.cm_running.specs.ToCome.{ToCome, all_to_come, end_shown, left_after}
 use Rattle.cm_running.specs.declared.command.Command.TheInside.{Inside}
 use Rattle.cm_text.specs.declared.end.End.{End}
@@ -87,14 +87,6 @@ due-put c command output index time some runs =
   where
     unended : c.end ≡ None → due index time (running_of c) ≡ (if is_out (its_schedule c) then outputs index (take (put_by (running_of c) time - c.ring.r) (drop c.ring.r (its_schedule c).arrivals)) (if c.out then c.ring.held else []) else [])
     unended runs = rw runs refl
-
--- an input puts nothing out
-pub due-collected : (c : Running) (index time : ℕ) → is_out c.schedule ≡ false → due index time c ≡ []
-due-collected c index time input = by_end c.end refl
-  where
-    by_end : (e : Option End) → c.end ≡ e → due index time c ≡ []
-    by_end None runs = rw runs (rw input refl)
-    by_end (Some e) ended = rw ended refl
 
 -- an empty ring and a board before its first conversion serve a command
 pub fresh-served : (out : Bool) (s : Schedule) (ring : Ring) (board : ToCome) (rule : RuleText) (size : ℕ) → IsFresh ring rule size → munged_word rule ≡ munge_in s → size ≡ s.size → board ≡ all_to_come s → IsServed out s ring board

@@ -1,5 +1,5 @@
 -- Putting words out of a ring, one at a time.
-use Rattle.std.proofs.Common.{◌≡◌, ℕ, suc, ◌+◌, ◌-◌, ◌≤◌, List, [], ◌∷◌, ◌++◌, length, take, drop, refl, sym, ap, ap₂, ◌∙◌, arith, append_assoc, append-nil, drop-drop, length-drop}
+use Rattle.std.proofs.Common.{◌≡◌, ℕ, suc, ◌+◌, ◌-◌, ◌≤◌, List, [], ◌∷◌, ◌++◌, length, take, drop, refl, sym, ap, ap₂, ◌∙◌, arith, append_assoc, drop-drop, length-drop}
 use Rattle.std.specs.Prelude.{slice_index}
 use Rattle.cm_expand.specs.declared.conv.Conv.{Conv}
 use Rattle.cm_ring_core.specs.Local.{Ring}
@@ -49,25 +49,6 @@ pub reporting-some : (sub : ℕ) (ring put : Ring) (old : List Conv) (c : Conv) 
 reporting-some sub ring put old c rest time text more some held first early step said =
     ap₂ (λ t (p : Ring). t ++ reporting sub p rest time) said step ∙ append_assoc text (output_text (first_output sub c ring)) (reporting sub (less ring 1) rest time)
     ∙ ap (λ x. text ++ x) (reporting-next sub ring c rest time some held early ∙ ap (λ cs. reporting sub ring cs time) (sym first))
-
--- where nothing goes out, all stays
-pub emptied-none : (ring : Ring) (to_come : List Conv) (time : ℕ) → ring.ra ≡ ring.r → going ring to_come time ≡ 0 → ring ≡ emptied ring to_come time
-emptied-none ring to_come time unmapped nothing = same_ring _ _ refl refl (omega arith) (omega arith) refl refl refl refl (ap (λ n. drop n ring.held) (sym nothing))
-
-pub drop-none : (ring : Ring) (to_come : List Conv) (time : ℕ) → going ring to_come time ≡ 0 → to_come ≡ drop (going ring to_come time) to_come
-drop-none ring to_come time nothing = ap (λ n. drop n to_come) (sym nothing)
-
-pub reporting-none : (sub : ℕ) (ring : Ring) (to_come : List Conv) (time : ℕ) (text : List ℕ) → going ring to_come time ≡ 0 → text ≡ text ++ reporting sub ring to_come time
-reporting-none sub ring to_come time text nothing = sym (ap (λ n. text ++ output_texts (outputs sub (take n to_come) ring.held)) nothing ∙ append-nil text)
-
-pub moves-none : (ring : Ring) (board : ToCome) → ring.ra ≡ ring.r → Moves ring ring board board
-moves-none ring board unmapped = record {
-  count = 0;
-  few = omega arith;
-  come = omega arith;
-  ring = same_ring _ _ refl refl (omega arith) (omega arith) refl refl refl refl refl;
-  board = refl;
-}
 
 pub moves-more : (first ring put : Ring) (from before after : ToCome) (c : Conv) → Moves first ring from before → 1 ≤ ring.w - ring.r → before.conversions ≡ c ∷ after.conversions → after ≡ record before { conversions = after.conversions } → put ≡ less ring 1 → Moves first put from after
 moves-more first ring put from before after c moves some next same step = record {

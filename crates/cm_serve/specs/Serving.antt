@@ -4,7 +4,7 @@ use Rattle.cm_base.specs.Lines.{lines_of, raw_lines}
 use Rattle.cm_base.specs.Reading.{◌>>=◌}
 use Rattle.cm_base.specs.declared.faults.Refused.{Refused}
 use Rattle.cm_board_text.specs.BoardPart.{board_of}
-use Rattle.cm_signal.specs.SignalsPart.{signals_at}
+use Rattle.cm_signal_text.specs.SignalsPart.{signals_at}
 use Rattle.cm_signal.specs.Setting.{Setting}
 use Rattle.cm_text.specs.Declined.{refused_text}
 use Rattle.cm_serve.specs.Playing.{first_play}

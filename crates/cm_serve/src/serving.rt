@@ -15,7 +15,7 @@ use cm_board_text::reading::read_board;
 use cm_dialogue::client::Client;
 use cm_dialogue::heading::hear_head;
 use cm_dialogue::stop::{ServeStop, TalkStop};
-use cm_signal::reading::read_signals;
+use cm_signal_text::reading::read_signals;
 use cm_signal::signals::Signals;
 use cm_text::declining::refusal;
 use std::alloc::Global;

@@ -14,7 +14,7 @@ use Rattle.std.proofs.lemmas.List.{get_or-set_same, get_or-set_other, length-set
 use Rattle.cm_base.proofs.Bools.{both, neither, not_true}
 use Rattle.cm_signal.proofs.Waves.{is_wave}
 use Rattle.cm_signal.specs.Signals.{SignalsText, IsSoundSignals, IsWave, AreEdges, edge_count, have_own, is_at, recorded_count, recorded_in, times_at}
-use Rattle.cm_signal.specs.SignalsPart.{has_record_room, has_room, rises_from, silent, with_times}
+use Rattle.cm_signal.specs.Adding.{has_record_room, has_room, rises_from, silent, with_times}
 use Rattle.cm_signal.specs.Wave.{HasPeriod, is_fine}
 use Rattle.cm_signal.specs.declared.signals.IntAt.{IntAt}
 use Rattle.cm_signal.specs.declared.signals.Slope.{Slope}

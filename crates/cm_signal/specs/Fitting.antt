@@ -4,8 +4,8 @@ use Rattle.std.specs.List.{All}
 use Rattle.cm_board.specs.Board.{SubText}
 use Rattle.cm_signal.specs.Channel.{level_channels}
 use Rattle.cm_signal.specs.Signals.{SignalsText}
-use Rattle.cm_signal.specs.declared.said.SignalLine.{SignalLine}
-use Rattle.cm_signal.specs.declared.said.SignalLine.TheVariants as said
+use Rattle.cm_signal.specs.declared.signal_line.SignalLine.{SignalLine}
+use Rattle.cm_signal.specs.declared.signal_line.SignalLine.TheVariants as said
 use Rattle.cm_signal.specs.declared.signals.IntAt.{IntAt}
 use Rattle.cm_signal.specs.declared.wave.WaveAt.{WaveAt}
 

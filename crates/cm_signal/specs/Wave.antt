@@ -11,8 +11,8 @@ use Rattle.cm_board.specs.Versions.{is_wide}
 use Rattle.cm_signal.specs.Channel.{channel_words, period_word}
 use Rattle.cm_signal.specs.declared.quick.Kind.{Kind}
 use Rattle.cm_signal.specs.declared.quick.Kind.TheVariants as kinds
-use Rattle.cm_signal.specs.declared.said.SignalLine.{SignalLine}
-use Rattle.cm_signal.specs.declared.said.SignalLine.TheVariants as said
+use Rattle.cm_signal.specs.declared.signal_line.SignalLine.{SignalLine}
+use Rattle.cm_signal.specs.declared.signal_line.SignalLine.TheVariants as said
 use Rattle.cm_signal.specs.declared.wave.Wave.{Wave}
 use Rattle.cm_signal.specs.declared.wave.Wave.TheVariants.{Const, Square, Saw, Table, Record}
 

@@ -3,9 +3,9 @@ ghost use Rattle.std.specs.Prelude.{◌≡◌, ℕ, ◌<◌, ◌≤◌, ◌^◌,
 ghost use Rattle.std.specs.List.{list_all};
 ghost use Rattle.std.specs.List.Sorted.{IsStrictlyIncreasing};
 ghost use Rattle.cm_signal.specs.Signals.{edge_count, recorded_count};
-ghost use Rattle.cm_signal.specs.SignalsPart as part;
+ghost use Rattle.cm_signal.specs.Adding as part;
 
-use crate::said::SignalLine;
+use crate::signal_line::SignalLine;
 use crate::signals::{IntAt, Signals, Slope};
 use crate::wave::{Wave, WaveAt};
 use cm_base::faults::Fault;
@@ -19,7 +19,7 @@ impl Signals {
     ghost use Rattle.cm_base.specs.Reading.{seen};
     ghost use Rattle.cm_signal.specs.Said.{IsSaid};
     ghost use Rattle.cm_signal.specs.Signals.{SignalsText, edge_count, is_at, times_at};
-    ghost use Rattle.cm_signal.specs.SignalsPart.{checked, has_record_room, has_room, rises_from, silent, with_said, with_times};
+    ghost use Rattle.cm_signal.specs.Adding.{checked, has_record_room, has_room, rises_from, silent, with_said, with_times};
     ghost use Rattle.cm_signal.specs.Wave.{HasPeriod, is_fine};
 
     /// No wave, no edge and no trigger up to a horizon.

@@ -19,7 +19,7 @@ use cm_cmd::command::{Cmd, Trig};
 use cm_cmd::entry::pack;
 use cm_job::job::RunJob;
 use cm_job::line::{Access, Mode, RunLine};
-use cm_signal::said::SignalLine;
+use cm_signal::signal_line::SignalLine;
 use cm_signal::signals::Signals;
 use cm_signal::wave::{Wave, WaveAt};
 use cm_test::test::{Accepted, accept};

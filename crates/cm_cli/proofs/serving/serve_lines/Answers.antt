@@ -3,7 +3,7 @@ use Rattle.cm_base.specs.Lines.{LineText}
 use Rattle.cm_base.specs.Reading.{◌>>=◌}
 use Rattle.cm_base.specs.declared.faults.Refused.{Refused}
 use Rattle.cm_board.specs.Board.{BoardText}
-use Rattle.cm_signal.specs.SignalsPart.{signals_at}
+use Rattle.cm_signal_text.specs.SignalsPart.{signals_at}
 use Rattle.cm_cli.specs.Said.{Work, lines_said, session_said}
 use Rattle.cm_cli.specs.Serving.{Serves}
 use Rattle.cm_cli.specs.Stopped.{stop_of}

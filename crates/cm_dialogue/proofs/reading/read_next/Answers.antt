@@ -1,6 +1,6 @@
 use Rattle.std.proofs.Common.{Ok, false}
 use Rattle.cm_base.specs.LineView.{line_view}
-use Rattle.cm_signal.proofs.Parts.{gives_err}
+use Rattle.cm_base.proofs.Refusal.{gives_err}
 use Rattle.cm_session.proofs.Then.{then_reads, then_stops}
 use Rattle.cm_session.specs.SessionPart.{line_after}
 use Rattle.cm_dialogue.specs.declared.said.Said.TheVariants as says

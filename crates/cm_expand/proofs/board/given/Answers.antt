@@ -1,7 +1,7 @@
 use Rattle.std.proofs.Common.{◌≡◌, ◌+◌, ◌-◌, ◌*◌, ◌%◌, ◌^◌, ◌<◌, ◌≤◌, ℕ, length, drop, take, Some, refl, sym, ap, subst, ◌∙◌, arith, drop-drop, length-drop}
 use Rattle.std.proofs.lemmas.List.{length-take-le}
 use Rattle.cm_sample.specs.Rule.{map_from}
-use Rattle.cm_signal.specs.SignalsPart.{progression}
+use Rattle.cm_signal.specs.Adding.{progression}
 use Rattle.cm_expand.specs.Board.{IsBoard, progress_of}
 use Rattle.cm_expand.specs.Items.{conv_at, items_of}
 use Rattle.cm_expand.specs.PlanView.{plan_text}

@@ -1,6 +1,6 @@
 use Rattle.std.proofs.Common.{◌≡◌, ◌+◌, ◌-◌, ◌*◌, ◌^◌, ◌<◌, drop, length, map, take, drop-drop, length-drop, Some, refl, sym, ap, subst, ◌∙◌, arith}
 use Rattle.std.proofs.lemmas.List.{length-take-le}
-use Rattle.cm_signal.specs.SignalsPart.{progression}
+use Rattle.cm_signal.specs.Adding.{progression}
 use Rattle.cm_expand.specs.Board.{IsBoard, progress_of}
 use Rattle.cm_expand.specs.Items.{items_of, raw_at}
 use Rattle.cm_expand.specs.PlanView.{plan_text}

@@ -6,7 +6,7 @@ use Rattle.cm_base.proofs.Each.{stops-along}
 use Rattle.cm_base.proofs.Values.{at_line_ok}
 use Rattle.cm_board.specs.Board.{SubText}
 use Rattle.cm_cmd.specs.Command.{CmdText}
-use Rattle.cm_signal.proofs.Parts.{gives_err}
+use Rattle.cm_base.proofs.Refusal.{gives_err}
 use Rattle.cm_test.specs.Accepting.{passed}
 use Rattle.cm_test.specs.Questions.{tested}
 use Rattle.cm_job.specs.RunPart as spec

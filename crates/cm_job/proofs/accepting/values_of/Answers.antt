@@ -3,7 +3,7 @@ use Rattle.cm_base.proofs.Each.{stops-along}
 use Rattle.cm_board.specs.Board.{IsSoundSub}
 use Rattle.cm_cmd.specs.Command.{CmdText}
 use Rattle.cm_expand.proofs.Rules.{channels_there}
-use Rattle.cm_signal.proofs.Parts.{gives_err}
+use Rattle.cm_base.proofs.Refusal.{gives_err}
 use Rattle.cm_test.proofs.Passed.{passed}
 use Rattle.cm_job.proofs.Codes.{few-codes}
 use Rattle.cm_job.proofs.accepting.values_of.Goals as goal

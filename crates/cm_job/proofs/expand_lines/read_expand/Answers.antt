@@ -2,7 +2,7 @@ use Rattle.std.proofs.Common.{◌∙◌}
 use Rattle.cm_base.specs.LineView.{line_view}
 use Rattle.cm_base.specs.Words.{limited}
 use Rattle.cm_base.proofs.Each.{stops-along}
-use Rattle.cm_signal.proofs.Parts.{gives_err}
+use Rattle.cm_base.proofs.Refusal.{gives_err}
 use Rattle.cm_expand.specs.Totals.{has_room, length_of, length_of_all}
 use Rattle.cm_expand.proofs.Rooms.{room-found, room-stops}
 use Rattle.cm_job.specs.ExpandLines.{line_of, plan_of}

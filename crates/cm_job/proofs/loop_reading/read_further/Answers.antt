@@ -2,7 +2,7 @@ use Rattle.std.proofs.Common.{Err}
 use Rattle.cm_base.specs.LineView.{line_view}
 use Rattle.cm_base.specs.declared.faults.Fault.TheVariants.{Limit}
 use Rattle.cm_job.proofs.Steps.{then-stops}
-use Rattle.cm_signal.proofs.Parts.{gives_err}
+use Rattle.cm_base.proofs.Refusal.{gives_err}
 use Rattle.cm_signal.specs.Bounds.{bounds_of}
 use Rattle.cm_job.specs.LoopForms.{asked_of}
 use Rattle.cm_job.proofs.loop_reading.read_further.Goals as goal

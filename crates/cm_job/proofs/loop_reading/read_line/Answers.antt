@@ -6,7 +6,7 @@ use Rattle.cm_base.specs.Reading.{at_line}
 use Rattle.cm_base.specs.declared.faults.Fault.{Fault}
 use Rattle.cm_base.specs.declared.faults.Refused.{Refused}
 use Rattle.cm_job.proofs.Steps.{kept-by, then-reads, then-stops}
-use Rattle.cm_signal.proofs.Parts.{gives_err}
+use Rattle.cm_base.proofs.Refusal.{gives_err}
 use Rattle.cm_signal.specs.Bounds.{bounds_of}
 use Rattle.cm_job.proofs.LoopKept.{asked-from, loop-from}
 use Rattle.cm_job.specs.LoopForms.{asked_of}

@@ -2,7 +2,7 @@ use Rattle.std.proofs.Common.{◌<◌, ◌≤◌, Result, sym, subst, arith}
 use Rattle.cm_base.specs.LineView.{line_view}
 use Rattle.cm_base.specs.ReadStop.{Gives}
 use Rattle.cm_base.specs.declared.faults.Refused.{Refused}
-use Rattle.cm_signal.proofs.Parts.{gives_err}
+use Rattle.cm_base.proofs.Refusal.{gives_err}
 use Rattle.cm_signal.specs.Bounds.{bounds_of}
 use Rattle.cm_job.specs.Calls.{CanCall}
 use Rattle.cm_job.specs.RunPart as spec

@@ -2,7 +2,7 @@ use Rattle.std.proofs.Common.{rules, List, ℕ, map, Ok, ap, sym, ◌∙◌}
 use Rattle.cm_base.specs.LineView.{line_view}
 use Rattle.cm_base.proofs.Each.{stops-along}
 use Rattle.cm_cmd.specs.Command.{CmdText}
-use Rattle.cm_signal.proofs.Parts.{gives_err}
+use Rattle.cm_base.proofs.Refusal.{gives_err}
 use Rattle.cm_session.proofs.Then.{command_placed, command_read, command_stops}
 use Rattle.cm_session.proofs.forms.command_words.Goals as goal
 

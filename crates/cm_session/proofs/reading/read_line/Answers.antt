@@ -1,5 +1,5 @@
 use Rattle.cm_base.specs.LineView.{line_view}
-use Rattle.cm_signal.proofs.Parts.{gives_err}
+use Rattle.cm_base.proofs.Refusal.{gives_err}
 use Rattle.cm_session.proofs.Then.{line_before, line_read, line_stops}
 use Rattle.cm_session.proofs.reading.read_line.Goals as goal
 

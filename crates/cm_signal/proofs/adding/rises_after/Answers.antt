@@ -1,6 +1,6 @@
 use Rattle.std.proofs.Common.{◌+◌, ◌-◌, ◌<◌, length, sym, ◌∙◌, ap, arith}
 use Rattle.std.proofs.lemmas.Option.{get_or_from_slice_get, slice_get_within}
-use Rattle.cm_signal.specs.SignalsPart.{rises_from}
+use Rattle.cm_signal.specs.Adding.{rises_from}
 use Rattle.cm_signal.proofs.Grown.{rises_after_is}
 use Rattle.cm_signal.proofs.adding.rises_after.Goals as goal
 

@@ -1,5 +1,5 @@
 use Rattle.std.proofs.Common.{◌≡◌, drop}
-use Rattle.cm_signal.specs.SignalsPart.{rises_from}
+use Rattle.cm_signal.specs.Adding.{rises_from}
 use Rattle.cm_signal.proofs.adding.rises_from.Given as goal
 
 -- the times that are left have to rise from the least

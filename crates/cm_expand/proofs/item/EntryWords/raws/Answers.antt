@@ -1,5 +1,5 @@
 use Rattle.std.proofs.Common.{ap, sym, ◌∙◌, length, map}
-use Rattle.cm_signal.specs.SignalsPart.{progression}
+use Rattle.cm_signal.specs.Adding.{progression}
 use Rattle.cm_expand.specs.Item.{item_raw}
 use Rattle.cm_expand.specs.declared.item.EntryWords.{EntryWords}
 use Rattle.cm_expand.proofs.Raws.{same_at_all}

@@ -1,7 +1,7 @@
 use Rattle.std.proofs.Common.{ap, ◌∙◌, length, map, ℕ}
 use Rattle.std.proofs.lemmas.List.{length-take-le}
 use Rattle.cm_signal.specs.Signals.{wave_level}
-use Rattle.cm_signal.specs.SignalsPart.{progression}
+use Rattle.cm_signal.specs.Adding.{progression}
 use Rattle.cm_expand.proofs.Raws.{raws_at}
 use Rattle.cm_expand.proofs.moving.Moving.raws.Goals as goal
 

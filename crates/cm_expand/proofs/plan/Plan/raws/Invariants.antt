@@ -1,5 +1,5 @@
 use Rattle.std.proofs.Common.{◌≡◌, length, take, map}
-use Rattle.cm_signal.specs.SignalsPart.{progression}
+use Rattle.cm_signal.specs.Adding.{progression}
 use Rattle.cm_expand.specs.Items.{raw_at}
 use Rattle.cm_expand.specs.PlanView.{plan_text}
 use Rattle.cm_expand.proofs.plan.Plan.raws.Given as goal

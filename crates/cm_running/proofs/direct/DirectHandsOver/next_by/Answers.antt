@@ -1,8 +1,6 @@
 use Rattle.std.proofs.Common.{◌≡◌, refl, ap, sym, subst, ◌∙◌}
-use Rattle.std.specs.Prelude.{option_map, slice_get}
 use Rattle.cm_expand.specs.Items.{items_of}
 use Rattle.cm_expand.specs.Taking.{NeverFalls, come, left_of}
-use Rattle.cm_expand.specs.declared.conv.Conv.{Conv}
 use Rattle.cm_expand.proofs.Come.{NeverFalls-drop}
 use Rattle.cm_running.specs.ToCome.{GivesBy, ToCome}
 use Rattle.cm_running.proofs.Ahead.{first-left, left-next, time-left}

@@ -1,5 +1,5 @@
 use Rattle.std.proofs.Common.{◌≡◌, length, take, map}
-use Rattle.cm_signal.specs.SignalsPart.{progression}
+use Rattle.cm_signal.specs.Adding.{progression}
 use Rattle.cm_signal.proofs.quick.Quick.put_levels.Given as goal
 
 -- the levels so far

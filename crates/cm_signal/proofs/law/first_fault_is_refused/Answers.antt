@@ -1,5 +1,0 @@
-use Rattle.cm_signal.proofs.Refusal.{first_refused}
-use Rattle.cm_signal.proofs.law.first_fault_is_refused.Goals as goal
-
-pub returns : goal.returns
-returns c = first_refused

@@ -1,0 +1,8 @@
+// Laws about the text of signals.
+ghost use Rattle.cm_signal_text.specs.Refusal.{FirstIsRefused};
+
+/// What is refused is the first line that fails: no reading of the lines before it fails, and
+/// together with them it is refused by its cause.
+pub fn first_fault_is_refused()
+    ensures { FirstIsRefused }
+{}
