@@ -117,8 +117,8 @@ abbrev pub range_of : SubText → ℕ → ℕ → Range
 range_of sub chan index = slice_index_or (ranges_of sub chan) index (record { min = pos 0; max = pos 0; unit = 0 })
 
 -- the external line that an argument names: where lines can be inverted, bit 31 isn't part of its number
-abbrev pub line_of : SubText → ℕ → ℕ
-line_of sub arg = if sub.invert then arg % 2 ^ 31 else arg
+abbrev pub external_line : SubText → ℕ → ℕ
+external_line sub arg = if sub.invert then arg % 2 ^ 31 else arg
 
 -- whether an external argument asks for the falling edges of its line
 abbrev pub is_fall : SubText → ℕ → Bool

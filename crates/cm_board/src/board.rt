@@ -224,7 +224,7 @@ impl Model for Sub {
 impl Sub {
     ghost use Rattle.std.specs.Prelude.{◌≡◌, ◌<◌, ◌≤◌, ◌^◌, ◌<ℤ◌, IsTrue, length};
     ghost use Rattle.std.specs.List.{All};
-    ghost use Rattle.cm_board.specs.Board.{IsRange, is_fall, is_munge, line_of, maxdata_of, munge_of, range_count, range_of, ranges_of, takes_commands};
+    ghost use Rattle.cm_board.specs.Board.{IsRange, is_fall, is_munge, external_line, maxdata_of, munge_of, range_count, range_of, ranges_of, takes_commands};
 
     /// Whether the subdevice takes commands.
     pub fn takes_commands(&self) -> bool
@@ -286,8 +286,8 @@ impl Sub {
 
     /// The external line that an argument names: where the lines can be inverted, bit 31 isn't part
     /// of its number.
-    pub fn line_of(&self, arg: u32) -> u32
-        ensures { result ≡ line_of self.now arg }
+    pub fn external_line(&self, arg: u32) -> u32
+        ensures { result ≡ external_line self.now arg }
     {
         if self.invert { arg % 0x8000_0000 } else { arg }
     }

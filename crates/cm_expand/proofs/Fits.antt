@@ -3,7 +3,7 @@ use Rattle.std.proofs.Common.{◌≡◌, ℕ, ◌<◌, ◌≤◌, length, get_or
 use Rattle.std.specs.Prelude.{IfSome}
 use Rattle.std.proofs.lemmas.Bool.{eqb-true}
 use Rattle.std.proofs.lemmas.List.Elements.{All-get_or}
-use Rattle.cm_board.specs.Board.{SubText, IsSoundSub, line_of}
+use Rattle.cm_board.specs.Board.{SubText, IsSoundSub, external_line}
 use Rattle.cm_base.specs.Source as source
 use Rattle.cm_cmd.specs.Command.{CmdText}
 use Rattle.cm_test.specs.Passed.{IsEntry, IsPassed}
@@ -12,7 +12,7 @@ use Rattle.cm_expand.proofs.Codes.{code_is}
 use Rattle.cm_expand.specs.Fit.{IsFit, NamesLine}
 use Rattle.cm_expand.specs.Plan.{PlanText, IsPlan}
 
-line_below : (sub : SubText) (src arg : ℕ) → sub.lines ≤ 64 → (src ≡ source.ext → line_of sub arg < sub.lines) → NamesLine sub src arg
+line_below : (sub : SubText) (src arg : ℕ) → sub.lines ≤ 64 → (src ≡ source.ext → external_line sub arg < sub.lines) → NamesLine sub src arg
 line_below sub src arg few names = λ is. let below = names (eqb-true src source.ext is) in omega (arith, few, below)
 
 -- an entry of a list that passes

@@ -12,9 +12,9 @@ use Rattle.cm_test.specs.Law.{AreInside}
 use Rattle.cm_test.specs.Steps.{convert_limits, limited, scan_begin_limits, slowest_conversion, stop_limits}
 use Rattle.cm_test.proofs.Moved.{whole}
 use Rattle.cm_test.proofs.Passed.{passed}
-use Rattle.cm_expand.specs.Course.{AnyTime, AreBegins, AreConverts, AtOnce, Course, Every, OnEdges, PerEdge, Spaced, IsCourse, begins, first, times}
+use Rattle.cm_expand.specs.Timing.{AnyTime, AreBegins, AreConverts, AtOnce, Timing, Every, OnEdges, PerEdge, Spaced, IsTiming, begins, first, times}
 use Rattle.cm_expand.specs.Fit.{IsExpansion}
-use Rattle.cm_expand.specs.Plan.{IsPlan, PlanText, course_from, course_of, edge_since, edges_of, first_trigger, is_edge, is_trigger, slope_of, start_of, stop_edge_from, times_if, times_of}
+use Rattle.cm_expand.specs.Plan.{IsPlan, PlanText, timing_from, timing_of, edge_since, edges_of, first_trigger, is_edge, is_trigger, slope_of, start_of, stop_edge_from, times_if, times_of}
 use Rattle.cm_expand.proofs.Boards.{begins_short, scans_short}
 use Rattle.cm_expand.proofs.Fits.{fit}
 use Rattle.cm_expand.proofs.Order.{expansion}
@@ -96,8 +96,8 @@ until_within p start by =
 
 -- the edges of a line
 
-pub course_is : (p : PlanText) (start : ℕ) → IsSoundPlan p → start_of p ≡ Some start → IsCourse (course_from p start)
-course_is p start sound begun =
+pub timing_is : (p : PlanText) (start : ℕ) → IsSoundPlan p → start_of p ≡ Some start → IsTiming (timing_from p start)
+timing_is p start sound begun =
     let fits = fit p sound.sub sound.plan in
     let inside = (passed p.sub p.cmd sound.sub sound.plan.passed).inside in
     let most = most_by p.signals.horizon p.cmd.stop.arg (p.cmd.stop.src == source.count) sound.signals.horizon (λ counted. (fits.count counted, count_high p.sub p.cmd sound.sub inside counted)) in
@@ -106,28 +106,28 @@ course_is p start sound begun =
       until = until_within p start (start_within p start sound.plan.t0 begun);
       start = start_within p start sound.plan.t0 begun;
       begins = begins_by p.signals.horizon p.cmd.scan_begin.arg (p.cmd.scan_begin.src == source.timer) (p.cmd.scan_begin.src == source.ext) (edges_of p p.cmd.scan_begin.arg)
-          (λ timer. (fits.period timer, period_high p.sub p.cmd sound.sub inside timer)) (λ ext. line_edges p.signals (slope_of p.sub p.cmd.scan_begin.arg) (board.line_of p.sub p.cmd.scan_begin.arg) sound.signals (fits.begin_line ext));
+          (λ timer. (fits.period timer, period_high p.sub p.cmd sound.sub inside timer)) (λ ext. line_edges p.signals (slope_of p.sub p.cmd.scan_begin.arg) (board.external_line p.sub p.cmd.scan_begin.arg) sound.signals (fits.begin_line ext));
       converts = converts_by p.signals.horizon p.cmd.convert.arg (p.cmd.convert.src == source.timer) (p.cmd.convert.src == source.ext) (edges_of p p.cmd.convert.arg)
-          (λ timer. (fits.gap timer, gap_high p.sub p.cmd sound.sub inside timer)) (λ ext. line_edges p.signals (slope_of p.sub p.cmd.convert.arg) (board.line_of p.sub p.cmd.convert.arg) sound.signals (fits.convert_line ext));
+          (λ timer. (fits.gap timer, gap_high p.sub p.cmd sound.sub inside timer)) (λ ext. line_edges p.signals (slope_of p.sub p.cmd.convert.arg) (board.external_line p.sub p.cmd.convert.arg) sound.signals (fits.convert_line ext));
       some = fits.some;
       few = omega (arith, fits.few);
       most = most.0;
       not_more = most.1;
     }
 
-course_if : (p : PlanText) (start : Option ℕ) → IsSoundPlan p → start_of p ≡ start → IfSome (option_map (course_from p) start) IsCourse
-course_if p None sound e = tt
-course_if p (Some start) sound e = course_is p start sound e
+timing_if : (p : PlanText) (start : Option ℕ) → IsSoundPlan p → start_of p ≡ start → IfSome (option_map (timing_from p) start) IsTiming
+timing_if p None sound e = tt
+timing_if p (Some start) sound e = timing_is p start sound e
 
-same_horizon : (p : PlanText) (start : Option ℕ) → IfSome (option_map (course_from p) start) (λ c. c.horizon ≡ p.signals.horizon)
+same_horizon : (p : PlanText) (start : Option ℕ) → IfSome (option_map (timing_from p) start) (λ c. c.horizon ≡ p.signals.horizon)
 same_horizon p None = tt
 same_horizon p (Some start) = refl
 
 -- what the expansion of a sound plan keeps
 pub expansion_of : (p : PlanText) → IsSoundPlan p → IsExpansion p
-expansion_of p sound = expansion p (course_of p) refl (course_if p (start_of p) sound refl) (same_horizon p (start_of p)) (fit p sound.sub sound.plan)
+expansion_of p sound = expansion p (timing_of p) refl (timing_if p (start_of p) sound refl) (same_horizon p (start_of p)) (fit p sound.sub sound.plan)
 
-length-times : (c : Course) → IsCourse c → length (times c) ≤ 2 ^ 60
+length-times : (c : Timing) → IsTiming c → length (times c) ≤ 2 ^ 60
 length-times c is =
     let all = scans_short c (begins c) in
     let some : length (begins c) ≤ 2 ^ 50 = omega (arith, begins_short c c.most (first c c.start), is.not_more) in
@@ -135,10 +135,10 @@ length-times c is =
     let b = mul-le-mul_left (2 ^ 50) is.few in
     omega arith
 
-length-times_if : (o : Option Course) → IfSome o IsCourse → length (times_if o) ≤ 2 ^ 60
+length-times_if : (o : Option Timing) → IfSome o IsTiming → length (times_if o) ≤ 2 ^ 60
 length-times_if None is = omega arith
 length-times_if (Some c) is = length-times c is
 
 -- an expansion isn't long
 pub length-times_of : (p : PlanText) → IsSoundPlan p → length (times_of p) ≤ 2 ^ 60
-length-times_of p sound = length-times_if (course_of p) (course_if p (start_of p) sound refl)
+length-times_of p sound = length-times_if (timing_of p) (timing_if p (start_of p) sound refl)

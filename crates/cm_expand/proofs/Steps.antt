@@ -8,14 +8,14 @@ use Rattle.std.proofs.Math.Seq.{take-add}
 use Rattle.cm_sample.specs.Rule.{map_from}
 use Rattle.cm_signal.specs.Adding.{progression}
 use Rattle.cm_expand.specs.Board.{IsBoard}
-use Rattle.cm_expand.specs.CourseView.{course_text}
+use Rattle.cm_expand.specs.TimingView.{timing_text}
 use Rattle.cm_expand.specs.Items.{conv_at, items_of, raw_at}
 use Rattle.cm_expand.specs.Plan.{PlanText}
 use Rattle.cm_expand.specs.Steps.{steps_from}
 use Rattle.cm_expand.specs.Train.{IsTrain}
 use Rattle.cm_expand.specs.declared.conv.Conv.{Conv}
-use Rattle.cm_expand.specs.declared.course.Course.{Course}
-use Rattle.cm_expand.specs.declared.course.Spot.{Spot}
+use Rattle.cm_expand.specs.declared.timing.Timing.{Timing}
+use Rattle.cm_expand.specs.declared.timing.TimePoint.{TimePoint}
 use Rattle.cm_expand.specs.declared.train.Train.{Train}
 use Rattle.cm_expand.proofs.Taken.{left_train}
 
@@ -80,11 +80,11 @@ counted f place first step zero more = omega arith
 counted f place first step (suc n) more = let rest = counted f (suc place) (first + step) step n more in omega arith
 
 -- the conversions of a train that comes first
-pub record IsGivenFirst (p : PlanText) (place : ℕ) (left : List Conv) (s : Spot) (t : Train) : Type 0 where
+pub record IsGivenFirst (p : PlanText) (place : ℕ) (left : List Conv) (s : TimePoint) (t : Train) : Type 0 where
   pub conversions : take t.count left ≡ map_from (conv_at p) place (progression s.time t.step t.count)
   pub come : t.count ≤ length left
 
-pub given_first : (p : PlanText) (place k : ℕ) (c : Course) (s : Spot) (t : Train) → IsBoard p (place + k) (Ok (record { course = c; spot = s })) → IsTrain (course_text c) s t →
+pub given_first : (p : PlanText) (place k : ℕ) (c : Timing) (s : TimePoint) (t : Train) → IsBoard p (place + k) (Ok (record { timing = c; point = s })) → IsTrain (timing_text c) s t →
     IsGivenFirst p (place + k) (drop k (drop place (items_of p))) s t
 given_first p place k c s t is train =
     let left = left_train p place k c s t is train in
@@ -96,7 +96,7 @@ given_first p place k c s t is train =
     }
 
 -- the conversions so far, and then those of a train
-pub convs_and_more : (p : PlanText) (place at k n : ℕ) (s : Spot) (t : Train) (out convs : List Conv) → at ≤ length out → length convs ≡ t.count → n ≡ at + t.count →
+pub convs_and_more : (p : PlanText) (place at k n : ℕ) (s : TimePoint) (t : Train) (out convs : List Conv) → at ≤ length out → length convs ≡ t.count → n ≡ at + t.count →
     take at out ≡ take at (drop place (items_of p)) → convs ≡ map_from (conv_at p) (place + at) (progression s.time t.step t.count) → IsGivenFirst p (place + at) (drop at (drop place (items_of p))) s t →
     take n (put_mid at k out convs) ≡ take n (drop place (items_of p))
 convs_and_more p place at k n s t out convs within many all so_far these first =

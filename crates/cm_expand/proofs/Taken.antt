@@ -12,17 +12,17 @@ use Rattle.cm_sample.specs.Rule.{map_from}
 use Rattle.cm_signal.specs.Adding.{progression}
 use Rattle.cm_signal.proofs.Progressions.{later_time}
 use Rattle.cm_expand.specs.Board.{IsBoard}
-use Rattle.cm_expand.specs.Course.{Course as CourseText, IsCourse, as_long_as, conversion, next_begin}
-use Rattle.cm_expand.specs.CourseView.{course_text}
+use Rattle.cm_expand.specs.Timing.{Timing as TimingText, IsTiming, as_long_as, conversion, next_begin}
+use Rattle.cm_expand.specs.TimingView.{timing_text}
 use Rattle.cm_expand.specs.Item.{AreItems, item_raw}
 use Rattle.cm_expand.specs.Items.{conv_at, items_of, raw_at}
 use Rattle.cm_expand.specs.Plan.{PlanText, times_of}
-use Rattle.cm_expand.specs.Spot.{rest_from, scans_from}
+use Rattle.cm_expand.specs.TimePoint.{rest_from, scans_from}
 use Rattle.cm_expand.specs.Taking.{come_first, raw_words}
 use Rattle.cm_expand.specs.Train.{IsTrain}
 use Rattle.cm_expand.specs.declared.conv.Conv.{Conv}
-use Rattle.cm_expand.specs.declared.course.Course.{Course}
-use Rattle.cm_expand.specs.declared.course.Spot.{Spot}
+use Rattle.cm_expand.specs.declared.timing.Timing.{Timing}
+use Rattle.cm_expand.specs.declared.timing.TimePoint.{TimePoint}
 use Rattle.cm_expand.specs.declared.item.EntryWords.{EntryWords}
 use Rattle.cm_expand.specs.declared.item.EntryWords.TheVariants.{Same}
 use Rattle.cm_expand.specs.declared.train.Train.{Train}
@@ -49,18 +49,18 @@ by_item p items i words times are within by =
     at (Some other) item e same by = by ∙ same_raws (item_raw other) (raw_at p i) times (are.each i other same)
 
 -- the words of a train are far from the greatest number
-pub train_small : (c : Course) (s : Spot) (t : Train) → IsCourse (course_text c) → IsTrain (course_text c) s t → t.step < 2 ^ 32 → s.time + t.count * t.step < 2 ^ 64
-train_small c s t course is short =
+pub train_small : (c : Timing) (s : TimePoint) (t : Train) → IsTiming (timing_text c) → IsTrain (timing_text c) s t → t.step < 2 ^ 32 → s.time + t.count * t.step < 2 ^ 64
+train_small c s t timing is short =
     let some = is.some in
     let time = is.time in
-    let horizon = course.horizon in
+    let horizon = timing.horizon in
     let within = (up_to_is c.horizon _ t.last.time is.is.here).1 in
     let count : t.count ≡ suc (t.count - 1) = omega arith in
     let all : t.count * t.step ≡ suc (t.count - 1) * t.step = ap (λ n. n * t.step) count in
     omega arith
 
 -- each conversion of a train is of the same list entry
-pub entry_at : (p : PlanText) (place : ℕ) (c : Course) (s : Spot) (t : Train) → IsBoard p place (Ok (record { course = c; spot = s })) → IsTrain (course_text c) s t →
+pub entry_at : (p : PlanText) (place : ℕ) (c : Timing) (s : TimePoint) (t : Train) → IsBoard p place (Ok (record { timing = c; point = s })) → IsTrain (timing_text c) s t →
     (k : ℕ) → k < t.count → s.index ≡ (place + k) % length p.cmd.list
 entry_at p place c s t is train k below =
     sym (train.entry k below)
@@ -69,26 +69,26 @@ entry_at p place c s t is train k below =
     ∙ mod-add-mod place (length p.cmd.list) k
 
 -- a board that goes on to the last conversion of a train
-pub board_train : (p : PlanText) (place : ℕ) (c : Course) (s : Spot) (t : Train) → IsBoard p place (Ok (record { course = c; spot = s })) → IsTrain (course_text c) s t →
-    IsBoard p (place + (t.count - 1)) (Ok (record { course = c; spot = t.last }))
+pub board_train : (p : PlanText) (place : ℕ) (c : Timing) (s : TimePoint) (t : Train) → IsBoard p place (Ok (record { timing = c; point = s })) → IsTrain (timing_text c) s t →
+    IsBoard p (place + (t.count - 1)) (Ok (record { timing = c; point = t.last }))
 board_train p place c s t is train = record {
   expansion = is.expansion;
-  rest = sym (drop-drop (t.count - 1) place (times_of p)) ∙ ap (drop (t.count - 1)) left ∙ drop_at (progression s.time t.step (t.count - 1)) (rest_from (course_text c) t.last) (t.count - 1) (counted s.time t.step (t.count - 1));
+  rest = sym (drop-drop (t.count - 1) place (times_of p)) ∙ ap (drop (t.count - 1)) left ∙ drop_at (progression s.time t.step (t.count - 1)) (rest_from (timing_text c) t.last) (t.count - 1) (counted s.time t.step (t.count - 1));
   within =
       let some = ap (length {A = ℕ}) left in
       let inside = is.within in
-      omega (arith, length-drop place (times_of p), length-append (progression s.time t.step (t.count - 1)) (rest_from (course_text c) t.last), counted s.time t.step (t.count - 1));
+      omega (arith, length-drop place (times_of p), length-append (progression s.time t.step (t.count - 1)) (rest_from (timing_text c) t.last), counted s.time t.step (t.count - 1));
   full = is.full ∙ train.full;
   running = record {
     same = is.running.same;
-    course = is.running.course;
-    spot = train.is;
+    timing = is.running.timing;
+    point = train.is;
     per_scan = is.running.per_scan;
     index = train.index ∙ entry_at p place c s t is train (t.count - 1) (let some = train.some in omega arith);
   };
 }
   where
-    left : drop place (times_of p) ≡ progression s.time t.step (t.count - 1) ++ rest_from (course_text c) t.last
+    left : drop place (times_of p) ≡ progression s.time t.step (t.count - 1) ++ rest_from (timing_text c) t.last
     left = is.rest ∙ train.times
 
     counted : (first step n : ℕ) → length (progression first step n) ≡ n
@@ -96,7 +96,7 @@ board_train p place c s t is train = record {
     counted first step (suc n) = ap suc (counted (first + step) step n)
 
 -- the conversions that are left where a train comes first
-pub record IsLeft (p : PlanText) (place : ℕ) (left : List Conv) (s : Spot) (t : Train) : Type 0 where
+pub record IsLeft (p : PlanText) (place : ℕ) (left : List Conv) (s : TimePoint) (t : Train) : Type 0 where
   pub more : List ℕ
   pub is : left ≡ map_from (conv_at p) place (progression s.time t.step t.count ++ more)
 
@@ -105,11 +105,11 @@ drop-map_from f place zero xs = ap (λ k. map_from f k xs) (omega arith)
 drop-map_from f place (suc n) [] = refl
 drop-map_from f place (suc n) (x ∷ xs) = drop-map_from f (suc place) n xs ∙ ap (λ k. map_from f k (drop n xs)) (omega arith)
 
--- the times after that of a spot
-abbrev after : CourseText → Spot → List ℕ
+-- the times after that of a point
+abbrev after : TimingText → TimePoint → List ℕ
 after c s = as_long_as (conversion c s.begin) (suc s.index) (c.per_scan - s.index - 1) ++ scans_from c s.left (next_begin c s.begin)
 
-pub left_train : (p : PlanText) (place k : ℕ) (c : Course) (s : Spot) (t : Train) → IsBoard p (place + k) (Ok (record { course = c; spot = s })) → IsTrain (course_text c) s t →
+pub left_train : (p : PlanText) (place k : ℕ) (c : Timing) (s : TimePoint) (t : Train) → IsBoard p (place + k) (Ok (record { timing = c; point = s })) → IsTrain (timing_text c) s t →
     IsLeft p (place + k) (drop k (drop place (items_of p))) s t
 left_train p place k c s t is train = record {
   more = more;
@@ -118,7 +118,7 @@ left_train p place k c s t is train = record {
       ∙ drop-map_from (conv_at p) 0 (place + k) (times_of p)
       ∙ ap (λ n. map_from (conv_at p) n (drop (place + k) (times_of p))) there
       ∙ ap (map_from (conv_at p) (place + k))
-      (is.rest ∙ train.times ∙ ap (λ (xs : List ℕ). before ++ xs) (rest_step (course_text c) t.last train.is)
+      (is.rest ∙ train.times ∙ ap (λ (xs : List ℕ). before ++ xs) (rest_step (timing_text c) t.last train.is)
       ∙ ap (λ (time : ℕ). before ++ time ∷ more) train.time
       ∙ sym (append_assoc before (last ∷ []) more)
       ∙ ap (λ (xs : List ℕ). xs ++ more) (sym (later_time s.time t.step (t.count - 1)))
@@ -126,7 +126,7 @@ left_train p place k c s t is train = record {
 }
   where
     more : List ℕ
-    more = after (course_text c) t.last
+    more = after (timing_text c) t.last
 
     before : List ℕ
     before = progression s.time t.step (t.count - 1)
@@ -162,11 +162,11 @@ come_of_first p place first step (suc n) time more come =
     cond-true (nat_le first time) _ _ now ∙ omega arith
 
 -- the raw words of a train that comes first, and that all of it has come
-pub record IsTakenFirst (p : PlanText) (left : List Conv) (s : Spot) (t : Train) (time : ℕ) : Type 0 where
+pub record IsTakenFirst (p : PlanText) (left : List Conv) (s : TimePoint) (t : Train) (time : ℕ) : Type 0 where
   pub words : raw_words (take t.count left) ≡ map (raw_at p s.index) (progression s.time t.step t.count)
   pub come : come_first time left ≡ t.count + come_first time (drop t.count left)
 
-pub taken_first : (p : PlanText) (place k time : ℕ) (c : Course) (s : Spot) (t : Train) → IsBoard p (place + k) (Ok (record { course = c; spot = s })) → IsTrain (course_text c) s t → t.last.time ≤ time →
+pub taken_first : (p : PlanText) (place k time : ℕ) (c : Timing) (s : TimePoint) (t : Train) → IsBoard p (place + k) (Ok (record { timing = c; point = s })) → IsTrain (timing_text c) s t → t.last.time ≤ time →
     IsTakenFirst p (drop k (drop place (items_of p))) s t time
 taken_first p place k time c s t is train come =
     let left = left_train p place k c s t is train in
@@ -187,7 +187,7 @@ put_middle at n out words within many =
     omega (arith, length-append (take at out) (words ++ drop n (drop at out)), length-append words (drop n (drop at out)), length-take-le at out (omega arith), length-drop n (drop at out), length-drop at out)
 
 -- the words so far, and then those of a train
-pub words_and_more : (p : PlanText) (place at k n time : ℕ) (s : Spot) (t : Train) (out words : List ℕ) → at ≤ length out → length words ≡ t.count → n ≡ at + t.count →
+pub words_and_more : (p : PlanText) (place at k n time : ℕ) (s : TimePoint) (t : Train) (out words : List ℕ) → at ≤ length out → length words ≡ t.count → n ≡ at + t.count →
     take at out ≡ raw_words (take at (drop place (items_of p))) → words ≡ map (raw_at p s.index) (progression s.time t.step t.count) → IsTakenFirst p (drop at (drop place (items_of p))) s t time →
     take n (put_mid at k out words) ≡ raw_words (take n (drop place (items_of p)))
 words_and_more p place at k n time s t out words within many all so_far these first =

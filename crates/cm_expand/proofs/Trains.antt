@@ -3,24 +3,24 @@ use Rattle.std.proofs.Common.{◌≡◌, ℕ, zero, suc, ◌+◌, ◌-◌, ◌*�
 use Rattle.std.specs.Prelude.{◌&&◌, Bool}
 use Rattle.std.proofs.lemmas.Bool.{eq-eqb}
 use Rattle.cm_signal.specs.Adding.{progression}
-use Rattle.cm_expand.specs.Course.{Course, Begins, Every, Converts, AtOnce, Spaced, IsCourse, as_long_as, begins_from, conversion, conversion_time, is_full, are_full, next_begin, up_to}
-use Rattle.cm_expand.specs.Spot.{IsCut, IsSpot, IsTick, begin_edges, convert_edges, full_from, rest_from, scans_from}
+use Rattle.cm_expand.specs.Timing.{Timing, Begins, Every, Converts, AtOnce, Spaced, IsTiming, as_long_as, begins_from, conversion, conversion_time, is_full, are_full, next_begin, up_to}
+use Rattle.cm_expand.specs.TimePoint.{IsCut, IsTimePoint, IsTick, begin_edges, convert_edges, full_from, rest_from, scans_from}
 use Rattle.cm_expand.specs.Train.{IsEven, IsTrain, IsWidth}
-use Rattle.cm_expand.specs.declared.course.Spot.{Spot}
+use Rattle.cm_expand.specs.declared.timing.TimePoint.{TimePoint}
 use Rattle.cm_expand.proofs.Conversions.{up_to_is, up_to_some}
 use Rattle.cm_expand.proofs.Scans.{as_long_some, rest_step}
 use Rattle.cm_expand.proofs.Ticks.{ticks_later}
 use Rattle.cm_expand.proofs.Wholes.{extent_at_once, extent_spaced, next_tick}
 
 -- how long scans of one conversion take
-pub width_at_once : (c : Course) → c.converts ≡ AtOnce → IsWidth c 1
+pub width_at_once : (c : Timing) → c.converts ≡ AtOnce → IsWidth c 1
 width_at_once c is = record {
   at_begin = λ begin. ap (λ (v : Converts). conversion_time v begin 0) is;
   no_edges = ap convert_edges is;
   extent = extent_at_once c is;
 }
 
-pub width_spaced : (c : Course) (gap : ℕ) → c.converts ≡ Spaced gap → 1 ≤ gap → c.per_scan ≡ 1 → IsWidth c gap
+pub width_spaced : (c : Timing) (gap : ℕ) → c.converts ≡ Spaced gap → 1 ≤ gap → c.per_scan ≡ 1 → IsWidth c gap
 width_spaced c gap is some one = record {
   at_begin = λ begin. ap (λ (v : Converts). conversion_time v begin 0) is ∙ ap (λ t. Some t) (omega arith);
   no_edges = ap convert_edges is;
@@ -32,7 +32,7 @@ width_spaced c gap is some one = record {
 }
 
 -- each scan begins a period after the one before
-pub even : (c : Course) (period width : ℕ) → c.begins ≡ Every period → 1 ≤ period → period < 2 ^ 32 → c.per_scan ≡ 1 → IsWidth c width → width ≤ period → IsEven c period
+pub even : (c : Timing) (period width : ℕ) → c.begins ≡ Every period → 1 ≤ period → period < 2 ^ 32 → c.per_scan ≡ 1 → IsWidth c width → width ≤ period → IsEven c period
 even c period width is some short one wide fits = record {
   begins = is;
   some = some;
@@ -44,35 +44,35 @@ even c period width is some short one wide fits = record {
 }
 
 -- a conversion comes as its scan begins
-comes_at_begin : (c : Course) (begin i time : ℕ) → i ≡ 0 → conversion_time c.converts begin 0 ≡ Some begin → conversion c begin i ≡ Some time → time ≡ begin
+comes_at_begin : (c : Timing) (begin i time : ℕ) → i ≡ 0 → conversion_time c.converts begin 0 ≡ Some begin → conversion c begin i ≡ Some time → time ≡ begin
 comes_at_begin c begin i time first at here =
     let there : up_to c.horizon (conversion_time c.converts begin 0) ≡ Some time = subst (λ k. conversion c begin k ≡ Some time) first here in
     let same = (up_to_is c.horizon _ time there).0 in
     cc
 
--- a spot some periods later
-abbrev pub later : Spot → ℕ → ℕ → Spot
+-- a point some periods later
+abbrev pub later : TimePoint → ℕ → ℕ → TimePoint
 later s n period = record s { time = s.time + n * period; begin = s.begin + n * period; left = s.left - n }
 
-same_later : (s : Spot) (time begin left other_time other_begin other_left : ℕ) → time ≡ other_time → begin ≡ other_begin → left ≡ other_left →
-    let one : Spot = record s { time = time; begin = begin; left = left } in one ≡ record s { time = other_time; begin = other_begin; left = other_left }
+same_later : (s : TimePoint) (time begin left other_time other_begin other_left : ℕ) → time ≡ other_time → begin ≡ other_begin → left ≡ other_left →
+    let one : TimePoint = record s { time = time; begin = begin; left = left } in one ≡ record s { time = other_time; begin = other_begin; left = other_left }
 same_later s time begin left other_time other_begin other_left t b l =
-    ap (λ n. let one : Spot = record s { time = n; begin = begin; left = left } in one) t
-    ∙ ap (λ n. let one : Spot = record s { time = other_time; begin = n; left = left } in one) b
-    ∙ ap (λ n. let one : Spot = record s { time = other_time; begin = other_begin; left = n } in one) l
+    ap (λ n. let one : TimePoint = record s { time = n; begin = begin; left = left } in one) t
+    ∙ ap (λ n. let one : TimePoint = record s { time = other_time; begin = n; left = left } in one) b
+    ∙ ap (λ n. let one : TimePoint = record s { time = other_time; begin = other_begin; left = n } in one) l
 
--- a spot, its scan's only conversion, and a spot a period later
-pub record IsFollowed (c : Course) (s next : Spot) : Type 0 where
-  pub is : IsSpot c next
+-- a point, its scan's only conversion, and a point a period later
+pub record IsFollowed (c : Timing) (s next : TimePoint) : Type 0 where
+  pub is : IsTimePoint c next
   pub rest : rest_from c s ≡ s.time ∷ rest_from c next
   pub full : full_from c s ≡ full_from c next
 
 first_alone : (f : ℕ → Option ℕ) (i n : ℕ) → i ≡ 0 → as_long_as f i (n - i) ≡ as_long_as f 0 n
 first_alone f i n first = ap (λ k. as_long_as f k (n - k)) first ∙ ap (as_long_as f 0) (omega arith)
 
-pub followed : (c : Course) (s : Spot) (period : ℕ) → IsCourse c → IsEven c period → IsSpot c s → 1 ≤ s.left → s.begin + period < c.until →
+pub followed : (c : Timing) (s : TimePoint) (period : ℕ) → IsTiming c → IsEven c period → IsTimePoint c s → 1 ≤ s.left → s.begin + period < c.until →
     IsFollowed c s (record s { time = s.time + period; begin = s.begin + period; left = s.left - 1 })
-followed c s period course evenly is some inside = record {
+followed c s period timing evenly is some inside = record {
   is = record {
     index = is.index;
     here = ap (conversion c (s.begin + period)) first ∙ ap (up_to c.horizon) (evenly.at_begin (s.begin + period)) ∙ up_to_some c.horizon (s.begin + period) within ∙ ap (λ t. Some (t + period)) (sym same);
@@ -103,7 +103,7 @@ followed c s period course evenly is some inside = record {
     same = comes_at_begin c s.begin s.index s.time first (evenly.at_begin s.begin) is.here
 
     within : s.begin + period ≤ c.horizon
-    within = let until = course.until in omega arith
+    within = let until = timing.until in omega arith
 
     tick : (s.begin - c.start) % period ≡ 0
     tick = subst (λ (b : Begins). IsTick b c.start s.begin) evenly.begins is.begin.tick
@@ -138,36 +138,36 @@ followed c s period course evenly is some inside = record {
       above = λ k h l. absurd (omega arith);
     }
 
--- a spot, the conversions from it up to another one, and that one
-pub record IsReached (c : Course) (s last : Spot) (period n : ℕ) : Type 0 where
-  pub is : IsSpot c last
+-- a point, the conversions from it up to another one, and that one
+pub record IsReached (c : Timing) (s last : TimePoint) (period n : ℕ) : Type 0 where
+  pub is : IsTimePoint c last
   pub rest : rest_from c s ≡ progression s.time period n ++ rest_from c last
   pub full : full_from c s ≡ full_from c last
 
-reached_at : (c : Course) (s last : Spot) (period n : ℕ) → IsCourse c → IsEven c period → IsSpot c s → n ≤ s.left → s.begin + n * period < c.until → last ≡ later s n period → IsReached c s last period n
-reached_at c s last period zero course evenly is few inside there =
+reached_at : (c : Timing) (s last : TimePoint) (period n : ℕ) → IsTiming c → IsEven c period → IsTimePoint c s → n ≤ s.left → s.begin + n * period < c.until → last ≡ later s n period → IsReached c s last period n
+reached_at c s last period zero timing evenly is few inside there =
     let same : last ≡ s = there ∙ same_later s _ _ _ s.time s.begin s.left (omega arith) (omega arith) (omega arith) in
     record {
-      is = subst (IsSpot c) (sym same) is;
+      is = subst (IsTimePoint c) (sym same) is;
       rest = ap (rest_from c) (sym same);
       full = ap (full_from c) (sym same);
     }
-reached_at c s last period (suc n) course evenly is few inside there =
-    let next : Spot = record s { time = s.time + period; begin = s.begin + period; left = s.left - 1 } in
-    let one = followed c s period course evenly is (omega arith) (omega arith) in
+reached_at c s last period (suc n) timing evenly is few inside there =
+    let next : TimePoint = record s { time = s.time + period; begin = s.begin + period; left = s.left - 1 } in
+    let one = followed c s period timing evenly is (omega arith) (omega arith) in
     let same : last ≡ later next n period = there ∙ same_later s _ _ _ _ _ _ (omega arith) (omega arith) (omega arith) in
-    let others = reached_at c next last period n course evenly one.is (omega arith) (omega arith) same in
+    let others = reached_at c next last period n timing evenly one.is (omega arith) (omega arith) same in
     record {
       is = others.is;
       rest = one.rest ∙ ap (λ (xs : List ℕ). s.time ∷ xs) others.rest;
       full = one.full ∙ others.full;
     }
 
--- the train up to a spot some periods later
-pub train_to : (c : Course) (s : Spot) (period n count : ℕ) → IsCourse c → IsEven c period → IsSpot c s → n ≤ s.left → s.begin + n * period < c.until → count ≡ n + 1 →
+-- the train up to a point some periods later
+pub train_to : (c : Timing) (s : TimePoint) (period n count : ℕ) → IsTiming c → IsEven c period → IsTimePoint c s → n ≤ s.left → s.begin + n * period < c.until → count ≡ n + 1 →
     IsTrain c s (record { count = count; step = period; last = later s n period })
-train_to c s period n count course evenly is few inside counted =
-    let reached = reached_at c s (later s n period) period n course evenly is few inside refl in
+train_to c s period n count timing evenly is few inside counted =
+    let reached = reached_at c s (later s n period) period n timing evenly is few inside refl in
     let fewer : n ≡ count - 1 = omega arith in
     let one = evenly.one in
     let below = is.index in
@@ -181,10 +181,10 @@ train_to c s period n count course evenly is few inside counted =
       full = reached.full;
     }
 
--- a spot so many periods later begins in time
-pub begins_in_time : (c : Course) (s : Spot) (period time n : ℕ) → IsCourse c → IsEven c period → IsSpot c s → s.time ≤ time → n ≤ (min time (c.until - 1) - s.time) / period →
+-- a point so many periods later begins in time
+pub begins_in_time : (c : Timing) (s : TimePoint) (period time n : ℕ) → IsTiming c → IsEven c period → IsTimePoint c s → s.time ≤ time → n ≤ (min time (c.until - 1) - s.time) / period →
     (s.begin + n * period < c.until) × (s.time + n * period ≤ time)
-begins_in_time c s period time n course evenly is come few =
+begins_in_time c s period time n timing evenly is come few =
     let one = evenly.one in
     let below = is.index in
     let same = comes_at_begin c s.begin s.index s.time (omega arith) (evenly.at_begin s.begin) is.here in

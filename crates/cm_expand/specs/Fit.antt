@@ -1,6 +1,6 @@
 -- What holds of each plan, since its command passes the test of a sound subdevice.
 use Rattle.std.specs.Prelude.{◌≡◌, ℕ, ◌<◌, ◌≤◌, true, ◌==◌, length, slice_index}
-use Rattle.cm_board.specs.Board.{SubText, line_of, maxdata_of, munge_of, range_count}
+use Rattle.cm_board.specs.Board.{SubText, external_line, maxdata_of, munge_of, range_count}
 use Rattle.cm_base.specs.Source as source
 use Rattle.cm_cmd.specs.Entry.{chan, range}
 use Rattle.cm_board.specs.Munge.{munged}
@@ -17,7 +17,7 @@ pub record IsCodeAt (p : PlanText) (entry time : ℕ) : Type 0 where
 
 -- an external source names one of the 64 lines
 abbrev pub NamesLine : SubText → ℕ → ℕ → Type 0
-NamesLine sub src arg = (src == source.ext) ≡ true → line_of sub arg < 64
+NamesLine sub src arg = (src == source.ext) ≡ true → external_line sub arg < 64
 
 -- what the command of each plan keeps
 pub record IsFit (p : PlanText) : Type 0 where

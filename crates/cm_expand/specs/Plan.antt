@@ -2,7 +2,7 @@
 use Rattle.std.specs.Prelude.{◌≡◌, ℕ, ◌+◌, ◌-◌, ◌≤◌, ◌*◌, Bool, true, false, ◌&&◌, ◌||◌, ◌==◌, if◌then◌else◌, nat_le}
 use Rattle.std.specs.Prelude.{List, [], length, Option, Some, None, option_map, option_and_then, unwrap_or, is_some}
 use Rattle.std.specs.List.{list_any}
-use Rattle.cm_board.specs.Board.{SubText, is_fall, line_of}
+use Rattle.cm_board.specs.Board.{SubText, is_fall, external_line}
 use Rattle.cm_base.specs.Source as source
 use Rattle.cm_cmd.specs.Command.{CmdText}
 use Rattle.cm_test.specs.Questions.{tested}
@@ -10,8 +10,8 @@ use Rattle.cm_signal.specs.Signals.{SignalsText, times_at}
 use Rattle.cm_signal.specs.declared.signals.Slope.{Slope}
 use Rattle.cm_signal.specs.declared.signals.Slope.TheVariants as slopes
 use Rattle.cm_signal.specs.declared.signals.IntAt.{IntAt}
-use Rattle.cm_expand.specs.Course.{Course, Begins, Every, OnEdges, AnyTime, Converts, AtOnce, Spaced, PerEdge, least}
-use Rattle.cm_expand.specs.Course.{begins, are_full, times}
+use Rattle.cm_expand.specs.Timing.{Timing, Begins, Every, OnEdges, AnyTime, Converts, AtOnce, Spaced, PerEdge, least}
+use Rattle.cm_expand.specs.Timing.{begins, are_full, times}
 
 -- a command on the subdevice at a place of its board, which is called at `t0`, and maybe given a trigger
 pub record PlanText : Type 0 where
@@ -28,7 +28,7 @@ slope_of sub arg = if is_fall sub arg then slopes.Fall else slopes.Rise
 
 -- the edges that an external argument names
 abbrev pub edges_of : PlanText → ℕ → List ℕ
-edges_of p arg = times_at p.signals (slope_of p.sub arg) (line_of p.sub arg)
+edges_of p arg = times_at p.signals (slope_of p.sub arg) (external_line p.sub arg)
 
 -- whether a line has an edge at a time
 abbrev pub is_edge : List ℕ → ℕ → Bool
@@ -90,9 +90,9 @@ stop_edge_from p start = if p.cmd.stop.src == source.ext then edge_since p p.cmd
 abbrev pub stop_edge_of : PlanText → Option ℕ
 stop_edge_of p = option_and_then (stop_edge_from p) (start_of p)
 
--- the course of a command that starts at a time, whose scans begin before the stop edge where there is one
-abbrev pub course_from : PlanText → ℕ → Course
-course_from p start = record {
+-- the timing of a command that starts at a time, whose scans begin before the stop edge where there is one
+abbrev pub timing_from : PlanText → ℕ → Timing
+timing_from p start = record {
   start = start;
   begins = begins_of p;
   converts = converts_of p;
@@ -102,25 +102,25 @@ course_from p start = record {
   horizon = p.signals.horizon;
 }
 
--- the course of a command, if its start trigger comes
-abbrev pub course_of : PlanText → Option Course
-course_of p = option_map (course_from p) (start_of p)
+-- the timing of a command, if its start trigger comes
+abbrev pub timing_of : PlanText → Option Timing
+timing_of p = option_map (timing_from p) (start_of p)
 
--- the times of a course, and none without one
-abbrev pub times_if : Option Course → List ℕ
+-- the times of a timing, and none without one
+abbrev pub times_if : Option Timing → List ℕ
 times_if None = []
 times_if (Some c) = times c
 
 -- the times of the expansion
 abbrev pub times_of : PlanText → List ℕ
-times_of p = times_if (course_of p)
+times_of p = times_if (timing_of p)
 
 -- how many conversions a command with a stop count has when it is complete
 abbrev pub whole_count : PlanText → Option ℕ
 whole_count p = if p.cmd.stop.src == source.count then Some (p.cmd.stop.arg * length p.cmd.list) else None
 
--- whether all scans of a course have all their conversions; without a course no scan lacks one
-abbrev pub all_full : Option Course → Bool
+-- whether all scans of a timing have all their conversions; without a timing no scan lacks one
+abbrev pub all_full : Option Timing → Bool
 all_full None = true
 all_full (Some c) = are_full c (begins c)
 
@@ -128,7 +128,7 @@ all_full (Some c) = are_full c (begins c)
 -- without a count, whether there is a stop edge and all come of the scans that begin before it
 abbrev pub is_complete_by : Option ℕ → PlanText → Bool
 is_complete_by (Some count) p = length (times_of p) == count
-is_complete_by None p = is_some (stop_edge_of p) && all_full (course_of p)
+is_complete_by None p = is_some (stop_edge_of p) && all_full (timing_of p)
 
 -- whether the expansion has all conversions that the command is to make until it stops
 abbrev pub is_complete : PlanText → Bool

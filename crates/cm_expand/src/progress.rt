@@ -1,26 +1,26 @@
-// A course with its next conversion.
+// A timing with its next conversion.
 ghost use Rattle.cm_expand.specs.Board.{IsBoard, progress_of};
 ghost use Rattle.cm_expand.specs.PlanView.{plan_text};
 
-use crate::course::{Course, Next, Spot};
 use crate::plan::Plan;
+use crate::timing::{Next, TimePoint, Timing};
 
-/// A course with its next conversion.
+/// A timing with its next conversion.
 #[derive(Clone, Copy)]
 pub struct Progress<'a> {
-    pub course: Course<'a>,
-    pub spot: Spot,
+    pub timing: Timing<'a>,
+    pub point: TimePoint,
 }
 
-/// The course of a plan, and its first conversion.
-pub fn begun<'a>(plan: &Plan<'a>) -> (Option<Course<'a>>, Next)
+/// The timing of a plan, and its first conversion.
+pub fn begun<'a>(plan: &Plan<'a>) -> (Option<Timing<'a>>, Next)
     ensures { IsBoard (plan_text plan.now) 0 (progress_of result.0 result.1) }
 {
-    match plan.course() {
+    match plan.timing() {
         None => (None, Next::Done),
-        Some(course) => {
-            let spot = course.first_spot();
-            (Some(course), spot)
+        Some(timing) => {
+            let point = timing.first_point();
+            (Some(timing), point)
         }
     }
 }

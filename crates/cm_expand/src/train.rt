@@ -1,6 +1,6 @@
 // Conversions at even distances.
 
-use crate::course::{Begins, Converts, Course, Spot};
+use crate::timing::{Begins, Converts, TimePoint, Timing};
 
 /// Conversions of one list entry, of which each comes a step after the one before.
 #[derive(Clone, Copy)]
@@ -8,25 +8,25 @@ pub struct Train {
     pub count: usize,
     /// In nanoseconds.
     pub step: u64,
-    pub last: Spot,
+    pub last: TimePoint,
 }
 
-impl Course<'_> {
+impl Timing<'_> {
     ghost use Rattle.std.specs.Prelude.{◌≡◌, ◌<◌, ◌≤◌, ◌^◌, IfSome};
-    ghost use Rattle.cm_expand.specs.Course.{IsCourse};
-    ghost use Rattle.cm_expand.specs.CourseView.{course_text};
-    ghost use Rattle.cm_expand.specs.Spot.{IsSpot};
+    ghost use Rattle.cm_expand.specs.Timing.{IsTiming};
+    ghost use Rattle.cm_expand.specs.TimingView.{timing_text};
+    ghost use Rattle.cm_expand.specs.TimePoint.{IsTimePoint};
     ghost use Rattle.cm_expand.specs.Train.{IsEven, IsTrain, IsWidth};
 
-    /// The next conversions, from a spot on, that come at even distances and by a time: `most` of them
+    /// The next conversions, from a point on, that come at even distances and by a time: `most` of them
     /// at most, and one at least. Scans of several conversions give one alone, and so do edges.
     #[inline(always)]
-    pub(crate) fn train(&self, spot: &Spot, time: u64, most: usize) -> Train
-        requires course { IsCourse (course_text self.now) }
-        requires spot { IsSpot (course_text self.now) spot.now }
-        requires come { spot.now.time ≤ time }
+    pub(crate) fn train(&self, point: &TimePoint, time: u64, most: usize) -> Train
+        requires timing { IsTiming (timing_text self.now) }
+        requires point { IsTimePoint (timing_text self.now) point.now }
+        requires come { point.now.time ≤ time }
         requires some { 1 ≤ most }
-        ensures train { IsTrain (course_text self.now) spot.now result }
+        ensures train { IsTrain (timing_text self.now) point.now result }
         ensures most { result.count ≤ most }
         ensures come { result.last.time ≤ time }
         ensures step { result.step < 2 ^ 32 }
@@ -35,20 +35,20 @@ impl Course<'_> {
             return Train {
                 count: 1,
                 step: 0,
-                last: *spot,
+                last: *point,
             };
         };
         let limit = time.min(self.until - 1);
-        let most_after = spot.left.min(most as u64 - 1);
-        let after = ((limit - spot.time) / period).min(most_after);
+        let most_after = point.left.min(most as u64 - 1);
+        let after = ((limit - point.time) / period).min(most_after);
         Train {
             count: after as usize + 1,
             step: period,
-            last: Spot {
-                time: spot.time + after * period,
-                begin: spot.begin + after * period,
-                left: spot.left - after,
-                ..*spot
+            last: TimePoint {
+                time: point.time + after * period,
+                begin: point.begin + after * period,
+                left: point.left - after,
+                ..*point
             },
         }
     }
@@ -56,8 +56,8 @@ impl Course<'_> {
     // The period of scans of one conversion that each start a period after the one before.
     #[inline(always)]
     fn even_period(&self) -> Option<u64>
-        requires { IsCourse (course_text self.now) }
-        ensures { IfSome result (IsEven (course_text self.now)) }
+        requires { IsTiming (timing_text self.now) }
+        ensures { IfSome result (IsEven (timing_text self.now)) }
     {
         let Begins::Every(period) = self.begins else {
             return None;
@@ -72,9 +72,9 @@ impl Course<'_> {
     // How long a scan of one conversion takes, where no edges decide it.
     #[inline(always)]
     fn width(&self) -> Option<u64>
-        requires course { IsCourse (course_text self.now) }
+        requires timing { IsTiming (timing_text self.now) }
         requires one { self.now.per_scan ≡ 1 }
-        ensures { IfSome result (IsWidth (course_text self.now)) }
+        ensures { IfSome result (IsWidth (timing_text self.now)) }
     {
         match self.converts {
             Converts::AtOnce => Some(1),

@@ -9,7 +9,7 @@ use Rattle.cm_expand.specs.declared.conv.Conv.{Conv}
 use Rattle.cm_expand.proofs.Come.{come-drop, come-first, come-later, come-later_first, come-le, come-none, from_start}
 use Rattle.cm_expand.specs.Items.{items_of}
 use Rattle.cm_expand.specs.Plan.{PlanText}
-use Rattle.cm_fifo.specs.Handed.{Handed, and_then, at_time, coming, drain_time, handed, handed_by, handed_of, last_of, nothing, time_or, unless_lost}
+use Rattle.cm_fifo.specs.Handed.{Handed, and_then, at_time, next_event, drain_time, handed, handed_by, handed_of, last_of, nothing, time_or, unless_lost}
 use Rattle.cm_fifo.specs.Law.{IsHanded}
 use Rattle.cm_expand.proofs.Sound.{IsSoundPlan, expansion_of}
 use Rattle.cm_fifo.proofs.Lasts.{are_all}
@@ -133,7 +133,7 @@ module _ (f : Fifo) (last horizon low : ℕ) (c : Conv) (left : List Conv) (orde
   some_drained = omega (arith, come-first (drain_time f last horizon (c ∷ left)) c left above)
 
   one_step : (more : List Conv → Handed) → IsHandedFrom (drain_time f last horizon (c ∷ left)) horizon (drop (come (drain_time f last horizon (c ∷ left)) (c ∷ left)) (c ∷ left)) (more (drop (come (drain_time f last horizon (c ∷ left)) (c ∷ left)) (c ∷ left))) →
-      IsHandedFrom low horizon (c ∷ left) (handed_by (coming f last horizon (c ∷ left)) f.depth (c ∷ left) more)
+      IsHandedFrom low horizon (c ∷ left) (handed_by (next_event f last horizon (c ∷ left)) f.depth (c ∷ left) more)
   one_step more is = at (slice_get (c ∷ left) f.depth) refl
     where
       at : (o : Option Conv) → slice_get (c ∷ left) f.depth ≡ o → IsHandedFrom low horizon (c ∷ left) (handed_by (unless_lost o (drain_time f last horizon (c ∷ left)) (come (drain_time f last horizon (c ∷ left)) (c ∷ left))) f.depth (c ∷ left) more)

@@ -12,14 +12,14 @@ use Rattle.cm_expand.specs.declared.conv.Conv.{Conv}
 use Rattle.cm_expand.proofs.Come.{come-drop, come-le, come-none}
 use Rattle.cm_expand.proofs.Sound.{IsSoundPlan, expansion_of}
 use Rattle.cm_fifo.specs.Counts.{count_by, count_from, count_of, drain_at, loss_by, loss_from, loss_of, next_at}
-use Rattle.cm_fifo.specs.Handed.{Coming, Drains, Handed, Nothing, Overflows, at_time, coming, drain_time, handed, handed_after, handed_by, handed_of, last_of, time_or, unless_lost}
+use Rattle.cm_fifo.specs.Handed.{NextEvent, Drains, Handed, Nothing, Overflows, at_time, next_event, drain_time, handed, handed_after, handed_by, handed_of, last_of, time_or, unless_lost}
 use Rattle.cm_fifo.proofs.Arrivals.{above, handed-is}
 use Rattle.cm_fifo.proofs.Nexts.{is_next, IsNext}
 use Rattle.cm_fifo.proofs.Lasts.{are_all, are_left, AreLeft}
 use Rattle.cm_fifo.proofs.Lists.{come-append, come-at_time, come-before_time, found-come, get-drop, left-from}
 
 -- what comes next after a place, of the whole expansion
-abbrev whole : ℕ → Coming → Coming
+abbrev whole : ℕ → NextEvent → NextEvent
 whole q Nothing = Nothing
 whole q (Drains time count) = Drains time (q + count)
 whole q (Overflows time) = Overflows time
@@ -37,7 +37,7 @@ module _ (p : PlanText) (f : Fifo) (is : IsExpansion p) (q : ℕ) (within : q �
   same_drain = ap (λ o. min (time_or (last_of p) o + f.latency) p.signals.horizon) (sym (get-drop q (items_of p) (f.depth / 2 - 1)))
 
   -- what comes next, by places of the whole expansion
-  next-whole : next_at f p q ≡ whole q (coming f (last_of p) p.signals.horizon (drop q (items_of p)))
+  next-whole : next_at f p q ≡ whole q (next_event f (last_of p) p.signals.horizon (drop q (items_of p)))
   next-whole = at (drop q (items_of p)) refl
     where
       long : length (drop q (items_of p)) ≡ length (items_of p) - q
@@ -46,7 +46,7 @@ module _ (p : PlanText) (f : Fifo) (is : IsExpansion p) (q : ℕ) (within : q �
       are : AreLeft p (drop q (items_of p))
       are = are_left p q is within
 
-      at : (left : List Conv) → drop q (items_of p) ≡ left → next_at f p q ≡ whole q (coming f (last_of p) p.signals.horizon left)
+      at : (left : List Conv) → drop q (items_of p) ≡ left → next_at f p q ≡ whole q (next_event f (last_of p) p.signals.horizon left)
       at [] e = rw (le-ltb q (length (items_of p)) (omega (arith, ap length e, long))) refl
       at (x ∷ xs) e =
           let left_are : AreLeft p (x ∷ xs) = subst (AreLeft p) e are in
@@ -78,7 +78,7 @@ after_drain p f q count more = ap (handed f (last_of p) p.signals.horizon more) 
 
 module _ (p : PlanText) (f : Fifo) (is : IsExpansion p) (t more q : ℕ) (within : q ≤ length (items_of p)) (few : length (items_of p) ≤ q + suc more)
     (rest : (count : ℕ) → 1 ≤ count → q + count ≤ length (items_of p) → q + count + come t (handed_after f p (q + count) more).arrivals ≡ count_from f p t more (q + count)) where
-  count-step : (c : Coming) → IsNext f p.signals.horizon (drop q (items_of p)) c →
+  count-step : (c : NextEvent) → IsNext f p.signals.horizon (drop q (items_of p)) c →
       q + come t (handed_by c f.depth (drop q (items_of p)) (handed f (last_of p) p.signals.horizon more)).arrivals ≡ count_by (whole q c) t q f.depth (count_from f p t more)
   count-step Nothing facts = omega arith
   count-step (Drains time count) facts =
@@ -104,12 +104,12 @@ counts : (p : PlanText) (f : Fifo) → IsExpansion p → (t more q : ℕ) → q 
 counts p f is t zero q within few = omega arith
 counts p f is t (suc more) q within few =
     count-step p f is t more q within few (λ count some in_all. counts p f is t more (q + count) in_all (omega arith))
-    (coming f (last_of p) p.signals.horizon (drop q (items_of p))) (is_next p f (drop q (items_of p)) (are_left p q is within) (coming f (last_of p) p.signals.horizon (drop q (items_of p))) refl)
+    (next_event f (last_of p) p.signals.horizon (drop q (items_of p))) (is_next p f (drop q (items_of p)) (are_left p q is within) (next_event f (last_of p) p.signals.horizon (drop q (items_of p))) refl)
     ∙ ap (λ c. count_by c t q f.depth (count_from f p t more)) (sym (next-whole p f is q within))
 
 loss-step : (p : PlanText) (f : Fifo) (more q : ℕ) → q ≤ length (items_of p) →
     ((count : ℕ) → q + count ≤ length (items_of p) → (handed_after f p (q + count) more).lost_at ≡ loss_from f p more (q + count)) →
-    (c : Coming) → IsNext f p.signals.horizon (drop q (items_of p)) c → (handed_by c f.depth (drop q (items_of p)) (handed f (last_of p) p.signals.horizon more)).lost_at ≡ loss_by (whole q c) (loss_from f p more)
+    (c : NextEvent) → IsNext f p.signals.horizon (drop q (items_of p)) c → (handed_by c f.depth (drop q (items_of p)) (handed f (last_of p) p.signals.horizon more)).lost_at ≡ loss_by (whole q c) (loss_from f p more)
 loss-step p f more q within rest Nothing facts = refl
 loss-step p f more q within rest (Overflows time) facts = refl
 loss-step p f more q within rest (Drains time count) facts =
@@ -120,7 +120,7 @@ losses : (p : PlanText) (f : Fifo) → IsExpansion p → (more q : ℕ) → q �
 losses p f is zero q within = refl
 losses p f is (suc more) q within =
     loss-step p f more q within (λ count in_all. losses p f is more (q + count) in_all)
-    (coming f (last_of p) p.signals.horizon (drop q (items_of p))) (is_next p f (drop q (items_of p)) (are_left p q is within) (coming f (last_of p) p.signals.horizon (drop q (items_of p))) refl)
+    (next_event f (last_of p) p.signals.horizon (drop q (items_of p))) (is_next p f (drop q (items_of p)) (are_left p q is within) (next_event f (last_of p) p.signals.horizon (drop q (items_of p))) refl)
     ∙ ap (λ c. loss_by c (loss_from f p more)) (sym (next-whole p f is q within))
 
 -- for the whole expansion of a sound plan

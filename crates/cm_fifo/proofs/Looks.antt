@@ -11,7 +11,7 @@ use Rattle.cm_expand.specs.Taking.{come, left_of, NeverFalls}
 use Rattle.cm_expand.specs.declared.conv.Conv.{Conv}
 use Rattle.cm_expand.proofs.Come.{come-first, come-later_first, come-none, NeverFalls-drop}
 use Rattle.cm_expand.proofs.Taking.{drop-found, drop-missing}
-use Rattle.cm_fifo.specs.Handed.{Drains, Overflows, coming, drain_time, last_of, request, time_or, unless_lost, last_time, later}
+use Rattle.cm_fifo.specs.Handed.{Drains, Overflows, next_event, drain_time, last_of, request, time_or, unless_lost, last_time, later}
 use Rattle.cm_fifo.specs.Held.{ahead, drain_of, IsAsked, IsEarly, IsHeld}
 use Rattle.cm_fifo.proofs.Lasts.{are_all, are_left, AreLeft}
 use Rattle.cm_fifo.proofs.Lists.{come-append, come-by, come-min, first-come, found-come, get-after, none-come, get-drop, past_none, get-append}
@@ -97,16 +97,16 @@ last_request-is board cells time last edge complete h some none edge_is is whole
     ∙ ap (λ (b : Bool). if b then later (last_time (items_of board.plan)) (stop_edge_of board.plan) else board.plan.signals.horizon) (sym whole ∙ is)
 
 module _ (f : Fifo) (last horizon : ℕ) (cells rest : List Conv) (some : 1 ≤ length cells) where
-  coming-some : coming f last horizon (cells ++ rest) ≡ unless_lost (slice_get (cells ++ rest) f.depth) (drain_time f last horizon (cells ++ rest)) (come (drain_time f last horizon (cells ++ rest)) (cells ++ rest))
-  coming-some = at cells some
+  next_event-some : next_event f last horizon (cells ++ rest) ≡ unless_lost (slice_get (cells ++ rest) f.depth) (drain_time f last horizon (cells ++ rest)) (come (drain_time f last horizon (cells ++ rest)) (cells ++ rest))
+  next_event-some = at cells some
     where
-      at : (xs : List Conv) → 1 ≤ length xs → coming f last horizon (xs ++ rest) ≡ unless_lost (slice_get (xs ++ rest) f.depth) (drain_time f last horizon (xs ++ rest)) (come (drain_time f last horizon (xs ++ rest)) (xs ++ rest))
+      at : (xs : List Conv) → 1 ≤ length xs → next_event f last horizon (xs ++ rest) ≡ unless_lost (slice_get (xs ++ rest) f.depth) (drain_time f last horizon (xs ++ rest)) (come (drain_time f last horizon (xs ++ rest)) (xs ++ rest))
       at [] some = absurd (omega arith)
       at (x ∷ xs) some = refl
 
-  drains_next : (t : ℕ) → t ≡ drain_time f last horizon (cells ++ rest) → length cells ≤ f.depth → come t cells ≡ length cells → come t rest ≡ 0 → coming f last horizon (cells ++ rest) ≡ Drains t (length cells)
+  drains_next : (t : ℕ) → t ≡ drain_time f last horizon (cells ++ rest) → length cells ≤ f.depth → come t cells ≡ length cells → come t rest ≡ 0 → next_event f last horizon (cells ++ rest) ≡ Drains t (length cells)
   drains_next t is few all none =
-      coming-some
+      next_event-some
       ∙ ap (λ n. unless_lost (slice_get (cells ++ rest) f.depth) n (come n (cells ++ rest))) (sym is)
       ∙ ap (unless_lost (slice_get (cells ++ rest) f.depth) t) (come-append t cells rest ∙ (let sum : come t cells + come t rest ≡ length cells = omega arith in sum))
       ∙ at (slice_get (cells ++ rest) f.depth) refl
@@ -117,32 +117,32 @@ module _ (f : Fifo) (last horizon : ℕ) (cells rest : List Conv) (some : 1 ≤ 
           let late = none-come t (f.depth - length cells) rest c none (sym (get-after cells rest f.depth few) ∙ e) in
           rw (lt-leb c.time t late) refl
 
-  overflows_next : (t : ℕ) (c : Conv) (more : List Conv) → t ≡ drain_time f last horizon (cells ++ rest) → length cells ≡ f.depth → rest ≡ c ∷ more → c.time ≤ t → coming f last horizon (cells ++ rest) ≡ Overflows c.time
+  overflows_next : (t : ℕ) (c : Conv) (more : List Conv) → t ≡ drain_time f last horizon (cells ++ rest) → length cells ≡ f.depth → rest ≡ c ∷ more → c.time ≤ t → next_event f last horizon (cells ++ rest) ≡ Overflows c.time
   overflows_next t c more is full first by =
       let place : f.depth - length cells ≡ 0 = omega arith in
       let here : slice_get (cells ++ rest) f.depth ≡ Some c = get-after cells rest f.depth (omega arith) ∙ ap₂ slice_get first place in
-      coming-some
+      next_event-some
       ∙ ap (λ n. unless_lost (slice_get (cells ++ rest) f.depth) n (come n (cells ++ rest))) (sym is)
       ∙ ap (λ o. unless_lost o t (come t (cells ++ rest))) here
       ∙ rw (le-leb c.time t by) refl
 
 pub next_drains : (f : Fifo) (last horizon : ℕ) (left cells rest : List Conv) (t : ℕ) → cells ++ rest ≡ left → 1 ≤ length cells → t ≡ drain_time f last horizon left → length cells ≤ f.depth → come t cells ≡ length cells → come t rest ≡ 0 →
-    (coming f last horizon left ≡ Drains t (length cells)) × (1 ≤ length cells)
+    (next_event f last horizon left ≡ Drains t (length cells)) × (1 ≤ length cells)
 next_drains f last horizon left cells rest t same some is few all none =
-    (ap (coming f last horizon) (sym same) ∙ drains_next f last horizon cells rest some t (is ∙ ap (drain_time f last horizon) (sym same)) few all none, some)
+    (ap (next_event f last horizon) (sym same) ∙ drains_next f last horizon cells rest some t (is ∙ ap (drain_time f last horizon) (sym same)) few all none, some)
 
 pub next_overflows : (f : Fifo) (last horizon : ℕ) (left cells : List Conv) (board : BoardState) (t next : ℕ) → ahead board cells ≡ left → 1 ≤ length cells → t ≡ drain_time f last horizon left →
     (length cells ≡ f.depth) ⊎ (come t (left_of board) ≡ 0) → option_map (λ (c : Conv). c.time) (slice_get (items_of board.plan) board.place) ≡ Some next → next ≤ t →
-    (coming f last horizon left ≡ Overflows next) × (length cells ≡ f.depth)
+    (next_event f last horizon left ≡ Overflows next) × (length cells ≡ f.depth)
 next_overflows f last horizon left cells board t next same some is full e early =
     let here = found (slice_get (items_of board.plan) board.place) next e in
     let first : left_of board ≡ here.0 ∷ drop (suc board.place) (items_of board.plan) = drop-found (items_of board.plan) board.place here.0 here.1 in
     at full here.0 here.2 first
   where
-    at : (length cells ≡ f.depth) ⊎ (come t (left_of board) ≡ 0) → (c : Conv) → c.time ≡ next → left_of board ≡ c ∷ drop (suc board.place) (items_of board.plan) → (coming f last horizon left ≡ Overflows next) × (length cells ≡ f.depth)
+    at : (length cells ≡ f.depth) ⊎ (come t (left_of board) ≡ 0) → (c : Conv) → c.time ≡ next → left_of board ≡ c ∷ drop (suc board.place) (items_of board.plan) → (next_event f last horizon left ≡ Overflows next) × (length cells ≡ f.depth)
     at (inr none) c time first = absurd (omega (arith, come-first t c (drop (suc board.place) (items_of board.plan)) (omega arith), ap (come t) first))
     at (inl full) c time first =
-        (ap (coming f last horizon) (sym same) ∙ overflows_next f last horizon cells (left_of board) some t c (drop (suc board.place) (items_of board.plan)) (is ∙ ap (drain_time f last horizon) (sym same)) full first (omega arith) ∙ ap Overflows time, full)
+        (ap (next_event f last horizon) (sym same) ∙ overflows_next f last horizon cells (left_of board) some t c (drop (suc board.place) (items_of board.plan)) (is ∙ ap (drain_time f last horizon) (sym same)) full first (omega arith) ∙ ap Overflows time, full)
 
 -- nothing is ahead where nothing is held of a FIFO that is to be half full
 pub nothing_ahead : (f : Fifo) (board : BoardState) (cells : List Conv) → 2 ≤ f.depth → length cells ≡ 0 → IsAsked f board cells → ahead board cells ≡ []

@@ -7,18 +7,18 @@ use Rattle.cm_board.specs.declared.board.Fifo.{Fifo}
 use Rattle.cm_expand.specs.Plan.{PlanText}
 use Rattle.cm_expand.specs.Taking.{come}
 use Rattle.cm_expand.specs.declared.conv.Conv.{Conv}
-use Rattle.cm_fifo.specs.Handed.{Coming, Drains, Nothing, Overflows, coming, drain_time, last_of, unless_lost}
+use Rattle.cm_fifo.specs.Handed.{NextEvent, Drains, Nothing, Overflows, next_event, drain_time, last_of, unless_lost}
 use Rattle.cm_fifo.specs.State.{FifoState, IsSoundFifo, left_after, next_of}
 use Rattle.cm_fifo.proofs.Arrivals.{some_drained}
 use Rattle.cm_fifo.proofs.Lasts.{are_left, AreLeft}
 
 -- a drain is by the horizon, and of those that have come by its time, of which there are some; an overflow is by the horizon, and one more is left than the FIFO holds
-abbrev pub IsNext : Fifo → ℕ → List Conv → Coming → Type 0
+abbrev pub IsNext : Fifo → ℕ → List Conv → NextEvent → Type 0
 IsNext f horizon left Nothing = Unit {0}
 IsNext f horizon left (Drains time count) = (count ≡ come time left) × (1 ≤ count) × (time ≤ horizon)
 IsNext f horizon left (Overflows time) = (f.depth < length left) × (time ≤ horizon)
 
-drains-next : (f : Fifo) (horizon : ℕ) (left : List Conv) (time : ℕ) (c : Coming) → time ≤ horizon → 1 ≤ come time left → Drains time (come time left) ≡ c → IsNext f horizon left c
+drains-next : (f : Fifo) (horizon : ℕ) (left : List Conv) (time : ℕ) (c : NextEvent) → time ≤ horizon → 1 ≤ come time left → Drains time (come time left) ≡ c → IsNext f horizon left c
 drains-next f horizon left time Nothing by some e = absurd (cc)
 drains-next f horizon left time (Overflows t) by some e = absurd (cc)
 drains-next f horizon left time (Drains t count) by some e =
@@ -27,13 +27,13 @@ drains-next f horizon left time (Drains t count) by some e =
     let now : time ≡ t = cc in
     (same, omega arith, omega arith)
 
-overflows-next : (f : Fifo) (horizon : ℕ) (left : List Conv) (time : ℕ) (c : Coming) → time ≤ horizon → f.depth < length left → Overflows time ≡ c → IsNext f horizon left c
+overflows-next : (f : Fifo) (horizon : ℕ) (left : List Conv) (time : ℕ) (c : NextEvent) → time ≤ horizon → f.depth < length left → Overflows time ≡ c → IsNext f horizon left c
 overflows-next f horizon left time Nothing by more e = tt
 overflows-next f horizon left time (Overflows t) by more e = let now : time ≡ t = cc in (more, omega arith)
 overflows-next f horizon left time (Drains t count) by more e = absurd (cc)
 
 module _ (p : PlanText) (f : Fifo) where
-  pub is_next : (left : List Conv) → AreLeft p left → (c : Coming) → coming f (last_of p) p.signals.horizon left ≡ c → IsNext f p.signals.horizon left c
+  pub is_next : (left : List Conv) → AreLeft p left → (c : NextEvent) → next_event f (last_of p) p.signals.horizon left ≡ c → IsNext f p.signals.horizon left c
   is_next [] are Nothing e = tt
   is_next [] are (Drains time count) e = absurd (cc)
   is_next [] are (Overflows time) e = absurd (cc)
@@ -56,13 +56,13 @@ module _ (p : PlanText) (f : Fifo) where
           by_late false late e = drains-next f p.signals.horizon (x ∷ xs) (drain_time f (last_of p) p.signals.horizon (x ∷ xs)) c by_drain some e
 
 -- what comes next of a board, as far as it is a drain or an overflow
-pub step-next : (b : FifoState) → IsSoundFifo b → (c : Coming) → next_of b ≡ c → IsNext b.fifo b.plan.signals.horizon (left_after b) c
+pub step-next : (b : FifoState) → IsSoundFifo b → (c : NextEvent) → next_of b ≡ c → IsNext b.fifo b.plan.signals.horizon (left_after b) c
 step-next b is c e = by_over b.over refl c e
   where
     are : AreLeft b.plan (left_after b)
     are = are_left b.plan (b.taken + b.ready) is.expansion is.within
 
-    by_over : (over : Bool) → b.over ≡ over → (c : Coming) → (if over then Nothing else coming b.fifo (last_of b.plan) b.plan.signals.horizon (left_after b)) ≡ c → IsNext b.fifo b.plan.signals.horizon (left_after b) c
+    by_over : (over : Bool) → b.over ≡ over → (c : NextEvent) → (if over then Nothing else next_event b.fifo (last_of b.plan) b.plan.signals.horizon (left_after b)) ≡ c → IsNext b.fifo b.plan.signals.horizon (left_after b) c
     by_over false same c e = is_next b.plan b.fifo (left_after b) are c e
     by_over true same Nothing e = tt
     by_over true same (Drains time count) e = absurd (cc)

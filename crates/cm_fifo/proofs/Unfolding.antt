@@ -5,27 +5,27 @@ use Rattle.cm_board.specs.declared.board.Fifo.{Fifo}
 use Rattle.cm_expand.specs.Items.{items_of}
 use Rattle.cm_expand.specs.Taking.{come}
 use Rattle.cm_expand.specs.declared.conv.Conv.{Conv}
-use Rattle.cm_fifo.specs.Handed.{Coming, Drains, Handed, Nothing, Overflows, and_then, at_time, coming, handed, handed_after, handed_by, last_of, nothing, drain_time, unless_lost}
+use Rattle.cm_fifo.specs.Handed.{NextEvent, Drains, Handed, Nothing, Overflows, and_then, at_time, next_event, handed, handed_after, handed_by, last_of, nothing, drain_time, unless_lost}
 use Rattle.cm_fifo.specs.State.{FifoState, IsSoundFifo, left_after, next_of, time_of}
 
 module _ (f : Fifo) (last horizon : ℕ) where
   -- where nothing comes, nothing is handed over
-  pub handed-nothing : (more : ℕ) (left : List Conv) → coming f last horizon left ≡ Nothing → handed f last horizon more left ≡ nothing
+  pub handed-nothing : (more : ℕ) (left : List Conv) → next_event f last horizon left ≡ Nothing → handed f last horizon more left ≡ nothing
   handed-nothing zero left e = refl
   handed-nothing (suc more) left e = ap (λ c. handed_by c f.depth left (handed f last horizon more)) e
 
   -- a drain hands over so many, and others follow
-  pub handed-drains : (more : ℕ) (left : List Conv) (time count : ℕ) → coming f last horizon left ≡ Drains time count →
+  pub handed-drains : (more : ℕ) (left : List Conv) (time count : ℕ) → next_event f last horizon left ≡ Drains time count →
       handed f last horizon (suc more) left ≡ and_then time (take count left) (handed f last horizon more (drop count left))
   handed-drains more left time count e = ap (λ c. handed_by c f.depth left (handed f last horizon more)) e
 
   -- an overflow hands over all that the FIFO holds, and loses the next one
-  pub handed-overflows : (more : ℕ) (left : List Conv) (time : ℕ) → coming f last horizon left ≡ Overflows time →
+  pub handed-overflows : (more : ℕ) (left : List Conv) (time : ℕ) → next_event f last horizon left ≡ Overflows time →
       handed f last horizon (suc more) left ≡ record { arrivals = map (at_time time) (take f.depth left); lost_at = Some time }
   handed-overflows more left time e = ap (λ c. handed_by c f.depth left (handed f last horizon more)) e
 
   -- after a drain of none there is nothing
-  idle : (more : ℕ) (left : List Conv) (time : ℕ) → coming f last horizon left ≡ Drains time 0 → handed f last horizon more left ≡ nothing
+  idle : (more : ℕ) (left : List Conv) (time : ℕ) → next_event f last horizon left ≡ Drains time 0 → handed f last horizon more left ≡ nothing
   idle zero left time e = refl
   idle (suc more) left time e = handed-drains more left time 0 e ∙ ap (λ rest. and_then time [] rest) (idle more left time e)
 
@@ -34,9 +34,9 @@ module _ (f : Fifo) (last horizon : ℕ) where
   same_more zero n (c ∷ left) few few' = absurd (omega arith)
   same_more (suc m) zero [] few few' = refl
   same_more (suc m) zero (c ∷ left) few few' = absurd (omega arith)
-  same_more (suc m) (suc n) left few few' = at (coming f last horizon left) refl (λ k. same_more m n (drop (suc k) left) (omega (arith, length-drop (suc k) left)) (omega (arith, length-drop (suc k) left)))
+  same_more (suc m) (suc n) left few few' = at (next_event f last horizon left) refl (λ k. same_more m n (drop (suc k) left) (omega (arith, length-drop (suc k) left)) (omega (arith, length-drop (suc k) left)))
     where
-      at : (c : Coming) → coming f last horizon left ≡ c → ((k : ℕ) → handed f last horizon m (drop (suc k) left) ≡ handed f last horizon n (drop (suc k) left)) → handed f last horizon (suc m) left ≡ handed f last horizon (suc n) left
+      at : (c : NextEvent) → next_event f last horizon left ≡ c → ((k : ℕ) → handed f last horizon m (drop (suc k) left) ≡ handed f last horizon n (drop (suc k) left)) → handed f last horizon (suc m) left ≡ handed f last horizon (suc n) left
       at Nothing e rest = handed-nothing (suc m) left e ∙ sym (handed-nothing (suc n) left e)
       at (Overflows time) e rest = handed-overflows m left time e ∙ sym (handed-overflows n left time e)
       at (Drains time zero) e rest = idle (suc m) left time e ∙ sym (idle (suc n) left time e)
@@ -47,12 +47,12 @@ module _ (f : Fifo) (last horizon : ℕ) where
   handed-enough more left few = same_more more (length left) left few (omega arith)
 
 -- what comes next of a board that has not lost any
-next-coming : (b : FifoState) (over : Bool) → b.over ≡ over → over ≡ false → next_of b ≡ coming b.fifo (last_of b.plan) b.plan.signals.horizon (left_after b)
-next-coming b true e none = absurd (cc)
-next-coming b false e none = ap (λ (over : Bool). if over then Nothing else coming b.fifo (last_of b.plan) b.plan.signals.horizon (left_after b)) e
+next-next_event : (b : FifoState) (over : Bool) → b.over ≡ over → over ≡ false → next_of b ≡ next_event b.fifo (last_of b.plan) b.plan.signals.horizon (left_after b)
+next-next_event b true e none = absurd (cc)
+next-next_event b false e none = ap (λ (over : Bool). if over then Nothing else next_event b.fifo (last_of b.plan) b.plan.signals.horizon (left_after b)) e
 
 -- where something comes, none was lost
-pub not_over : (over : Bool) (c d : Coming) → (if over then Nothing else c) ≡ d → (d ≡ Nothing → ⊥) → over ≡ false
+pub not_over : (over : Bool) (c d : NextEvent) → (if over then Nothing else c) ≡ d → (d ≡ Nothing → ⊥) → over ≡ false
 not_over true c d e some = absurd (some (sym e))
 not_over false c d e some = refl
 
@@ -61,25 +61,25 @@ abbrev pub handed_later : FifoState → ℕ → Handed
 handed_later b more = handed_after b.fifo b.plan (b.taken + b.ready) more
 
 pub step-nothing : (b : FifoState) (more : ℕ) → b.over ≡ false → next_of b ≡ Nothing → handed_later b more ≡ nothing
-step-nothing b more none e = handed-nothing b.fifo (last_of b.plan) b.plan.signals.horizon more (left_after b) (sym (next-coming b b.over refl none) ∙ e)
+step-nothing b more none e = handed-nothing b.fifo (last_of b.plan) b.plan.signals.horizon more (left_after b) (sym (next-next_event b b.over refl none) ∙ e)
 
 pub step-drains : (b : FifoState) (more time count : ℕ) → next_of b ≡ Drains time count →
     handed_later b (suc more) ≡ and_then time (take count (left_after b)) (handed_after b.fifo b.plan (b.taken + b.ready + count) more)
 step-drains b more time count e =
-    let none : b.over ≡ false = not_over b.over (coming b.fifo (last_of b.plan) b.plan.signals.horizon (left_after b)) (Drains time count) e (λ x. cc) in
-    handed-drains b.fifo (last_of b.plan) b.plan.signals.horizon more (left_after b) time count (sym (next-coming b b.over refl none) ∙ e)
+    let none : b.over ≡ false = not_over b.over (next_event b.fifo (last_of b.plan) b.plan.signals.horizon (left_after b)) (Drains time count) e (λ x. cc) in
+    handed-drains b.fifo (last_of b.plan) b.plan.signals.horizon more (left_after b) time count (sym (next-next_event b b.over refl none) ∙ e)
     ∙ ap (λ left. and_then time (take count (left_after b)) (handed b.fifo (last_of b.plan) b.plan.signals.horizon more left)) (drop-drop count (b.taken + b.ready) (items_of b.plan))
 
 pub step-overflows : (b : FifoState) (more time : ℕ) → next_of b ≡ Overflows time →
     handed_later b (suc more) ≡ record { arrivals = map (at_time time) (take b.fifo.depth (left_after b)); lost_at = Some time }
 step-overflows b more time e =
-    let none : b.over ≡ false = not_over b.over (coming b.fifo (last_of b.plan) b.plan.signals.horizon (left_after b)) (Overflows time) e (λ x. cc) in
-    handed-overflows b.fifo (last_of b.plan) b.plan.signals.horizon more (left_after b) time (sym (next-coming b b.over refl none) ∙ e)
+    let none : b.over ≡ false = not_over b.over (next_event b.fifo (last_of b.plan) b.plan.signals.horizon (left_after b)) (Overflows time) e (λ x. cc) in
+    handed-overflows b.fifo (last_of b.plan) b.plan.signals.horizon more (left_after b) time (sym (next-next_event b b.over refl none) ∙ e)
 
 -- nothing comes only where nothing is left
-coming-nothing : (f : Fifo) (last horizon : ℕ) (left : List Conv) → coming f last horizon left ≡ Nothing → left ≡ []
-coming-nothing f last horizon [] e = refl
-coming-nothing f last horizon (c ∷ left) e = absurd (some (slice_get (c ∷ left) f.depth) e)
+next_event-nothing : (f : Fifo) (last horizon : ℕ) (left : List Conv) → next_event f last horizon left ≡ Nothing → left ≡ []
+next_event-nothing f last horizon [] e = refl
+next_event-nothing f last horizon (c ∷ left) e = absurd (some (slice_get (c ∷ left) f.depth) e)
   where
     by_time : (late : Bool) (time other count : ℕ) → (if late then Overflows time else Drains other count) ≡ Nothing → ⊥
     by_time true time other count e = cc
@@ -92,12 +92,12 @@ coming-nothing f last horizon (c ∷ left) e = absurd (some (slice_get (c ∷ le
 -- so all were taken where none was lost, none is ready and nothing comes
 pub all-taken : (b : FifoState) → IsSoundFifo b → b.over ≡ false → b.ready ≡ 0 → next_of b ≡ Nothing → b.taken ≡ length (items_of b.plan)
 all-taken b is none ready e =
-    let left : left_after b ≡ [] = coming-nothing b.fifo (last_of b.plan) b.plan.signals.horizon (left_after b) (sym (next-coming b b.over refl none) ∙ e) in
+    let left : left_after b ≡ [] = next_event-nothing b.fifo (last_of b.plan) b.plan.signals.horizon (left_after b) (sym (next-next_event b b.over refl none) ∙ e) in
     let count : length (left_after b) ≡ 0 = ap length left in
     omega (arith, length-drop (b.taken + b.ready) (items_of b.plan), is.within)
 
 -- where no time is given, nothing comes
-pub none-comes : (c : Coming) → time_of c ≡ None → c ≡ Nothing
+pub none-comes : (c : NextEvent) → time_of c ≡ None → c ≡ Nothing
 none-comes Nothing e = refl
 none-comes (Drains time count) e = absurd (cc)
 none-comes (Overflows time) e = absurd (cc)

@@ -13,10 +13,10 @@ pub record Handed : Type 0 where
   pub lost_at : Option ℕ
 
 -- what comes next: nothing, a drain at a time of so many conversions, or an overflow at a time
-pub data Coming : Type 0 where
-  Nothing : Coming
-  Drains : (time count : ℕ) → Coming
-  Overflows : (time : ℕ) → Coming
+pub data NextEvent : Type 0 where
+  Nothing : NextEvent
+  Drains : (time count : ℕ) → NextEvent
+  Overflows : (time : ℕ) → NextEvent
 
 -- a conversion that is handed over at a time
 abbrev pub at_time : ℕ → Conv → Conv
@@ -36,15 +36,15 @@ abbrev pub drain_time : Fifo → ℕ → ℕ → List Conv → ℕ
 drain_time f last horizon left = min (request f last left + f.latency) horizon
 
 -- a drain, unless a conversion that finds the FIFO full comes by its time
-abbrev pub unless_lost : Option Conv → ℕ → ℕ → Coming
+abbrev pub unless_lost : Option Conv → ℕ → ℕ → NextEvent
 unless_lost None time count = Drains time count
 unless_lost (Some c) time count = if nat_le c.time time then Overflows c.time else Drains time count
 
 -- what comes next where these conversions are left: a drain of all that have come by its time,
 -- or an overflow by the first one that the FIFO has no room for
-abbrev pub coming : Fifo → ℕ → ℕ → List Conv → Coming
-coming f last horizon [] = Nothing
-coming f last horizon (c ∷ left) =
+abbrev pub next_event : Fifo → ℕ → ℕ → List Conv → NextEvent
+next_event f last horizon [] = Nothing
+next_event f last horizon (c ∷ left) =
     unless_lost (slice_get (c ∷ left) f.depth) (drain_time f last horizon (c ∷ left))
     (come (drain_time f last horizon (c ∷ left)) (c ∷ left))
 
@@ -60,7 +60,7 @@ and_then time conversions rest = record {
 }
 
 -- what is handed over by what comes next and by the drains after it
-abbrev pub handed_by : Coming → ℕ → List Conv → (List Conv → Handed) → Handed
+abbrev pub handed_by : NextEvent → ℕ → List Conv → (List Conv → Handed) → Handed
 handed_by Nothing depth left later = nothing
 handed_by (Drains time count) depth left later = and_then time (take count left) (later (drop count left))
 handed_by (Overflows time) depth left later = record {
@@ -71,7 +71,8 @@ handed_by (Overflows time) depth left later = record {
 -- what is handed over of the conversions that are left, by so many drains at most
 abbrev pub handed : Fifo → ℕ → ℕ → ℕ → List Conv → Handed
 handed f last horizon zero left = nothing
-handed f last horizon (suc more) left = handed_by (coming f last horizon left) f.depth left (handed f last horizon more)
+handed f last horizon (suc more) left =
+    handed_by (next_event f last horizon left) f.depth left (handed f last horizon more)
 
 -- the time of the last conversion
 abbrev pub last_time : List Conv → ℕ

@@ -8,7 +8,7 @@ use Rattle.cm_expand.specs.Fit.{IsExpansion}
 use Rattle.cm_expand.specs.Items.{items_of}
 use Rattle.cm_expand.specs.Plan.{PlanText}
 use Rattle.cm_expand.specs.declared.conv.Conv.{Conv}
-use Rattle.cm_fifo.specs.Handed.{Coming, Nothing, Drains, Overflows, coming, last_of}
+use Rattle.cm_fifo.specs.Handed.{NextEvent, Nothing, Drains, Overflows, next_event, last_of}
 use Rattle.cm_fifo.specs.Held.{IsEarly, IsFilled, IsSize}
 use Rattle.cm_fifo.specs.declared.board.FifoStep.{FifoStep}
 use Rattle.cm_fifo.specs.declared.board.FifoStep.TheVariants as steps
@@ -30,17 +30,17 @@ abbrev pub left_after : FifoState → List Conv
 left_after b = drop (b.taken + b.ready) (items_of b.plan)
 
 -- what comes next; after an overflow nothing does
-abbrev pub next_of : FifoState → Coming
-next_of b = if b.over then Nothing else coming b.fifo (last_of b.plan) b.plan.signals.horizon (left_after b)
+abbrev pub next_of : FifoState → NextEvent
+next_of b = if b.over then Nothing else next_event b.fifo (last_of b.plan) b.plan.signals.horizon (left_after b)
 
 -- when it comes
-abbrev pub time_of : Coming → Option ℕ
+abbrev pub time_of : NextEvent → Option ℕ
 time_of Nothing = None
 time_of (Drains time count) = Some time
 time_of (Overflows time) = Some time
 
 -- nothing comes up to a time
-abbrev pub IsLater : Coming → ℕ → Type 0
+abbrev pub IsLater : NextEvent → ℕ → Type 0
 IsLater Nothing to = Unit {0}
 IsLater (Drains time count) to = to < time
 IsLater (Overflows time) to = to < time
@@ -68,7 +68,7 @@ pub record IsSoundFifo (b : FifoState) : Type 0 where
   pub drains : b.drains ≤ b.taken + b.ready
 
 -- what was found by a look, where so many are held
-abbrev pub IsLook : Look → Coming → ℕ → ℕ → Type 0
+abbrev pub IsLook : Look → NextEvent → ℕ → ℕ → Type 0
 IsLook looks.Nothing c count depth = c ≡ Nothing
 IsLook (looks.Drains time) c count depth = (c ≡ Drains time count) × (1 ≤ count)
 IsLook (looks.Overflows time) c count depth = (c ≡ Overflows time) × (count ≡ depth)

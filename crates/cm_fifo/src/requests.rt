@@ -2,7 +2,7 @@
 ghost use Rattle.std.specs.Prelude.{◌≡◌, ◌<◌, [], length, slice_get, None, IfSome, IfNone};
 ghost use Rattle.cm_expand.specs.Items.{items_of};
 ghost use Rattle.cm_expand.specs.Plan.{stop_edge_of};
-ghost use Rattle.cm_fifo.specs.Handed.{coming, last_of, last_time, later, request};
+ghost use Rattle.cm_fifo.specs.Handed.{next_event, last_of, last_time, later, request};
 ghost use Rattle.cm_fifo.specs.Held.{ahead, drain_of, IsAsked, IsEarly, IsFilled, IsHeld};
 ghost use Rattle.cm_fifo.specs.State.{IsLook};
 
@@ -109,7 +109,7 @@ pub fn look_ahead(
     ensures same { ahead board.new cells.new.items ≡ ahead board.old cells.old.items }
     ensures plan { board.new.plan ≡ board.old.plan }
     ensures early { IsEarly fifo.now board.new cells.new.items }
-    ensures next { IsLook result (coming fifo.now (last_of board.old.plan) board.old.plan.signals.horizon (ahead board.old cells.old.items)) (length cells.new.items) fifo.now.depth }
+    ensures next { IsLook result (next_event fifo.now (last_of board.old.plan) board.old.plan.signals.horizon (ahead board.old cells.old.items)) (length cells.new.items) fifo.now.depth }
 {
     let Some(time) = time_of_drain(board, cells, fifo, horizon, edge) else {
         return Look::Nothing;

@@ -1,13 +1,13 @@
--- Courses of the same pace, one of which starts later than the other.
+-- Timings of the same pace, one of which starts later than the other.
 use Rattle.std.proofs.Common.{◌≡◌, ℕ, zero, suc, ◌+◌, ◌-◌, ◌*◌, ◌%◌, ◌<◌, ◌≤◌, Bool, true, List, [], ◌∷◌, ◌++◌, refl, sym, ap, ◌∙◌, subst, Option, Some, arith, mul-le-mul_right}
 use Rattle.std.specs.Prelude.{◌&&◌, nat_lt, option_and_then}
 use Rattle.std.proofs.Math.Nat.{mod_self, zero-mod}
 use Rattle.std.proofs.lemmas.Bool.{lt-ltb}
 use Rattle.cm_sample.specs.Rule.{map_from}
-use Rattle.cm_expand.specs.Course.{Course, Begins, Converts, AtOnce, Spaced, PerEdge, IsCourse, AreBegins, AreConverts, up_to, conversion, conversion_time, before_none, as_long_as, scan, scan_end, first, next_begin, times}
+use Rattle.cm_expand.specs.Timing.{Timing, Begins, Converts, AtOnce, Spaced, PerEdge, IsTiming, AreBegins, AreConverts, up_to, conversion, conversion_time, before_none, as_long_as, scan, scan_end, first, next_begin, times}
 use Rattle.cm_expand.specs.Items.{conv_at}
 use Rattle.cm_expand.specs.Plan.{PlanText}
-use Rattle.cm_expand.specs.Spot.{IsSoonest, scans_from}
+use Rattle.cm_expand.specs.TimePoint.{IsSoonest, scans_from}
 use Rattle.cm_expand.proofs.Conversions.{up_to_some}
 use Rattle.cm_expand.proofs.Soonest.{tick_is_soonest, first_is}
 use Rattle.cm_expand.proofs.Ticks.{ticks_later}
@@ -54,8 +54,8 @@ ends (Spaced apart) horizon n gap period begin are is some more short =
 ends (PerEdge edges) horizon n gap period begin are is some more short = absurd is
 
 -- a scan begins at a time, and is one of `left` more that are all over before `until`
-record IsAt (c : Course) (period gap left begin : ℕ) : Type 0 where
-  course : IsCourse c
+record IsAt (c : Timing) (period gap left begin : ℕ) : Type 0 where
+  timing : IsTiming c
   pace : IsPace c period gap
   some : 1 ≤ period
   since : c.start ≤ begin
@@ -63,13 +63,13 @@ record IsAt (c : Course) (period gap left begin : ℕ) : Type 0 where
   whole : begin + left * period + c.per_scan * gap < c.until + period
 
 -- the next scan begins a period later
-next_at : (c : Course) (period gap left begin : ℕ) → IsAt c period gap (suc left) begin → IsAt c period gap left (begin + period)
+next_at : (c : Timing) (period gap left begin : ℕ) → IsAt c period gap (suc left) begin → IsAt c period gap left (begin + period)
 next_at c period gap left begin at =
     let since = at.since in
     let whole = at.whole in
     let one : 1 * period ≡ period = omega arith in
     record {
-      course = at.course;
+      timing = at.timing;
       pace = at.pace;
       some = at.some;
       since = omega arith;
@@ -77,11 +77,11 @@ next_at c period gap left begin at =
       whole = omega arith;
     }
 
-next_tick : (c : Course) (period gap left begin : ℕ) → IsAt c period gap (suc (suc left)) begin → next_begin c begin ≡ Some (begin + period)
+next_tick : (c : Timing) (period gap left begin : ℕ) → IsAt c period gap (suc (suc left)) begin → next_begin c begin ≡ Some (begin + period)
 next_tick c period gap left begin at =
     let some = at.some in
     let whole = at.whole in
-    let end = ends c.converts c.horizon c.per_scan gap period begin at.course.converts at.pace.converts at.course.some some at.pace.short in
+    let end = ends c.converts c.horizon c.per_scan gap period begin at.timing.converts at.pace.converts at.timing.some some at.pace.short in
     let low = end.2 in
     let high = end.3 in
     let one : begin + period - begin ≡ period = omega arith in
@@ -92,18 +92,18 @@ next_tick c period gap left begin at =
     (tick_is_soonest c.start begin (begin + end.0) period (begin + period) at.since (omega arith) at.tick later (omega arith) (omega arith) (omega arith)))
     (omega arith)
 
-rest_at : (c : Course) (period gap left begin : ℕ) → IsAt c period gap (suc left) begin → scans_from c left (next_begin c begin) ≡ scans_from c left (Some (begin + period))
+rest_at : (c : Timing) (period gap left begin : ℕ) → IsAt c period gap (suc left) begin → scans_from c left (next_begin c begin) ≡ scans_from c left (Some (begin + period))
 rest_at c period gap zero begin at = refl
 rest_at c period gap (suc left) begin at = ap (scans_from c (suc left)) (next_tick c period gap left begin at)
 
-scan_at : (c : Course) (period gap left begin : ℕ) → IsAt c period gap (suc left) begin → (i : ℕ) → i < 0 + c.per_scan → conversion c begin i ≡ Some (begin + i * gap)
+scan_at : (c : Timing) (period gap left begin : ℕ) → IsAt c period gap (suc left) begin → (i : ℕ) → i < 0 + c.per_scan → conversion c begin i ≡ Some (begin + i * gap)
 scan_at c period gap left begin at i below =
-    let until = at.course.until in
+    let until = at.timing.until in
     let whole = at.whole in
     comes c.converts c.horizon c.per_scan gap begin i at.pace.converts (omega arith) (omega arith)
 
--- scans that begin sooner than those of another course
-sooner_scans : (c d : Course) (period gap m n b e : ℕ) → IsAt c period gap m b → IsAt d period gap n e → c.per_scan ≡ d.per_scan → b < e →
+-- scans that begin sooner than those of another timing
+sooner_scans : (c d : Timing) (period gap m n b e : ℕ) → IsAt c period gap m b → IsAt d period gap n e → c.per_scan ≡ d.per_scan → b < e →
     are_sooner (scans_from c m (Some b)) (scans_from d n (Some e)) ≡ true
 sooner_scans c d period gap zero n b e one other same later = refl
 sooner_scans c d period gap (suc m) zero b e one other same later = no_others (scans_from c (suc m) (Some b))
@@ -121,14 +121,14 @@ start_tick start period =
     ap (λ n. n % period) none ∙ zero-mod period
 
 -- the first scan begins at the start
-at_start : (c : Course) (period gap : ℕ) → IsCourse c → IsPace c period gap → IsAt c period gap c.most c.start
-at_start c period gap course pace =
-    let are = subst (λ (b : Begins). AreBegins c.horizon b) pace.begins course.begins in
-    let count : c.most ≡ c.most - 1 + 1 = let more = course.most in omega arith in
+at_start : (c : Timing) (period gap : ℕ) → IsTiming c → IsPace c period gap → IsAt c period gap c.most c.start
+at_start c period gap timing pace =
+    let are = subst (λ (b : Begins). AreBegins c.horizon b) pace.begins timing.begins in
+    let count : c.most ≡ c.most - 1 + 1 = let more = timing.most in omega arith in
     let far : c.most * period ≡ (c.most - 1) * period + period = ap (λ n. n * period) count ∙ omega arith in
     let whole = pace.whole in
     record {
-      course = course;
+      timing = timing;
       pace = pace;
       some = are.0;
       since = omega arith;
@@ -136,7 +136,7 @@ at_start c period gap course pace =
       whole = omega arith;
     }
 
-times_at_start : (c : Course) (period gap : ℕ) → IsAt c period gap c.most c.start → times c ≡ scans_from c c.most (Some c.start)
+times_at_start : (c : Timing) (period gap : ℕ) → IsAt c period gap c.most c.start → times c ≡ scans_from c c.most (Some c.start)
 times_at_start c period gap at =
     let some = at.some in
     let whole = at.pace.whole in
@@ -146,12 +146,12 @@ times_at_start c period gap at =
     (tick_is_soonest c.start c.start c.start period c.start (omega arith) (omega arith) at.tick at.tick (omega arith) (omega arith) (omega arith)))
     (omega arith))
 
--- a course is sooner than one of the same pace that starts later
-pub sooner_start : (c d : Course) (period gap : ℕ) → IsCourse c → IsCourse d → IsPace c period gap → IsPace d period gap → c.per_scan ≡ d.per_scan → c.start < d.start →
+-- a timing is sooner than one of the same pace that starts later
+pub sooner_start : (c d : Timing) (period gap : ℕ) → IsTiming c → IsTiming d → IsPace c period gap → IsPace d period gap → c.per_scan ≡ d.per_scan → c.start < d.start →
     are_sooner (times c) (times d) ≡ true
-sooner_start c d period gap course other_course pace other_pace same later =
-    let one = at_start c period gap course pace in
-    let other = at_start d period gap other_course other_pace in
+sooner_start c d period gap timing other_timing pace other_pace same later =
+    let one = at_start c period gap timing pace in
+    let other = at_start d period gap other_timing other_pace in
     ap (λ (xs : List ℕ). are_sooner xs (times d)) (times_at_start c period gap one)
     ∙ ap (are_sooner (scans_from c c.most (Some c.start))) (times_at_start d period gap other)
     ∙ sooner_scans c d period gap c.most d.most c.start d.start one other same later

@@ -1,20 +1,20 @@
 // Outputs that come later than the samples which they are made from.
 ghost use Rattle.std.specs.Prelude.{◌≡◌, ◌≤◌, ◌<◌, ◌^◌, true, length, IfSome};
-ghost use Rattle.cm_expand.specs.Course.{IsCourse, times};
-ghost use Rattle.cm_expand.specs.CourseView.{converts_text, course_text};
+ghost use Rattle.cm_expand.specs.Timing.{IsTiming, times};
+ghost use Rattle.cm_expand.specs.TimingView.{converts_text, timing_text};
 ghost use Rattle.cm_expand.specs.Items.{items_of};
 ghost use Rattle.cm_expand.specs.PlanView.{plan_text};
 ghost use Rattle.cm_job.specs.Later as spec;
 ghost use Rattle.cm_job.specs.Pace.{IsGap, IsPace};
 
 use cm_expand::board::Board;
-use cm_expand::course::{Begins, Converts, Course};
 use cm_expand::plan::Plan;
+use cm_expand::timing::{Begins, Converts, Timing};
 
 /// The most conversions of a command.
 pub(crate) const MOST: u64 = 1_000_000;
 
-// How far apart the scans of a course begin, and the conversions of a scan come.
+// How far apart the scans of a timing begin, and the conversions of a scan come.
 #[derive(Clone, Copy)]
 struct Pace {
     period: u64,
@@ -38,20 +38,20 @@ pub(crate) fn is_ahead(input: Plan<'_>, output: Plan<'_>) -> bool
 fn are_even_later(input: &Plan<'_>, output: &Plan<'_>) -> bool
     ensures { result ≡ true → spec.are_later (items_of (plan_text input.now)) (items_of (plan_text output.now)) ≡ true }
 {
-    let Some(one) = input.course() else {
+    let Some(one) = input.timing() else {
         return false;
     };
-    let Some(other) = output.course() else {
+    let Some(other) = output.timing() else {
         return false;
     };
     is_even_later(&one, &other)
 }
 
-// The same of the courses of both.
-fn is_even_later(one: &Course<'_>, other: &Course<'_>) -> bool
-    requires one { IsCourse (course_text one.now) }
-    requires other { IsCourse (course_text other.now) }
-    ensures { result ≡ true → spec.are_sooner (times (course_text one.now)) (times (course_text other.now)) ≡ true }
+// The same of the timings of both.
+fn is_even_later(one: &Timing<'_>, other: &Timing<'_>) -> bool
+    requires one { IsTiming (timing_text one.now) }
+    requires other { IsTiming (timing_text other.now) }
+    ensures { result ≡ true → spec.are_sooner (times (timing_text one.now)) (times (timing_text other.now)) ≡ true }
 {
     let Some(pace) = pace_of(one) else {
         return false;
@@ -65,20 +65,20 @@ fn is_even_later(one: &Course<'_>, other: &Course<'_>) -> bool
     one.per_scan == other.per_scan && one.start < other.start
 }
 
-// The pace of a course that asks for no scan which could be missing or cut.
-fn pace_of(course: &Course<'_>) -> Option<Pace>
-    requires { IsCourse (course_text course.now) }
-    ensures { IfSome result (λ pace. IsPace (course_text course.now) pace.period pace.gap) }
+// The pace of a timing that asks for no scan which could be missing or cut.
+fn pace_of(timing: &Timing<'_>) -> Option<Pace>
+    requires { IsTiming (timing_text timing.now) }
+    ensures { IfSome result (λ pace. IsPace (timing_text timing.now) pace.period pace.gap) }
 {
-    let Begins::Every(period) = course.begins else {
+    let Begins::Every(period) = timing.begins else {
         return None;
     };
-    let gap = gap_of(course)?;
-    let scan_length = u64::from(course.per_scan) * gap;
-    let all_but_last = (course.most - 1).checked_mul(period)?;
-    let last_begin = course.start.checked_add(all_but_last)?;
+    let gap = gap_of(timing)?;
+    let scan_length = u64::from(timing.per_scan) * gap;
+    let all_but_last = (timing.most - 1).checked_mul(period)?;
+    let last_begin = timing.start.checked_add(all_but_last)?;
     let end = last_begin.checked_add(scan_length)?;
-    if scan_length <= period && end < course.until {
+    if scan_length <= period && end < timing.until {
         Some(Pace { period, gap })
     } else {
         None
@@ -86,12 +86,12 @@ fn pace_of(course: &Course<'_>) -> Option<Pace>
 }
 
 // How far apart the conversions of a scan are, where no edges decide it.
-fn gap_of(course: &Course<'_>) -> Option<u64>
-    requires { IsCourse (course_text course.now) }
-    ensures gap { IfSome result (λ gap. IsGap (converts_text course.now.converts) gap) }
+fn gap_of(timing: &Timing<'_>) -> Option<u64>
+    requires { IsTiming (timing_text timing.now) }
+    ensures gap { IfSome result (λ gap. IsGap (converts_text timing.now.converts) gap) }
     ensures small { IfSome result (λ gap. gap < 2 ^ 32) }
 {
-    match course.converts {
+    match timing.converts {
         Converts::AtOnce => Some(0),
         Converts::Spaced(gap) => Some(gap),
         Converts::PerEdge(_) => None,

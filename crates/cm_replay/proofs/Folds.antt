@@ -10,7 +10,7 @@ use Rattle.cm_signal.specs.Setting.{Setting}
 use Rattle.cm_session.specs.Limits.{InOrder, IsLimited}
 use Rattle.cm_session.specs.declared.op.SessionLine.{SessionLine}
 use Rattle.cm_sub.specs.Claims.{nobody}
-use Rattle.cm_replay.specs.Law.{Spot, spot_at}
+use Rattle.cm_replay.specs.Law.{Wiring, wiring_at}
 use Rattle.cm_replay.specs.Ready.{CanMove, StaysReady}
 use Rattle.cm_replay.specs.Replies.{AreMany, AreWhole, CanCome, CanReplay, CanStep, HasCome, Steps, tried_of}
 use Rattle.cm_running.specs.Running.{Running}
@@ -49,14 +49,14 @@ can-step s lines tried first state i line t can many whole ready within is its =
   its_trial = its ∙ ap (λ (all : List (Option CmdText)). get_or all i t) can.trials ∙ trial-at (λ x. tried_of s.board x.op) lines i line t within ∙ ap (λ (x : SessionLine). tried_of s.board x.op) (sym is);
 }
 
-come-ready : (spot : Spot) (number time : ℕ) (running : Option Running) → CanMove spot number time running → CanCome time running
-come-ready spot number time None ready = tt
-come-ready spot number time (Some c) ready = ready.come
+come-ready : (wiring : Wiring) (number time : ℕ) (running : Option Running) → CanMove wiring number time running → CanCome time running
+come-ready wiring number time None ready = tt
+come-ready wiring number time (Some c) ready = ready.come
 
 -- each command can be brought to the next line's time
 pub all-come : (s : Setting) (lines : List SessionLine) (state : State) (i : ℕ) (line : SessionLine) → StaysReady s state (drop i lines) → i < length lines → line ≡ get_or lines i line → All (HasCome line.time) state.devices
 all-come s lines state i line ready within is k d there =
-    come-ready (spot_at s k) k line.time (get_or state.devices k d).running (ready-at s line.time state k d (line-ready s lines i line state within is ready).1 there)
+    come-ready (wiring_at s k) k line.time (get_or state.devices k d).running (ready-at s line.time state k d (line-ready s lines i line state within is ready).1 there)
 
 -- one line more is answered
 pub line-answered : (s : Setting) (a b : Option (List ℕ)) (lines : List SessionLine) (i : ℕ) (line : SessionLine) (state new : State) (text more whole : List ℕ) → i < length lines → line ≡ get_or lines i line → Steps (step s line state) new text more →

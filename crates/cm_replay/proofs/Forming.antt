@@ -12,7 +12,7 @@ use Rattle.cm_replay.specs.Forms.{Form, reader_checks}
 use Rattle.cm_replay.specs.Reading.{mapped, on_running}
 use Rattle.cm_running.specs.Reading.{reported_end}
 use Rattle.cm_replay.specs.Replies.{Replies, Tells, checked, unless_kept}
-use Rattle.cm_replay.specs.Law.{Spot}
+use Rattle.cm_replay.specs.Law.{Wiring}
 use Rattle.cm_replay.specs.Ready.{CanMove}
 use Rattle.cm_running.specs.Running.{Running, is_out}
 use Rattle.cm_board.specs.Board.{SubText, is_output}
@@ -54,13 +54,13 @@ pub read-unmapped : (h : Here) → first_refusal (reader_checks h ++ refuse Inva
 read-unmapped h passed = eqb-true _ _ (not_false _ (passes Inval _ _ (passes-both (reader_checks h) _ passed).1).0)
 
 -- the direction of a subdevice's command is the subdevice's
-pub its-direction : (spot : Spot) (number time : ℕ) (running : Option Running) (c : Running) (out : Bool) → running ≡ Some c → CanMove spot number time running → is_output spot.sub.kind ≡ out → is_out c.schedule ≡ out
-its-direction spot number time None c out is ready direction = absurd (cc)
-its-direction spot number time (Some d) c out is ready direction =
+pub its-direction : (wiring : Wiring) (number time : ℕ) (running : Option Running) (c : Running) (out : Bool) → running ≡ Some c → CanMove wiring number time running → is_output wiring.sub.kind ≡ out → is_out c.schedule ≡ out
+its-direction wiring number time None c out is ready direction = absurd (cc)
+its-direction wiring number time (Some d) c out is ready direction =
     let same : d ≡ c = cc in
     ap (λ (r : Running). is_out r.schedule) (sym same) ∙ ap (λ (sub : SubText). is_output sub.kind) ready.its.0 ∙ direction
 
 -- a line that reads and isn't refused is one of an input
-pub reads-input : (spot : Spot) (number time : ℕ) (running : Option Running) (c : Running) (rest : List (Option Errno)) → running ≡ Some c → CanMove spot number time running →
-    first_refusal (refuse Inval (is_output spot.sub.kind) ∷ rest) ≡ None → is_out c.schedule ≡ false
-reads-input spot number time running c rest is ready passed = its-direction spot number time running c false is ready (passes Inval _ rest passed).0
+pub reads-input : (wiring : Wiring) (number time : ℕ) (running : Option Running) (c : Running) (rest : List (Option Errno)) → running ≡ Some c → CanMove wiring number time running →
+    first_refusal (refuse Inval (is_output wiring.sub.kind) ∷ rest) ≡ None → is_out c.schedule ≡ false
+reads-input wiring number time running c rest is ready passed = its-direction wiring number time running c false is ready (passes Inval _ rest passed).0

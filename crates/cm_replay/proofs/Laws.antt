@@ -6,7 +6,7 @@ use Rattle.std.proofs.lemmas.Bool.{cases_eq, cases_Bool, eq-eqb, cond-true, cond
 use Rattle.std.proofs.lemmas.List.{drop-append-le}
 use Rattle.cm_sample.specs.Rule.{map_from}
 use Rattle.cm_expand.specs.Plan.{start_of}
-use Rattle.cm_replay.specs.Law.{Continues, HasPlaces, History, IsDueIfAny, IsInput, IsLawful, IsOf, IsOutput, Keeps, Spot, PutsOut, Remembers, remembered}
+use Rattle.cm_replay.specs.Law.{Continues, HasPlaces, History, IsDueIfAny, IsInput, IsLawful, IsOf, IsOutput, Keeps, Wiring, PutsOut, Remembers, remembered}
 use Rattle.cm_running.specs.Running.{Running, Schedule, arrived, brought, collected, due, end_by, is_out, moved_on, munge_in, outputs, put_by, put_out, samples, served, started, written_by}
 use Rattle.cm_running.specs.Timely.{IsTimely}
 use Rattle.cm_running.specs.Schedules.{schedule_of, triggered}
@@ -125,8 +125,8 @@ left-words h c place later words =
     ap (drop (place - c.r)) words ∙ map_from-drop (munged_within (munge_in c.schedule) 0 c.w) c.r (place - c.r) (drop c.r h.given)
     ∙ ap₂ (λ p n. map_from (munged_within (munge_in c.schedule) 0 c.w) p n) there (drop-drop (place - c.r) c.r h.given ∙ ap (λ n. drop n h.given) there)
 
-moved-keeps : (spot : Spot) (before time : ℕ) (h : History) (c : Running) → before ≤ time → Keeps spot before h (Some c) → Keeps spot time h (Some (moved_on c time))
-moved-keeps spot before time h c later kept = elim (cases_Bool (is_out c.schedule)) [
+moved-keeps : (wiring : Wiring) (before time : ℕ) (h : History) (c : Running) → before ≤ time → Keeps wiring before h (Some c) → Keeps wiring time h (Some (moved_on c time))
+moved-keeps wiring before time h c later kept = elim (cases_Bool (is_out c.schedule)) [
   | inl out ↦
       let o = output (is_out c.schedule) before c out kept.0.places in
       let r : Remembers true h c = subst (λ b. Remembers b h c) out kept.2 in
@@ -139,18 +139,18 @@ moved-keeps spot before time h c later kept = elim (cases_Bool (is_out c.schedul
       rw (moves-in c time inn) (collected-lawful before time c later inn kept.0, kept.1, subst (λ b. Remembers b h (collected c time)) (sym inn) new)
 ]
 
-pub brought-keeps : (spot : Spot) (before time : ℕ) (h : History) (running : Option Running) → before ≤ time → Keeps spot before h running → Keeps spot time h (option_map (brought time) running)
-brought-keeps spot before time h None later kept = tt
-brought-keeps spot before time h (Some c) later kept = by_end c.end refl
+pub brought-keeps : (wiring : Wiring) (before time : ℕ) (h : History) (running : Option Running) → before ≤ time → Keeps wiring before h running → Keeps wiring time h (option_map (brought time) running)
+brought-keeps wiring before time h None later kept = tt
+brought-keeps wiring before time h (Some c) later kept = by_end c.end refl
   where
-    by_end : (e : Option End) → c.end ≡ e → Keeps spot time h (Some (brought time c))
-    by_end None runs = rw (moves time c runs) (moved-keeps spot before time h c later kept)
+    by_end : (e : Option End) → c.end ≡ e → Keeps wiring time h (Some (brought time c))
+    by_end None runs = rw (moves time c runs) (moved-keeps wiring before time h c later kept)
     by_end (Some e) ended = rw (stays time c e ended) (later-lawful before time c later kept.0, kept.1, kept.2)
 
 -- what is put out are the client's words
-pub puts-out : (spot : Spot) (i before time : ℕ) (h : History) (running : Option Running) → before ≤ time → Keeps spot before h running → PutsOut i time h running
-puts-out spot i before time h None later kept = tt
-puts-out spot i before time h (Some c) later kept = λ runs out.
+pub puts-out : (wiring : Wiring) (i before time : ℕ) (h : History) (running : Option Running) → before ≤ time → Keeps wiring before h running → PutsOut i time h running
+puts-out wiring i before time h None later kept = tt
+puts-out wiring i before time h (Some c) later kept = λ runs out.
     let o = output (is_out c.schedule) before c out kept.0.places in
     let r : Remembers true h c = subst (λ b. Remembers b h c) out kept.2 in
     let cs = take (put_by c time - c.r) (drop c.r c.schedule.arrivals) in
@@ -159,12 +159,12 @@ puts-out spot i before time h (Some c) later kept = λ runs out.
     due_is ∙ ap (outputs i cs) r.1 ∙ outputs-munged i (munge_in c.schedule) c.w c.r cs (drop c.r h.given) few
 
 -- what a line did is well where its answer continues what was read, and the command stays lawful
-abbrev pub IsWell : Spot → ℕ → History → Option Running → Answer → Option Running → Type 0
-IsWell spot time h running answer after = Continues answer h running × Keeps spot time (remembered h answer) after
+abbrev pub IsWell : Wiring → ℕ → History → Option Running → Answer → Option Running → Type 0
+IsWell wiring time h running answer after = Continues answer h running × Keeps wiring time (remembered h answer) after
 
 -- an end that is reported
-pub ended-well : (spot : Spot) (time : ℕ) (h : History) (c : Running) (e : End) → Keeps spot time h (Some c) → (is_out c.schedule ≡ false → c.r ≡ c.w) → c.end ≡ Some e → IsWell spot time h (Some c) (Ended e) None
-ended-well spot time h c e kept drained ended = ((drained, subst (λ o. IsDueIfAny o (served c) (length c.schedule.conversions)) ended kept.0.end), tt)
+pub ended-well : (wiring : Wiring) (time : ℕ) (h : History) (c : Running) (e : End) → Keeps wiring time h (Some c) → (is_out c.schedule ≡ false → c.r ≡ c.w) → c.end ≡ Some e → IsWell wiring time h (Some c) (Ended e) None
+ended-well wiring time h c e kept drained ended = ((drained, subst (λ o. IsDueIfAny o (served c) (length c.schedule.conversions)) ended kept.0.end), tt)
 
 -- an input reports its end where nothing is left
 pub ended-drained : (c : Running) (e : End) → is_out c.schedule ≡ false → reported_end c ≡ Some e → (c.r ≡ c.w) × (c.end ≡ Some e)
@@ -192,9 +192,9 @@ as_remembers-out : (h : History) (c : Running) → is_out c.schedule ≡ true �
 as_remembers-out h c e r = subst (λ b. Remembers b h c) (sym e) r
 
 -- an input that keeps its written samples stays lawful at other places
-input-on : (spot : Spot) (time : ℕ) (h after : History) (c : Running) (r ra : ℕ) → is_out c.schedule ≡ false → Keeps spot time h (Some c) → r ≤ ra → ra ≤ c.w → c.r ≤ r → after.gone ≡ r →
-    Keeps spot time after (Some (record c { r = r; ra = ra }))
-input-on spot time h after c r ra inn kept order within more gone =
+input-on : (wiring : Wiring) (time : ℕ) (h after : History) (c : Running) (r ra : ℕ) → is_out c.schedule ≡ false → Keeps wiring time h (Some c) → r ≤ ra → ra ≤ c.w → c.r ≤ r → after.gone ≡ r →
+    Keeps wiring time after (Some (record c { r = r; ra = ra }))
+input-on wiring time h after c r ra inn kept order within more gone =
     let i = input (is_out c.schedule) time c inn kept.0.places in
     let d : Running = record c { r = r; ra = ra } in (
       record {
@@ -212,33 +212,33 @@ input-on spot time h after c r ra inn kept order within more gone =
 long-taken : (n : ℕ) (c : Running) → c.w ≤ length c.schedule.conversions → length (take (taking n c) (drop c.r (samples c.schedule))) ≡ taking n c
 long-taken n c all = omega (arith, length-samples c.schedule, length-take (taking n c) (drop c.r (samples c.schedule)), length-drop c.r (samples c.schedule))
 
-pub taken-well : (spot : Spot) (n time : ℕ) (h : History) (c : Running) → is_out c.schedule ≡ false → c.ra ≡ c.r → Keeps spot time h (Some c) → IsWell spot time h (Some c) (Taken c.schedule.format c.r (taken n c)) (Some (read_on n c))
-taken-well spot n time h c inn unmapped kept =
+pub taken-well : (wiring : Wiring) (n time : ℕ) (h : History) (c : Running) → is_out c.schedule ≡ false → c.ra ≡ c.r → Keeps wiring time h (Some c) → IsWell wiring time h (Some c) (Taken c.schedule.format c.r (taken n c)) (Some (read_on n c))
+taken-well wiring n time h c inn unmapped kept =
     let i = input (is_out c.schedule) time c inn kept.0.places in
     let all : c.w ≤ length c.schedule.conversions = omega (arith, i.w_come, arrived-le c.schedule time kept.0.timely) in
     let gone = remembers-in h c inn kept.2 in (
       (sym gone, ap (λ k. take k (drop c.r (samples c.schedule))) (sym (long-taken n c all))),
-      input-on spot time h (remembered h (Taken c.schedule.format c.r (taken n c))) c (c.r + taking n c) (c.r + taking n c) inn kept (omega arith) (omega (arith, i.r_ra, i.ra_w)) (omega arith) (omega (arith, gone, long-taken n c all)),
+      input-on wiring time h (remembered h (Taken c.schedule.format c.r (taken n c))) c (c.r + taking n c) (c.r + taking n c) inn kept (omega arith) (omega (arith, i.r_ra, i.ra_w)) (omega arith) (omega (arith, gone, long-taken n c all)),
     )
 
-pub mapped-well : (spot : Spot) (n time : ℕ) (h : History) (c : Running) → is_out c.schedule ≡ false → Keeps spot time h (Some c) → IsWell spot time h (Some c) (Mapped (mapping n c)) (Some (map_on n c))
-mapped-well spot n time h c inn kept =
+pub mapped-well : (wiring : Wiring) (n time : ℕ) (h : History) (c : Running) → is_out c.schedule ≡ false → Keeps wiring time h (Some c) → IsWell wiring time h (Some c) (Mapped (mapping n c)) (Some (map_on n c))
+mapped-well wiring n time h c inn kept =
     let i = input (is_out c.schedule) time c inn kept.0.places in
-    (tt, input-on spot time h h c c.r (c.ra + mapping n c) inn kept (omega (arith, i.r_ra)) (omega (arith, i.ra_w)) (omega arith) (remembers-in h c inn kept.2))
+    (tt, input-on wiring time h h c c.r (c.ra + mapping n c) inn kept (omega (arith, i.r_ra)) (omega (arith, i.ra_w)) (omega arith) (remembers-in h c inn kept.2))
 
-pub looked-well : (spot : Spot) (i time : ℕ) (h : History) (c : Running) → is_out c.schedule ≡ false → i < c.ra - c.r → Keeps spot time h (Some c) →
-    IsWell spot time h (Some c) (Looked c.schedule.format (c.r + i) (slice_index (samples c.schedule) (c.r + i))) (Some c)
-looked-well spot i time h c inn within kept = ((omega (arith, remembers-in h c inn kept.2), omega arith, refl), kept)
+pub looked-well : (wiring : Wiring) (i time : ℕ) (h : History) (c : Running) → is_out c.schedule ≡ false → i < c.ra - c.r → Keeps wiring time h (Some c) →
+    IsWell wiring time h (Some c) (Looked c.schedule.format (c.r + i) (slice_index (samples c.schedule) (c.r + i))) (Some c)
+looked-well wiring i time h c inn within kept = ((omega (arith, remembers-in h c inn kept.2), omega arith, refl), kept)
 
-pub released-well : (spot : Spot) (k time : ℕ) (h : History) (c : Running) → is_out c.schedule ≡ false → k ≤ c.ra - c.r → Keeps spot time h (Some c) → IsWell spot time h (Some c) (Released k) (Some (record c { r = c.r + k }))
-released-well spot k time h c inn within kept =
+pub released-well : (wiring : Wiring) (k time : ℕ) (h : History) (c : Running) → is_out c.schedule ≡ false → k ≤ c.ra - c.r → Keeps wiring time h (Some c) → IsWell wiring time h (Some c) (Released k) (Some (record c { r = c.r + k }))
+released-well wiring k time h c inn within kept =
     let i = input (is_out c.schedule) time c inn kept.0.places in
-    (tt, input-on spot time h (record h { gone = h.gone + k }) c (c.r + k) c.ra inn kept (omega (arith, i.r_ra)) i.ra_w (omega arith) (omega (arith, remembers-in h c inn kept.2)))
+    (tt, input-on wiring time h (record h { gone = h.gone + k }) c (c.r + k) c.ra inn kept (omega (arith, i.r_ra)) i.ra_w (omega arith) (omega (arith, remembers-in h c inn kept.2)))
 
 -- an output that keeps what was put out stays lawful at other places
-output-on : (spot : Spot) (time : ℕ) (h after : History) (c : Running) (w a : ℕ) (words : List ℕ) → is_out c.schedule ≡ true → Keeps spot time h (Some c) → c.w ≤ w → w ≤ a → a ≤ c.r + c.schedule.size →
-    length after.given ≡ a → words ≡ map_from (munged_within (munge_in c.schedule) 0 w) c.r (drop c.r after.given) → Keeps spot time after (Some (record c { w = w; a = a; words = words }))
-output-on spot time h after c w a words out kept more order room long same =
+output-on : (wiring : Wiring) (time : ℕ) (h after : History) (c : Running) (w a : ℕ) (words : List ℕ) → is_out c.schedule ≡ true → Keeps wiring time h (Some c) → c.w ≤ w → w ≤ a → a ≤ c.r + c.schedule.size →
+    length after.given ≡ a → words ≡ map_from (munged_within (munge_in c.schedule) 0 w) c.r (drop c.r after.given) → Keeps wiring time after (Some (record c { w = w; a = a; words = words }))
+output-on wiring time h after c w a words out kept more order room long same =
     let o = output (is_out c.schedule) time c out kept.0.places in
     let d : Running = record c { w = w; a = a; words = words } in (
       record {
@@ -263,35 +263,35 @@ filled-words h c words r_a w_a kept =
 few-taken : (words : List ℕ) (c : Running) → c.a ≤ c.r + c.schedule.size → c.a + length (taken_in words c) ≤ c.r + c.schedule.size
 few-taken words c room = omega (arith, length-take (c.r + c.schedule.size - c.a) words)
 
-pub filled-well : (spot : Spot) (words : List ℕ) (time : ℕ) (h : History) (c : Running) → is_out c.schedule ≡ true → Keeps spot time h (Some c) →
-    IsWell spot time h (Some c) (Filled (taken_in words c)) (Some (fill_on (taken_in words c) c))
-filled-well spot words time h c out kept =
+pub filled-well : (wiring : Wiring) (words : List ℕ) (time : ℕ) (h : History) (c : Running) → is_out c.schedule ≡ true → Keeps wiring time h (Some c) →
+    IsWell wiring time h (Some c) (Filled (taken_in words c)) (Some (fill_on (taken_in words c) c))
+filled-well wiring words time h c out kept =
     let o = output (is_out c.schedule) time c out kept.0.places in
     let r = remembers-out h c out kept.2 in
     let more = taken_in words c in (
       tt,
-      output-on spot time h (record h { given = h.given ++ more }) c c.w (c.a + length more) (c.words ++ more) out kept (omega arith) (omega (arith, o.w_a)) (few-taken words c o.a_size)
+      output-on wiring time h (record h { given = h.given ++ more }) c c.w (c.a + length more) (c.words ++ more) out kept (omega arith) (omega (arith, o.w_a)) (few-taken words c o.a_size)
           (omega (arith, r.0, length-append h.given more)) (filled-words h c more (omega (arith, o.r_w, o.w_a)) o.w_a r),
     )
 
 -- words that are marked
-pub mark-keeps : (spot : Spot) (k time : ℕ) (h : History) (c : Running) → is_out c.schedule ≡ true → k ≤ c.a - c.w → Keeps spot time h (Some c) → Keeps spot time h (Some (mark_on k c))
-mark-keeps spot k time h c out few kept =
+pub mark-keeps : (wiring : Wiring) (k time : ℕ) (h : History) (c : Running) → is_out c.schedule ≡ true → k ≤ c.a - c.w → Keeps wiring time h (Some c) → Keeps wiring time h (Some (mark_on k c))
+mark-keeps wiring k time h c out few kept =
     let o = output (is_out c.schedule) time c out kept.0.places in
     let r = remembers-out h c out kept.2 in
-    output-on spot time h h c (c.w + k) c.a (map_from (munged_within (munge_in c.schedule) c.w (c.w + k)) c.r c.words) out kept (omega arith) (omega (arith, o.w_a)) o.a_size r.0
+    output-on wiring time h h c (c.w + k) c.a (map_from (munged_within (munge_in c.schedule) c.w (c.w + k)) c.r c.words) out kept (omega arith) (omega (arith, o.w_a)) o.a_size r.0
     (ap (map_from (munged_within (munge_in c.schedule) c.w (c.w + k)) c.r) r.1 ∙ map_from-further (munge_in c.schedule) c.w k c.r (drop c.r h.given))
 
-pub written-well : (spot : Spot) (words : List ℕ) (time : ℕ) (h : History) (c : Running) → is_out c.schedule ≡ true → Keeps spot time h (Some c) →
-    IsWell spot time h (Some c) (Written (taken_in words c)) (Some (write_on (taken_in words c) c))
-written-well spot words time h c out kept =
+pub written-well : (wiring : Wiring) (words : List ℕ) (time : ℕ) (h : History) (c : Running) → is_out c.schedule ≡ true → Keeps wiring time h (Some c) →
+    IsWell wiring time h (Some c) (Written (taken_in words c)) (Some (write_on (taken_in words c) c))
+written-well wiring words time h c out kept =
     let o = output (is_out c.schedule) time c out kept.0.places in
-    let filled = filled-well spot words time h c out kept in
-    (tt, mark-keeps spot (length (taken_in words c)) time (record h { given = h.given ++ taken_in words c }) (fill_on (taken_in words c) c) out (omega (arith, o.w_a)) filled.1)
+    let filled = filled-well wiring words time h c out kept in
+    (tt, mark-keeps wiring (length (taken_in words c)) time (record h { given = h.given ++ taken_in words c }) (fill_on (taken_in words c) c) out (omega (arith, o.w_a)) filled.1)
 
 -- a command that has just started
-pub started-keeps : (spot : Spot) (time : ℕ) (h : History) (s : Schedule) → h.gone ≡ 0 → h.given ≡ [] → IsTimely s → ((at : ℕ) → time ≤ at → at ≤ s.horizon → IsTimely (triggered at s)) → s ≡ schedule_of s.plan → IsOf spot s.plan → Keeps spot time h (Some (started s))
-started-keeps spot time h s gone given timely later same its = (
+pub started-keeps : (wiring : Wiring) (time : ℕ) (h : History) (s : Schedule) → h.gone ≡ 0 → h.given ≡ [] → IsTimely s → ((at : ℕ) → time ≤ at → at ≤ s.horizon → IsTimely (triggered at s)) → s ≡ schedule_of s.plan → IsOf wiring s.plan → Keeps wiring time h (Some (started s))
+started-keeps wiring time h s gone given timely later same its = (
   record {
     timely = timely;
     later = later;
@@ -323,8 +323,8 @@ waits-early time c waiting = by (has_come (start_of c.schedule.plan) time) (and-
     by false h = refl
 
 -- a command that waits for its trigger has its places at 0, and takes another schedule of the same buffer
-trigger-keeps-on : (spot : Spot) (time : ℕ) (h : History) (c : Running) → time ≤ c.schedule.horizon → arrived c.schedule time ≡ 0 → c.end ≡ None → Keeps spot time h (Some c) → Keeps spot time h (Some (record c { schedule = triggered time c.schedule }))
-trigger-keeps-on spot time h c by early runs kept = (
+trigger-keeps-on : (wiring : Wiring) (time : ℕ) (h : History) (c : Running) → time ≤ c.schedule.horizon → arrived c.schedule time ≡ 0 → c.end ≡ None → Keeps wiring time h (Some c) → Keeps wiring time h (Some (record c { schedule = triggered time c.schedule }))
+trigger-keeps-on wiring time h c by early runs kept = (
   record {
     timely = kept.0.later time (omega arith) by;
     later = λ at after below. kept.0.later at after (omega (arith, horizon));
@@ -356,8 +356,8 @@ trigger-keeps-on spot time h c by early runs kept = (
     remembers false r = r
     remembers true r = r
 
-pub trigger-keeps : (spot : Spot) (time : ℕ) (h : History) (c : Running) → time ≤ c.schedule.horizon → waits time (Some c) ≡ true → Keeps spot time h (Some c) → Keeps spot time h (Some (trigger_on time c))
-trigger-keeps spot time h c by waiting kept = by_end c.end refl
+pub trigger-keeps : (wiring : Wiring) (time : ℕ) (h : History) (c : Running) → time ≤ c.schedule.horizon → waits time (Some c) ≡ true → Keeps wiring time h (Some c) → Keeps wiring time h (Some (trigger_on time c))
+trigger-keeps wiring time h c by waiting kept = by_end c.end refl
   where
     given : c.end ≡ None → trigger_on time c ≡ record c { schedule = triggered time c.schedule }
     given runs = rw runs refl
@@ -365,8 +365,8 @@ trigger-keeps spot time h c by waiting kept = by_end c.end refl
     ignored : (e : End) → c.end ≡ Some e → trigger_on time c ≡ c
     ignored e ended = rw ended refl
 
-    by_end : (e : Option End) → c.end ≡ e → Keeps spot time h (Some (trigger_on time c))
+    by_end : (e : Option End) → c.end ≡ e → Keeps wiring time h (Some (trigger_on time c))
     by_end None runs =
-        subst (λ (d : Running). Keeps spot time h (Some d)) (sym (given runs))
-        (trigger-keeps-on spot time h c by (kept.0.timely.early time (waits-early time c waiting)) runs kept)
-    by_end (Some e) ended = subst (λ (d : Running). Keeps spot time h (Some d)) (sym (ignored e ended)) kept
+        subst (λ (d : Running). Keeps wiring time h (Some d)) (sym (given runs))
+        (trigger-keeps-on wiring time h c by (kept.0.timely.early time (waits-early time c waiting)) runs kept)
+    by_end (Some e) ended = subst (λ (d : Running). Keeps wiring time h (Some d)) (sym (ignored e ended)) kept

@@ -24,7 +24,7 @@ use Rattle.cm_replay.specs.Calling.{cmd_reply, insn_reply, trigger_reply}
 use Rattle.cm_running.specs.Triggering.{trigger_on, waits}
 use Rattle.cm_replay.specs.Forms.{form, line_checks, named_sub}
 use Rattle.cm_replay.specs.Job.{setting_of}
-use Rattle.cm_replay.specs.Law.{EndsWell, History, IsDue, IsDueIfAny, IsPrefix, Keeps, PrefixLaw, ReadsPrefixes, Spot, no_history, reported_after, reported_of, spot_at}
+use Rattle.cm_replay.specs.Law.{EndsWell, History, IsDue, IsDueIfAny, IsPrefix, Keeps, PrefixLaw, ReadsPrefixes, Wiring, no_history, reported_after, reported_of, wiring_at}
 use Rattle.cm_running.specs.Running.{Running, brought, is_out, moved_on, put_out, samples, served}
 use Rattle.cm_replay.specs.Reading.{look_reply, map_reply, on_running, read_reply, release_reply}
 use Rattle.cm_running.specs.Reading.{reported_end}
@@ -89,17 +89,17 @@ reported-drained c e said = elim (cases_Bool (is_out c.schedule)) [
   | inr inn ↦ let d = ended-drained c e inn said in (λ i. d.0, d.1)
 ]
 
-or-ended : (spot : Spot) (h : Here) (hist : History) (reported : List ℕ) (c : Running) (reply : Reply) → Keeps spot h.time hist (Some c) → IsPrefix reported (Some c) → ReadsWell reported (Some c) reply → (e : Option End) → reported_end c ≡ e →
+or-ended : (wiring : Wiring) (h : Here) (hist : History) (reported : List ℕ) (c : Running) (reply : Reply) → Keeps wiring h.time hist (Some c) → IsPrefix reported (Some c) → ReadsWell reported (Some c) reply → (e : Option End) → reported_end c ≡ e →
     ReadsWell reported (Some c) (unless_ended h e reply)
-or-ended spot h hist reported c reply keeps prefix well None said = well
-or-ended spot h hist reported c reply keeps prefix well (Some e) said =
+or-ended wiring h hist reported c reply keeps prefix well None said = well
+or-ended wiring h hist reported c reply keeps prefix well (Some e) said =
     let d = reported-drained c e said in
     (end-well e reported c prefix d.0 (subst (λ o. IsDueIfAny o (served c) (length c.schedule.conversions)) d.1 keeps.0.end), tt)
 
-served-prefix : (spot : Spot) (reply : Running → Reply) (h : Here) (hist : History) (reported : List ℕ) (running : Option Running) → ((c : Running) → IsPrefix reported (Some c) → ReadsWell reported (Some c) (reply c)) →
-    Keeps spot h.time hist running → running ≡ h.device.running → IsPrefix reported running → ReadsWell reported running (on_running h running reply)
-served-prefix spot reply h hist reported None well keeps same prefix = (tt, subst (IsPrefix reported) same tt)
-served-prefix spot reply h hist reported (Some c) well keeps same prefix = or-ended spot h hist reported c (reply c) keeps prefix (well c prefix) (reported_end c) refl
+served-prefix : (wiring : Wiring) (reply : Running → Reply) (h : Here) (hist : History) (reported : List ℕ) (running : Option Running) → ((c : Running) → IsPrefix reported (Some c) → ReadsWell reported (Some c) (reply c)) →
+    Keeps wiring h.time hist running → running ≡ h.device.running → IsPrefix reported running → ReadsWell reported running (on_running h running reply)
+served-prefix wiring reply h hist reported None well keeps same prefix = (tt, subst (IsPrefix reported) same tt)
+served-prefix wiring reply h hist reported (Some c) well keeps same prefix = or-ended wiring h hist reported c (reply c) keeps prefix (well c prefix) (reported_end c) refl
 
 look-prefix : (i : ℕ) (h : Here) (reported : List ℕ) (running : Option Running) → running ≡ h.device.running → IsPrefix reported running → ReadsWell reported running (look_reply i h running)
 look-prefix i h reported None same prefix = (tt, subst (IsPrefix reported) same tt)
@@ -124,10 +124,10 @@ call-prefix cmd h reported prefix = elim (cases_Bool ((tested h.sub cmd).0 == 0)
 ]
 
 -- of a command that waits for its trigger nothing was read, and so it is with each other schedule
-trigger-prefix : (spot : Spot) (h : Here) (hist : History) (reported : List ℕ) (running : Option Running) → waits h.time running ≡ true → Keeps spot h.time hist running → running ≡ h.device.running → IsPrefix reported running →
+trigger-prefix : (wiring : Wiring) (h : Here) (hist : History) (reported : List ℕ) (running : Option Running) → waits h.time running ≡ true → Keeps wiring h.time hist running → running ≡ h.device.running → IsPrefix reported running →
     ReadsWell reported running (trigger_reply h running)
-trigger-prefix spot h hist reported None waiting keeps same prefix = (tt, subst (IsPrefix reported) same tt)
-trigger-prefix spot h hist reported (Some c) waiting keeps same prefix = (tt, by_end c.end refl)
+trigger-prefix wiring h hist reported None waiting keeps same prefix = (tt, subst (IsPrefix reported) same tt)
+trigger-prefix wiring h hist reported (Some c) waiting keeps same prefix = (tt, by_end c.end refl)
   where
     none_read : is_out c.schedule ≡ false → c.r ≡ 0
     none_read inn =
@@ -146,30 +146,30 @@ trigger-prefix spot h hist reported (Some c) waiting keeps same prefix = (tt, by
         subst (λ (d : Running). IsPrefix reported (Some d)) (sym is) prefix
 
 -- a line that no check refuses reads well
-form-prefix : (spot : Spot) (op : Op) (h : Here) (hist : History) (reported : List ℕ) → Keeps spot h.time hist h.device.running → IsPrefix reported h.device.running → first_refusal (form op h).checks ≡ None → ReadsWell reported h.device.running (form op h).reply
-form-prefix spot ops.OpenFile h hist reported keeps prefix passed = (tt, prefix)
-form-prefix spot ops.CloseFile h hist reported keeps prefix passed = (tt, prefix)
-form-prefix spot (ops.Lock sub) h hist reported keeps prefix passed = (tt, prefix)
-form-prefix spot (ops.Unlock sub) h hist reported keeps prefix passed = (tt, prefix)
-form-prefix spot (ops.Cmd cmd) h hist reported keeps prefix passed = call-prefix cmd h reported prefix
-form-prefix spot (ops.Cancel sub) h hist reported keeps prefix passed = (tt, tt)
-form-prefix spot (ops.Read sub n) h hist reported keeps prefix passed =
-    served-prefix spot (read_reply n h) h hist reported h.device.running (λ c before. (tt, λ inn. more-prefix reported c _ before inn)) keeps refl prefix
-form-prefix spot (ops.Map sub n) h hist reported keeps prefix passed = served-prefix spot (map_reply n h) h hist reported h.device.running (λ c before. (tt, before)) keeps refl prefix
-form-prefix spot (ops.Look sub i) h hist reported keeps prefix passed = look-prefix i h reported h.device.running refl prefix
-form-prefix spot (ops.Release sub k) h hist reported keeps prefix passed = release-prefix k h reported h.device.running refl prefix
-form-prefix spot (ops.Contents sub) h hist reported keeps prefix passed = (tt, prefix)
-form-prefix spot (ops.Write sub words) h hist reported keeps prefix passed = served-prefix spot (write_reply words h) h hist reported h.device.running (λ c before. (tt, before)) keeps refl prefix
-form-prefix spot (ops.Fill sub words) h hist reported keeps prefix passed = served-prefix spot (fill_reply words h) h hist reported h.device.running (λ c before. (tt, before)) keeps refl prefix
-form-prefix spot (ops.Mark sub k) h hist reported keeps prefix passed = mark-prefix k h reported h.device.running refl prefix
-form-prefix spot (ops.InsnRead sub entry n) h hist reported keeps prefix passed = shown-prefix true h reported _ prefix
-form-prefix spot (ops.InsnWrite sub entry words) h hist reported keeps prefix passed = shown-prefix false h reported _ prefix
-form-prefix spot (ops.InsnBits sub mask bits) h hist reported keeps prefix passed = shown-prefix true h reported _ prefix
-form-prefix spot (ops.InsnConfig sub entry word) h hist reported keeps prefix passed = shown-prefix false h reported _ prefix
-form-prefix spot (ops.InsnGtod sub) h hist reported keeps prefix passed = (tt, prefix)
-form-prefix spot (ops.InsnIntTrig sub number) h hist reported keeps prefix passed =
+form-prefix : (wiring : Wiring) (op : Op) (h : Here) (hist : History) (reported : List ℕ) → Keeps wiring h.time hist h.device.running → IsPrefix reported h.device.running → first_refusal (form op h).checks ≡ None → ReadsWell reported h.device.running (form op h).reply
+form-prefix wiring ops.OpenFile h hist reported keeps prefix passed = (tt, prefix)
+form-prefix wiring ops.CloseFile h hist reported keeps prefix passed = (tt, prefix)
+form-prefix wiring (ops.Lock sub) h hist reported keeps prefix passed = (tt, prefix)
+form-prefix wiring (ops.Unlock sub) h hist reported keeps prefix passed = (tt, prefix)
+form-prefix wiring (ops.Cmd cmd) h hist reported keeps prefix passed = call-prefix cmd h reported prefix
+form-prefix wiring (ops.Cancel sub) h hist reported keeps prefix passed = (tt, tt)
+form-prefix wiring (ops.Read sub n) h hist reported keeps prefix passed =
+    served-prefix wiring (read_reply n h) h hist reported h.device.running (λ c before. (tt, λ inn. more-prefix reported c _ before inn)) keeps refl prefix
+form-prefix wiring (ops.Map sub n) h hist reported keeps prefix passed = served-prefix wiring (map_reply n h) h hist reported h.device.running (λ c before. (tt, before)) keeps refl prefix
+form-prefix wiring (ops.Look sub i) h hist reported keeps prefix passed = look-prefix i h reported h.device.running refl prefix
+form-prefix wiring (ops.Release sub k) h hist reported keeps prefix passed = release-prefix k h reported h.device.running refl prefix
+form-prefix wiring (ops.Contents sub) h hist reported keeps prefix passed = (tt, prefix)
+form-prefix wiring (ops.Write sub words) h hist reported keeps prefix passed = served-prefix wiring (write_reply words h) h hist reported h.device.running (λ c before. (tt, before)) keeps refl prefix
+form-prefix wiring (ops.Fill sub words) h hist reported keeps prefix passed = served-prefix wiring (fill_reply words h) h hist reported h.device.running (λ c before. (tt, before)) keeps refl prefix
+form-prefix wiring (ops.Mark sub k) h hist reported keeps prefix passed = mark-prefix k h reported h.device.running refl prefix
+form-prefix wiring (ops.InsnRead sub entry n) h hist reported keeps prefix passed = shown-prefix true h reported _ prefix
+form-prefix wiring (ops.InsnWrite sub entry words) h hist reported keeps prefix passed = shown-prefix false h reported _ prefix
+form-prefix wiring (ops.InsnBits sub mask bits) h hist reported keeps prefix passed = shown-prefix true h reported _ prefix
+form-prefix wiring (ops.InsnConfig sub entry word) h hist reported keeps prefix passed = shown-prefix false h reported _ prefix
+form-prefix wiring (ops.InsnGtod sub) h hist reported keeps prefix passed = (tt, prefix)
+form-prefix wiring (ops.InsnIntTrig sub number) h hist reported keeps prefix passed =
     let p = passes-both (cancel_checks h.file (claim_of h)) _ passed in
-    trigger-prefix spot h hist reported h.device.running (not_false _ (passes Again _ _ p.1).0) keeps refl prefix
+    trigger-prefix wiring h hist reported h.device.running (not_false _ (passes Again _ _ p.1).0) keeps refl prefix
 
 -- each command's marked samples are a prefix
 abbrev AllPrefixes : (ℕ → List ℕ) → List Device → Type 0
@@ -238,7 +238,7 @@ on-prefix s line op histories reported state sound keep prefixes =
     well passed =
         let r = reached s line op state sound passed in
         let sub = named_sub line.op in
-        replied-prefix sub reported state (form op h).reply r.0 prefixes (form-prefix (spot_at s sub) op h (histories sub) (reported sub) (keep sub) (prefixes sub) r.1)
+        replied-prefix sub reported state (form op h).reply r.0 prefixes (form-prefix (wiring_at s sub) op h (histories sub) (reported sub) (keep sub) (prefixes sub) r.1)
 
 act-prefix : (s : Setting) (line : SessionLine) (op : Op) (histories : ℕ → History) (reported : ℕ → List ℕ) (state : State) → IsSoundState s state → AllKeep s line.time histories state.devices → AllPrefixes reported state.devices →
     ActsWell (named_sub line.op) reported state (act s line op state)

@@ -22,7 +22,7 @@ use Rattle.cm_replay.specs.Calling.{cmd_reply, insn_reply, trigger_reply}
 use Rattle.cm_running.specs.Triggering.{trigger_on}
 use Rattle.cm_replay.specs.Forms.{form, line_checks, named_sub}
 use Rattle.cm_replay.specs.Job.{JobText, setting_of}
-use Rattle.cm_replay.specs.Law.{HasPlaces, History, IsSoundJob, Keeps, Spot, no_history, spot_at}
+use Rattle.cm_replay.specs.Law.{HasPlaces, History, IsSoundJob, Keeps, Wiring, no_history, wiring_at}
 use Rattle.cm_running.specs.Running.{Running, Schedule, arrived, brought, collected, is_out, moved_on, put_out, served}
 use Rattle.cm_replay.specs.Reading.{look_reply, map_reply, on_running, read_reply, release_reply}
 use Rattle.cm_running.specs.Reading.{reported_end}
@@ -187,9 +187,9 @@ served-come true time c e places = let o = output (is_out c.schedule) time c e p
 served-come false time c e places = let i = input (is_out c.schedule) time c e places in omega (arith, served-in c e, i.w_come)
 
 -- a lawful command is ready at each later time
-can-move : (spot : Spot) (number before time : ℕ) (h : History) (running : Option Running) → before ≤ time → time ≤ spot.signals.horizon → Keeps spot before h running → HasPlan (IsCalled time number) running → CanMove spot number time running
-can-move spot number before time h None later by keeps called = tt
-can-move spot number before time h (Some c) later by keeps called = record {
+can-move : (wiring : Wiring) (number before time : ℕ) (h : History) (running : Option Running) → before ≤ time → time ≤ wiring.signals.horizon → Keeps wiring before h running → HasPlan (IsCalled time number) running → CanMove wiring number time running
+can-move wiring number before time h None later by keeps called = tt
+can-move wiring number before time h (Some c) later by keeps called = record {
   come = omega (arith, served-come (is_out c.schedule) before c refl keeps.0.places, come-later before time c.schedule.arrivals later);
   within = omega (arith, by, ap (λ (x : Schedule). x.horizon) keeps.0.same, ap (λ (x : SignalsText). x.horizon) keeps.1.1);
   timely = keeps.0.timely;
@@ -200,8 +200,8 @@ can-move spot number before time h (Some c) later by keeps called = record {
 }
 
 -- the same of a subdevice that is there, whatever stands for one that isn't
-pub ready-at : (s : Setting) (time : ℕ) (state : State) (i : ℕ) (d : Device) → AllCanMove s time state → i < length state.devices → CanMove (spot_at s i) i time (get_or state.devices i d).running
-ready-at s time state i d all within = subst (λ (x : Device). CanMove (spot_at s i) i time x.running) (get_or_default state.devices i (idle_device no_sub) d within) (all i)
+pub ready-at : (s : Setting) (time : ℕ) (state : State) (i : ℕ) (d : Device) → AllCanMove s time state → i < length state.devices → CanMove (wiring_at s i) i time (get_or state.devices i d).running
+ready-at s time state i d all within = subst (λ (x : Device). CanMove (wiring_at s i) i time x.running) (get_or_default state.devices i (idle_device no_sub) d within) (all i)
 
 -- a lawful session stays ready
 stays_ready : (s : Setting) (time : ℕ) (histories : ℕ → History) (state : State) (lines : List SessionLine) → IsSoundState s state → AllKeep s time histories state.devices → AllPlans (IsCalled time) state.devices →
@@ -213,8 +213,8 @@ stays_ready s time histories state (line ∷ rest) sound keep called order =
     let later : AllPlans (IsCalled line.time) state.devices = λ i. called-later time line.time i (device_at state.devices i).running order.0 (called i) in
     let brought_called = plans-brought (IsCalled line.time) line.time state.devices later in (
       order.1.0,
-      λ i. can-move (spot_at s i) i time line.time (histories i) (device_at state.devices i).running order.0 order.1.0 (keep i) (later i),
-      λ i. can-move (spot_at s i) i line.time line.time (histories i) (device_at (brought_all line.time state).devices i).running (omega arith) order.1.0 (brought_keep i) (brought_called i),
+      λ i. can-move (wiring_at s i) i time line.time (histories i) (device_at state.devices i).running order.0 order.1.0 (keep i) (later i),
+      λ i. can-move (wiring_at s i) i line.time line.time (histories i) (device_at (brought_all line.time state).devices i).running (omega arith) order.1.0 (brought_keep i) (brought_called i),
       stays_ready s line.time _ _ rest (sound-stepped s line state sound) well.kept (called-stepped s line state sound later) order.2,
     )
 

@@ -22,7 +22,7 @@ use Rattle.cm_session.specs.declared.op.SessionLine.{SessionLine}
 use Rattle.cm_replay.specs.Answers.{Answer, Data, Fine, Refused, Reply}
 use Rattle.cm_replay.specs.Forms.{form, line_checks, named_sub}
 use Rattle.cm_replay.specs.Job.{setting_of}
-use Rattle.cm_replay.specs.Law.{Continues, GoesWell, History, Keeps, SessionLaw, no_history, remembered, remembered_at, spot_at}
+use Rattle.cm_replay.specs.Law.{Continues, GoesWell, History, Keeps, SessionLaw, no_history, remembered, remembered_at, wiring_at}
 use Rattle.cm_running.specs.Running.{Running}
 use Rattle.cm_replay.specs.Session.{Outcome, act, act_on, brought_all, brought_device, closed_state, here, left_devices, step, with_reply}
 use Rattle.cm_replay.specs.State.{Device, Here, State, at_start, device_at, idle_device}
@@ -104,11 +104,11 @@ reached s line op state sound passed =
 
 -- each command keeps its rules
 abbrev pub AllKeep : Setting → ℕ → (ℕ → History) → List Device → Type 0
-AllKeep s time histories devices = (i : ℕ) → Keeps (spot_at s i) time (histories i) (device_at devices i).running
+AllKeep s time histories devices = (i : ℕ) → Keeps (wiring_at s i) time (histories i) (device_at devices i).running
 
 pub all-brought : (s : Setting) (before time : ℕ) (histories : ℕ → History) (devices : List Device) → before ≤ time → AllKeep s before histories devices → AllKeep s time histories (map (brought_device time) devices)
 all-brought s before time histories devices later keep i =
-    subst (λ (d : Device). Keeps (spot_at s i) time (histories i) d.running) (sym (device_at-brought time devices i)) (brought-keeps (spot_at s i) before time (histories i) (device_at devices i).running later (keep i))
+    subst (λ (d : Device). Keeps (wiring_at s i) time (histories i) d.running) (sym (device_at-brought time devices i)) (brought-keeps (wiring_at s i) before time (histories i) (device_at devices i).running later (keep i))
 
 -- an answer of which no command speaks adds nothing
 same-history : (histories : ℕ → History) (sub i : ℕ) (answer : Answer) → ((h : History) → remembered h answer ≡ h) → remembered_at histories sub answer i ≡ histories i
@@ -128,21 +128,21 @@ unread-well : (s : Setting) (time sub : ℕ) (histories : ℕ → History) (stat
     AllKeep s time histories outcome.state.devices → StepsWell s time sub histories state outcome
 unread-well s time sub histories state outcome nothing continues keep = record {
   answer = continues;
-  kept = λ i. subst (λ h. Keeps (spot_at s i) time h (device_at outcome.state.devices i).running) (sym (same-history histories sub i outcome.answer nothing)) (keep i);
+  kept = λ i. subst (λ h. Keeps (wiring_at s i) time h (device_at outcome.state.devices i).running) (sym (same-history histories sub i outcome.answer nothing)) (keep i);
 }
 
 refused-well : (s : Setting) (time sub : ℕ) (histories : ℕ → History) (state : State) → AllKeep s time histories state.devices → (error : Errno) → StepsWell s time sub histories state (record { answer = Refused error; state = state })
 refused-well s time sub histories state keep error = unread-well s time sub histories state (record { answer = Refused error; state = state }) (λ h. refl) tt keep
 
 replied-well : (s : Setting) (time sub : ℕ) (histories : ℕ → History) (state : State) (reply : Reply) → sub < length state.devices → AllKeep s time histories state.devices →
-    Continues reply.answer (histories sub) (device_at state.devices sub).running → Keeps (spot_at s sub) time (remembered (histories sub) reply.answer) reply.device.running →
+    Continues reply.answer (histories sub) (device_at state.devices sub).running → Keeps (wiring_at s sub) time (remembered (histories sub) reply.answer) reply.device.running →
     StepsWell s time sub histories state (with_reply sub state reply)
 replied-well s time sub histories state reply within keep continues after = record {
   answer = continues;
   kept = λ i. elim (cases_eq i sub) [
-    | inl same ↦ rw (eq-eqb i sub same) (subst (λ j. Keeps (spot_at s j) time (remembered (histories j) reply.answer) (device_at (set state.devices sub reply.device) j).running) (sym same)
-        (set-same (Keeps (spot_at s sub) time (remembered (histories sub) reply.answer)) state.devices sub reply.device within after))
-    | inr apart ↦ rw (ne_eqb i sub apart) (set-other (Keeps (spot_at s i) time (histories i)) state.devices sub i reply.device apart (keep i))
+    | inl same ↦ rw (eq-eqb i sub same) (subst (λ j. Keeps (wiring_at s j) time (remembered (histories j) reply.answer) (device_at (set state.devices sub reply.device) j).running) (sym same)
+        (set-same (Keeps (wiring_at s sub) time (remembered (histories sub) reply.answer)) state.devices sub reply.device within after))
+    | inr apart ↦ rw (ne_eqb i sub apart) (set-other (Keeps (wiring_at s i) time (histories i)) state.devices sub i reply.device apart (keep i))
   ];
 }
 
@@ -172,7 +172,7 @@ act-well s line ops.OpenFile histories state sound by keep =
 act-well s line ops.CloseFile histories state sound by keep =
     either-way (StepsWell s line.time (named_sub line.op) histories state) (first_refusal (close_checks line.file state.files)) state _
     (λ passed. unread-well s line.time (named_sub line.op) histories state (record { answer = Fine; state = closed_state line.file state }) (λ h. refl) tt
-    (λ i. left-at (Keeps (spot_at s i) line.time (histories i)) (closed line.file state.files).claims state.devices i tt (keep i)))
+    (λ i. left-at (Keeps (wiring_at s i) line.time (histories i)) (closed line.file state.files).claims state.devices i tt (keep i)))
     (refused-well s line.time (named_sub line.op) histories state keep)
 act-well s line (ops.InsnGtod sub) histories state sound by keep =
     either-way (StepsWell s line.time (named_sub line.op) histories state) (first_refusal (close_checks line.file state.files)) state _
@@ -192,14 +192,14 @@ goes_well s time histories state [] sound keep order = tt
 goes_well s time histories state (line ∷ rest) sound keep order =
     let well = step-well s time line histories state sound order.0 order.1.0 keep in (
       all-brought s time line.time histories state.devices order.0 keep,
-      λ i. puts-out (spot_at s i) i time line.time (histories i) (device_at state.devices i).running order.0 (keep i),
+      λ i. puts-out (wiring_at s i) i time line.time (histories i) (device_at state.devices i).running order.0 (keep i),
       well.answer,
       goes_well s line.time _ _ rest (sound-stepped s line state sound) well.kept order.2,
     )
 
 -- no command breaks a rule before the first line
 pub all-idle : (s : Setting) → AllKeep s 0 (λ i. no_history) (at_start s).devices
-all-idle s i = subst (Keeps (spot_at s i) 0 no_history) (sym (first-idle s.board.subs i)) tt
+all-idle s i = subst (Keeps (wiring_at s i) 0 no_history) (sym (first-idle s.board.subs i)) tt
 
 -- every session goes well
 pub session_law : SessionLaw

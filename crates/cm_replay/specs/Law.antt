@@ -80,22 +80,22 @@ Remembers true h c =
     (length h.given ≡ c.a) × (c.words ≡ map_from (munged_within (munge_in c.schedule) 0 c.w) c.r (drop c.r h.given))
 
 -- a subdevice and its signals
-pub record Spot : Type 0 where
+pub record Wiring : Type 0 where
   pub sub : SubText
   pub signals : SignalsText
 
 -- those of a number
-abbrev pub spot_at : Setting → ℕ → Spot
-spot_at s i = record { sub = sub_at s.board i; signals = s.signals }
+abbrev pub wiring_at : Setting → ℕ → Wiring
+wiring_at s i = record { sub = sub_at s.board i; signals = s.signals }
 
 -- a plan is one of theirs
-abbrev pub IsOf : Spot → PlanText → Type 0
-IsOf spot p = (p.sub ≡ spot.sub) × (p.signals ≡ spot.signals)
+abbrev pub IsOf : Wiring → PlanText → Type 0
+IsOf wiring p = (p.sub ≡ wiring.sub) × (p.signals ≡ wiring.signals)
 
 -- a command is lawful, one of its subdevice, and as its history says
-abbrev pub Keeps : Spot → ℕ → History → Option Running → Type 0
-Keeps spot time h None = Unit {0}
-Keeps spot time h (Some c) = IsLawful time c × IsOf spot c.schedule.plan × Remembers (is_out c.schedule) h c
+abbrev pub Keeps : Wiring → ℕ → History → Option Running → Type 0
+Keeps wiring time h None = Unit {0}
+Keeps wiring time h (Some c) = IsLawful time c × IsOf wiring c.schedule.plan × Remembers (is_out c.schedule) h c
 
 -- an answer has the next samples, or one that is mapped, or reports an end where nothing is left
 abbrev pub Continues : Answer → History → Option Running → Type 0
@@ -143,7 +143,8 @@ running_at line state = (device_at (brought_all line.time state).devices (named_
 abbrev pub GoesWell : Setting → (ℕ → History) → State → List SessionLine → Type 0
 GoesWell s histories state [] = Unit {0}
 GoesWell s histories state (line ∷ rest) =
-    ((i : ℕ) → Keeps (spot_at s i) line.time (histories i) (device_at (brought_all line.time state).devices i).running)
+    ((i : ℕ) →
+        Keeps (wiring_at s i) line.time (histories i) (device_at (brought_all line.time state).devices i).running)
     × ((i : ℕ) → PutsOut i line.time (histories i) (device_at state.devices i).running)
     × Continues (step s line state).answer (histories (named_sub line.op)) (running_at line state)
     × GoesWell s (remembered_at histories (named_sub line.op) (step s line state).answer) (step s line state).state rest

@@ -2,7 +2,7 @@
 use Rattle.std.specs.Prelude.{◌≡◌, ℕ, ◌≤◌, List, [], ◌∷◌, Option, Some, None}
 use Rattle.cm_signal.specs.Setting.{Setting}
 use Rattle.cm_session.specs.declared.op.SessionLine.{SessionLine}
-use Rattle.cm_replay.specs.Law.{IsOf, Spot, spot_at}
+use Rattle.cm_replay.specs.Law.{IsOf, Wiring, wiring_at}
 use Rattle.cm_running.specs.Running.{Running, arrived, served}
 use Rattle.cm_running.specs.Schedules.{schedule_of}
 use Rattle.cm_replay.specs.Session.{brought_all, step}
@@ -12,23 +12,23 @@ use Rattle.cm_running.specs.Timely.{IsTimely}
 -- a command of the subdevice with a number is ready to be brought to a time:
 -- all that was served has come by then, which isn't after the horizon,
 -- and its schedule is that of its plan, which is one of this subdevice and was called by then
-pub record IsReady (spot : Spot) (number time : ℕ) (c : Running) : Type 0 where
+pub record IsReady (wiring : Wiring) (number time : ℕ) (c : Running) : Type 0 where
   pub come : served c ≤ arrived c.schedule time
   pub within : time ≤ c.schedule.horizon
   pub timely : IsTimely c.schedule
   pub same : c.schedule ≡ schedule_of c.schedule.plan
-  pub its : IsOf spot c.schedule.plan
+  pub its : IsOf wiring c.schedule.plan
   pub index : c.schedule.plan.index ≡ number
   pub called : c.schedule.plan.t0 ≤ time
 
 -- the same where a command runs
-abbrev pub CanMove : Spot → ℕ → ℕ → Option Running → Type 0
-CanMove spot number time None = Unit {0}
-CanMove spot number time (Some c) = IsReady spot number time c
+abbrev pub CanMove : Wiring → ℕ → ℕ → Option Running → Type 0
+CanMove wiring number time None = Unit {0}
+CanMove wiring number time (Some c) = IsReady wiring number time c
 
 -- the same of all subdevices of a state
 abbrev pub AllCanMove : Setting → ℕ → State → Type 0
-AllCanMove s time state = (i : ℕ) → CanMove (spot_at s i) i time (device_at state.devices i).running
+AllCanMove s time state = (i : ℕ) → CanMove (wiring_at s i) i time (device_at state.devices i).running
 
 -- at every line, which isn't after the horizon,
 -- each command can be brought to the line's time, and is ready once it was

@@ -19,7 +19,7 @@ use Rattle.cm_sub.specs.Claims.{use_checks}
 use Rattle.cm_replay.specs.Calling.{insn_here, insn_reply}
 use Rattle.cm_replay.specs.Answers.{Answer, Refused, Reply, kept}
 use Rattle.cm_replay.specs.Forms.{Form, form, is_unfit, kind_checks, named_sub}
-use Rattle.cm_replay.specs.Law.{IsSoundJob, Spot}
+use Rattle.cm_replay.specs.Law.{IsSoundJob, Wiring}
 use Rattle.cm_running.specs.Running.{Running, arrived, served}
 use Rattle.cm_replay.specs.Ready.{AllCanMove, CanMove}
 use Rattle.cm_replay.specs.Session.{Outcome, Step}
@@ -149,8 +149,8 @@ names_sub (ops.InsnGtod sub) = false
 names_sub op = true
 
 -- a subdevice and its signals, as a line finds them
-abbrev pub spot_of : At → Spot
-spot_of at = record { sub = at.sub.now; signals = at.signals.now }
+abbrev pub wiring_of : At → Wiring
+wiring_of at = record { sub = at.sub.now; signals = at.signals.now }
 
 -- what a line can rely on where it acts: the file is open, the subdevice is there and can do what is asked,
 -- that has its limits, the subdevice's command was brought to the time, and what was tried of the line's own command
@@ -161,7 +161,7 @@ pub record CanAct (at : At) (op : Op) (tried : Option CmdText) (files : FilesTex
   pub limits : HasLimits op
   pub time : at.time ≤ at.signals.now.horizon
   pub whole : IsWhole at.sub.now device
-  pub ready : CanMove (spot_of at) at.index at.time device.running
+  pub ready : CanMove (wiring_of at) at.index at.time device.running
   pub its_trial : tried ≡ tried_by at.sub.now op
 
 -- the same for a line, where all commands were brought to its time

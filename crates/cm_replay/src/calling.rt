@@ -5,7 +5,7 @@ ghost use Rattle.cm_replay.specs.Answers.{Rejected};
 ghost use Rattle.cm_replay.specs.Calling.{cmd_reply};
 ghost use Rattle.cm_replay.specs.Forms.{form};
 ghost use Rattle.cm_replay.specs.Ready.{CanMove};
-ghost use Rattle.cm_replay.specs.Replies.{IsReached, Replies, checked, here_at, spot_of, tried_on};
+ghost use Rattle.cm_replay.specs.Replies.{IsReached, Replies, checked, here_at, wiring_of, tried_on};
 ghost use Rattle.cm_replay.specs.Texts.{answer_text};
 ghost use Rattle.cm_session.specs.declared.op.Op.TheVariants as ops;
 ghost use Rattle.cm_test.specs.Questions.{tested};
@@ -107,7 +107,7 @@ pub(crate) fn trigger(
 ) -> Result<(), NoMemory>
     requires within { at.now.index < length files.now.claims }
     requires time { at.now.time ≤ at.now.signals.now.horizon }
-    requires ready { CanMove (spot_of at.now) at.now.index at.now.time seat.old.running }
+    requires ready { CanMove (wiring_of at.now) at.now.index at.now.time seat.old.running }
     ensures { OnOk result (Replies (checked (form (ops.InsnIntTrig at.now.index number) (here_at at.now files.now seat.old)) (here_at at.now files.now seat.old)) files.now seat.new text.old.items text.new.items) }
 {
     if let Err(error) = files.claim(at.index).may_cancel(at.file) {

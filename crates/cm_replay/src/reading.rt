@@ -4,7 +4,7 @@ ghost use Rattle.cm_replay.specs.Answers.{Reply};
 ghost use Rattle.cm_replay.specs.Forms.{form};
 ghost use Rattle.cm_replay.specs.Reading as spec;
 ghost use Rattle.cm_replay.specs.Ready.{CanMove};
-ghost use Rattle.cm_replay.specs.Replies.{IsReached, Replies, Tells, checked, here_at, spot_of};
+ghost use Rattle.cm_replay.specs.Replies.{IsReached, Replies, Tells, checked, here_at, wiring_of};
 ghost use Rattle.cm_running.specs.Running.{Running};
 ghost use Rattle.cm_replay.specs.Texts.{codes_answer};
 ghost use Rattle.cm_session.specs.declared.op.Op.TheVariants as ops;
@@ -66,7 +66,7 @@ pub(crate) fn read(
     text: &mut Vec<u8>,
 ) -> Result<(), NoMemory>
     requires within { at.now.index < length files.old.claims }
-    requires ready { CanMove (spot_of at.now) at.now.index at.now.time seat.old.running }
+    requires ready { CanMove (wiring_of at.now) at.now.index at.now.time seat.old.running }
     ensures { OnOk result (Replies (checked (form (ops.Read at.now.index n) (here_at at.now files.old seat.old)) (here_at at.now files.old seat.old)) files.new seat.new text.old.items text.new.items) }
 {
     if let Err(error) = at.refuses(files, false, mapped(seat) != 0) {
@@ -87,7 +87,7 @@ pub fn read_codes(
     text: &mut Vec<u8>,
 ) -> Result<(), NoMemory>
     requires within { at.now.index < length files.old.claims }
-    requires ready { CanMove (spot_of at.now) at.now.index at.now.time seat.old.running }
+    requires ready { CanMove (wiring_of at.now) at.now.index at.now.time seat.old.running }
     ensures { OnOk result (Tells codes_answer (checked (form (ops.Read at.now.index n) (here_at at.now files.old seat.old)) (here_at at.now files.old seat.old)) files.new seat.new text.old.items text.new.items) }
 {
     let count = mapped(seat);
@@ -109,7 +109,7 @@ pub(crate) fn map(
     text: &mut Vec<u8>,
 ) -> Result<(), NoMemory>
     requires within { at.now.index < length files.old.claims }
-    requires ready { CanMove (spot_of at.now) at.now.index at.now.time seat.old.running }
+    requires ready { CanMove (wiring_of at.now) at.now.index at.now.time seat.old.running }
     ensures { OnOk result (Replies (checked (form (ops.Map at.now.index n) (here_at at.now files.old seat.old)) (here_at at.now files.old seat.old)) files.new seat.new text.old.items text.new.items) }
 {
     if let Err(error) = at.refuses(files, false, false) {
@@ -134,7 +134,7 @@ pub(crate) fn look(
     text: &mut Vec<u8>,
 ) -> Result<(), NoMemory>
     requires within { at.now.index < length files.now.claims }
-    requires ready { CanMove (spot_of at.now) at.now.index at.now.time seat.now.running }
+    requires ready { CanMove (wiring_of at.now) at.now.index at.now.time seat.now.running }
     ensures { OnOk result (Replies (checked (form (ops.Look at.now.index i) (here_at at.now files.now seat.now)) (here_at at.now files.now seat.now)) files.now seat.now text.old.items text.new.items) }
 {
     if let Err(error) = at.refuses(files, false, mapped(seat) <= u64::from(i)) {
@@ -156,7 +156,7 @@ pub(crate) fn release(
     text: &mut Vec<u8>,
 ) -> Result<(), NoMemory>
     requires within { at.now.index < length files.now.claims }
-    requires ready { CanMove (spot_of at.now) at.now.index at.now.time seat.old.running }
+    requires ready { CanMove (wiring_of at.now) at.now.index at.now.time seat.old.running }
     ensures { OnOk result (Replies (checked (form (ops.Release at.now.index k) (here_at at.now files.now seat.old)) (here_at at.now files.now seat.old)) files.now seat.new text.old.items text.new.items) }
 {
     if let Err(error) = at.refuses(files, false, mapped(seat) < u64::from(k)) {

@@ -2,7 +2,7 @@
 ghost use Rattle.std.specs.Prelude.{◌≡◌, ◌<◌, ◌≤◌, ◌^◌, length, OnOk};
 ghost use Rattle.cm_replay.specs.Forms.{form};
 ghost use Rattle.cm_replay.specs.Ready.{CanMove};
-ghost use Rattle.cm_replay.specs.Replies.{Replies, checked, here_at, spot_of};
+ghost use Rattle.cm_replay.specs.Replies.{Replies, checked, here_at, wiring_of};
 ghost use Rattle.cm_replay.specs.Writing as spec;
 ghost use Rattle.cm_session.specs.declared.op.Op.TheVariants as ops;
 
@@ -44,7 +44,7 @@ fn next_place(seat: &Seat<'_>) -> u64
 
 // The greatest word of a place.
 fn most_at(at: &At<'_>, seat: &Seat<'_>, place: u64) -> u32
-    requires { CanMove (spot_of at.now) at.now.index at.now.time seat.now.running }
+    requires { CanMove (wiring_of at.now) at.now.index at.now.time seat.now.running }
     ensures { result ≡ spec.most_at at.now.sub.now seat.now.running place }
 {
     match &seat.running {
@@ -58,7 +58,7 @@ fn most_at(at: &At<'_>, seat: &Seat<'_>, place: u64) -> u32
 
 // Whether each word is one of its place's channel.
 fn fit(at: &At<'_>, seat: &Seat<'_>, words: &[u32]) -> bool
-    requires ready { CanMove (spot_of at.now) at.now.index at.now.time seat.now.running }
+    requires ready { CanMove (wiring_of at.now) at.now.index at.now.time seat.now.running }
     requires few { length words.now ≤ 1024 }
     ensures { result ≡ spec.all_fit (spec.most_at at.now.sub.now seat.now.running) (spec.next_place seat.now.running) words.now }
 {
@@ -83,7 +83,7 @@ pub(crate) fn write(
 ) -> Result<(), NoMemory>
     requires within { at.now.index < length files.old.claims }
     requires few { length words.now ≤ 1024 }
-    requires ready { CanMove (spot_of at.now) at.now.index at.now.time seat.old.running }
+    requires ready { CanMove (wiring_of at.now) at.now.index at.now.time seat.old.running }
     ensures { OnOk result (Replies (checked (form (ops.Write at.now.index words.now) (here_at at.now files.old seat.old)) (here_at at.now files.old seat.old)) files.new seat.new text.old.items text.new.items) }
 {
     if let Err(error) = at.refuses(files, true, unmarked(seat) != 0) {
@@ -112,7 +112,7 @@ pub(crate) fn fill(
 ) -> Result<(), NoMemory>
     requires within { at.now.index < length files.old.claims }
     requires few { length words.now ≤ 1024 }
-    requires ready { CanMove (spot_of at.now) at.now.index at.now.time seat.old.running }
+    requires ready { CanMove (wiring_of at.now) at.now.index at.now.time seat.old.running }
     ensures { OnOk result (Replies (checked (form (ops.Fill at.now.index words.now) (here_at at.now files.old seat.old)) (here_at at.now files.old seat.old)) files.new seat.new text.old.items text.new.items) }
 {
     if let Err(error) = at.refuses(files, true, !fit(at, seat, words)) {
@@ -137,7 +137,7 @@ pub(crate) fn mark(
     text: &mut Vec<u8>,
 ) -> Result<(), NoMemory>
     requires within { at.now.index < length files.now.claims }
-    requires ready { CanMove (spot_of at.now) at.now.index at.now.time seat.old.running }
+    requires ready { CanMove (wiring_of at.now) at.now.index at.now.time seat.old.running }
     ensures { OnOk result (Replies (checked (form (ops.Mark at.now.index k) (here_at at.now files.now seat.old)) (here_at at.now files.now seat.old)) files.now seat.new text.old.items text.new.items) }
 {
     if let Err(error) = at.refuses(files, true, unmarked(seat) < u64::from(k)) {

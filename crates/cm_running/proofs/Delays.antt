@@ -7,7 +7,7 @@ use Rattle.cm_expand.specs.Items.{items_of}
 use Rattle.cm_expand.specs.Plan.{is_complete}
 use Rattle.cm_expand.specs.Taking.{NeverFalls, come}
 use Rattle.cm_expand.specs.declared.conv.Conv.{Conv}
-use Rattle.cm_fifo.specs.Handed.{Coming, Drains, Handed, Nothing, Overflows, at_time, coming, handed, handed_after, last_of}
+use Rattle.cm_fifo.specs.Handed.{NextEvent, Drains, Handed, Nothing, Overflows, at_time, next_event, handed, handed_after, last_of}
 use Rattle.cm_fifo.specs.State.{FifoState, IsLater, IsSoundFifo, left_after, next_of, time_of}
 use Rattle.cm_fifo.proofs.Nexts.{step-next}
 use Rattle.cm_fifo.proofs.Unfolding.{all-taken, handed-enough, none-comes, not_over, step-drains, step-nothing, step-overflows}
@@ -25,8 +25,8 @@ later-on : (at : ℕ) (b : FifoState) → b.over ≡ false → later_than at b �
 later-on at b on = rw on refl
 
 -- a board that goes on has lost none
-on_of : (b : FifoState) (c : Coming) → next_of b ≡ c → (c ≡ Nothing → ⊥) → b.over ≡ false
-on_of b c next some = not_over b.over (coming b.fifo (last_of b.plan) b.plan.signals.horizon (left_after b)) c next some
+on_of : (b : FifoState) (c : NextEvent) → next_of b ≡ c → (c ≡ Nothing → ⊥) → b.over ≡ false
+on_of b c next some = not_over b.over (next_event b.fifo (last_of b.plan) b.plan.signals.horizon (left_after b)) c next some
 
 -- and where conversions are left, there are conversions at all
 more-of : (b : FifoState) → 1 ≤ length (left_after b) → length (items_of b.plan) ≡ suc (length (items_of b.plan) - 1)
@@ -112,7 +112,7 @@ next-later at b edge is none = alone ∙ by_over b.over refl
     arrivals-by : (h : Handed) → later_than at b ≡ h → first (later_than at b).arrivals ≡ first h.arrivals
     arrivals-by h e = ap (λ (x : Handed). first x.arrivals) e
 
-    by_next : (c : Coming) → b.over ≡ false → next_of b ≡ c → first (later_than at b).arrivals ≡ time_of c
+    by_next : (c : NextEvent) → b.over ≡ false → next_of b ≡ c → first (later_than at b).arrivals ≡ time_of c
     by_next Nothing on next = arrivals-by _ (later-on at b on ∙ step-nothing b (length (items_of b.plan)) on next)
     by_next (Drains t n) on next =
         let some = drains-left b t n is next in
@@ -155,10 +155,10 @@ come-later_on at time b edge is order none late = by_next (next_of b) refl
     cs : List Conv
     cs = (to_hand_over at b edge).conversions
 
-    by_next : (c : Coming) → next_of b ≡ c → come time cs ≡ 0
+    by_next : (c : NextEvent) → next_of b ≡ c → come time cs ≡ 0
     by_next Nothing next = ap (come time) (nothing_left cs (next-later at b edge is none ∙ ap time_of next))
-    by_next (Drains t n) next = come-late time t cs order (next-later at b edge is none ∙ ap time_of next) (subst (λ (c : Coming). IsLater c time) next late)
-    by_next (Overflows t) next = come-late time t cs order (next-later at b edge is none ∙ ap time_of next) (subst (λ (c : Coming). IsLater c time) next late)
+    by_next (Drains t n) next = come-late time t cs order (next-later at b edge is none ∙ ap time_of next) (subst (λ (c : NextEvent). IsLater c time) next late)
+    by_next (Overflows t) next = come-late time t cs order (next-later at b edge is none ∙ ap time_of next) (subst (λ (c : NextEvent). IsLater c time) next late)
 
 -- where nothing is to come, nothing is ready, and nothing comes next
 pub none-next : (at : ℕ) (b : FifoState) (edge : Option ℕ) → IsSoundFifo b → (to_hand_over at b edge).conversions ≡ [] → (b.ready ≡ 0) × (next_of b ≡ Nothing)

@@ -5,16 +5,16 @@ use Rattle.std.proofs.lemmas.Bool.{cases_lt, le-leb}
 use Rattle.std.proofs.lemmas.List.{length-map, take_all}
 use Rattle.cm_board.specs.declared.board.Fifo.{Fifo}
 use Rattle.cm_sample.specs.Rule.{map_from}
-use Rattle.cm_expand.specs.Course.{times}
+use Rattle.cm_expand.specs.Timing.{times}
 use Rattle.cm_expand.specs.Items.{conv_at, items_of}
-use Rattle.cm_expand.specs.Plan.{PlanText, course_from, start_of, times_if, times_of}
+use Rattle.cm_expand.specs.Plan.{PlanText, timing_from, start_of, times_if, times_of}
 use Rattle.cm_expand.specs.Taking.{come}
 use Rattle.cm_expand.specs.declared.conv.Conv.{Conv}
 use Rattle.cm_expand.proofs.Come.{all_come, come-none, never_falls}
 use Rattle.cm_expand.proofs.Counted.{items_counted}
 use Rattle.cm_expand.proofs.Fits.{fit}
 use Rattle.cm_expand.proofs.Order.{never_fall}
-use Rattle.cm_expand.proofs.Sound.{IsSoundPlan, course_is, expansion_of, length-times_of}
+use Rattle.cm_expand.proofs.Sound.{IsSoundPlan, timing_is, expansion_of, length-times_of}
 use Rattle.cm_fifo.specs.Law.{AreFirst, IsHanded}
 use Rattle.cm_fifo.proofs.Arrivals.{handed_of-is}
 use Rattle.cm_text.proofs.Codes.{sample_from}
@@ -24,10 +24,10 @@ use Rattle.cm_running.specs.Timely.{IsTimely}
 use Rattle.cm_running.specs.Triggering.{has_come}
 
 -- no conversion comes before the start
-early : (p : PlanText) (time : ℕ) (start : Option ℕ) → IsSoundPlan p → start_of p ≡ start → has_come start time ≡ false → come time (map_from (conv_at p) 0 (times_if (option_map (course_from p) start))) ≡ 0
+early : (p : PlanText) (time : ℕ) (start : Option ℕ) → IsSoundPlan p → start_of p ≡ start → has_come start time ≡ false → come time (map_from (conv_at p) 0 (times_if (option_map (timing_from p) start))) ≡ 0
 early p time None sound e late = refl
 early p time (Some start) sound e late =
-    come-none time (map_from (conv_at p) 0 (times (course_from p start))) start (never_falls p 0 start (times (course_from p start)) (never_fall (course_from p start) (course_is p start sound e))) (above (cases_lt time start))
+    come-none time (map_from (conv_at p) 0 (times (timing_from p start))) start (never_falls p 0 start (times (timing_from p start)) (never_fall (timing_from p start) (timing_is p start sound e))) (above (cases_lt time start))
   where
     above : (time < start) ⊎ (start ≤ time) → time < start
     above (inl h) = h

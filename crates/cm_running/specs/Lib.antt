@@ -1,5 +1,5 @@
 pub mod Awaiting
-pub mod ComingView
+pub mod PendingView
 pub mod CommandView
 pub mod Conversions
 pub mod DelayedView

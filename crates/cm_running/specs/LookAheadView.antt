@@ -20,5 +20,5 @@ look_of l = record { schedule = schedule_of (plan_text l.plan); passed = l.passe
 -- those after them are still to come, and the last of them came at the time that is kept
 pub record IsLook (l : Inside) : Type 0 where
   pub planned : IsSchedule (look_of l).schedule
-  pub left : l.coming ≡ left_after l.passed (look_of l).schedule
+  pub left : l.pending ≡ left_after l.passed (look_of l).schedule
   pub last : l.last ≡ last_time (take l.passed (look_of l).schedule.arrivals)

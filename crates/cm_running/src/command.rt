@@ -7,10 +7,10 @@ ghost use Rattle.cm_running.specs.Schedules.{schedule_of};
 ghost use Rattle.cm_running.specs.ToCome.{end_shown, last_end_shown, quiet_end_shown};
 ghost use Rattle.cm_running.specs.Triggering.{has_come};
 
-use crate::coming::Coming;
 use crate::filling::fill;
 use crate::handing::HandsOver;
 use crate::look_ahead::LookAhead;
+use crate::pending::Pending;
 use crate::putting::put_due;
 use crate::storing::store;
 use crate::text::{put_codes, put_looked, put_mapped, put_taken};
@@ -32,7 +32,7 @@ pub struct Command<'a> {
     plan: Plan<'a>,
     out: bool,
     ring: LocalRing,
-    board: Coming<'a>,
+    board: Pending<'a>,
     lines: SampleLines<'a>,
     end: Option<End>,
     // Made when a time is first awaited.
@@ -77,7 +77,7 @@ impl<'a> Command<'a> {
             plan,
             out: sub.kind.is_output(),
             ring: LocalRing::open(alloc, sub.buffer, rule)?,
-            board: Coming::new(alloc, plan)?,
+            board: Pending::new(alloc, plan)?,
             lines: SampleLines::new(alloc, plan)?,
             end: None,
             ahead: None,
@@ -116,7 +116,7 @@ impl<'a> Command<'a> {
         let signals = plan.signals();
         shows(&sub.list_max);
         shows(&signals.horizon);
-        self.board = Coming::new(alloc, plan)?;
+        self.board = Pending::new(alloc, plan)?;
         self.plan = plan;
         self.ahead = None;
         Ok(())
@@ -400,7 +400,7 @@ fn has_come(start: Option<u64>, time: u64) -> bool
 
 // The end that a board shows by a time.
 fn shown_end(
-    board: &mut Coming<'_>,
+    board: &mut Pending<'_>,
     missed: End,
     served: u64,
     horizon: u64,
@@ -416,7 +416,7 @@ fn shown_end(
 }
 
 // The end that comes when nothing is left to come.
-fn last_end(board: &Coming<'_>, served: u64, horizon: u64, time: u64) -> Option<End>
+fn last_end(board: &Pending<'_>, served: u64, horizon: u64, time: u64) -> Option<End>
     requires { board.now.conversions ≡ [] }
     ensures { result ≡ last_end_shown board.now served horizon time }
 {

@@ -3,8 +3,8 @@ ghost use Rattle.std.specs.Prelude.{◌≡◌, ◌+◌, ◌<◌, ◌^◌, length
 ghost use Rattle.cm_ring_core.specs.Local.{IsLevel};
 ghost use Rattle.cm_running.specs.Filling.{moving, filled};
 
-use crate::coming::Coming;
 use crate::handing::HandsOver;
+use crate::pending::Pending;
 use cm_ring_core::local::LocalRing;
 
 // How many samples are moved at once.
@@ -12,7 +12,7 @@ const PIECE: usize = 64;
 
 /// Moves the conversions that have come by a time into a ring, one after the other, while there is
 /// room.
-pub fn fill(ring: &mut LocalRing, board: &mut Coming<'_>, time: u64)
+pub fn fill(ring: &mut LocalRing, board: &mut Pending<'_>, time: u64)
     requires level { IsLevel ring.old }
     requires places { ring.old.a + length board.old.conversions < 2 ^ 62 }
     ensures ring { ring.new ≡ filled ring.old board.old.conversions time }

@@ -3,8 +3,8 @@ ghost use Rattle.std.specs.Prelude.{◌≡◌, [], length, take, drop};
 ghost use Rattle.cm_expand.specs.Taking.{come};
 ghost use Rattle.cm_running.specs.Awaiting.{last_after, quiet_after};
 
-use crate::coming::Coming;
 use crate::handing::HandsOver;
+use crate::pending::Pending;
 use cm_base::transfer::NoMemory;
 use cm_expand::plan::Plan;
 use std::alloc::Global;
@@ -15,7 +15,7 @@ use std::marker::Model;
 #[derive(Drop)]
 pub struct LookAhead<'a> {
     plan: Plan<'a>,
-    coming: Coming<'a>,
+    pending: Pending<'a>,
     passed: u64,
     last: u64,
 }
@@ -47,7 +47,7 @@ impl<'a> LookAhead<'a> {
     {
         Ok(LookAhead {
             plan,
-            coming: Coming::new(alloc, plan)?,
+            pending: Pending::new(alloc, plan)?,
             passed: 0,
             last: 0,
         })
@@ -59,7 +59,7 @@ impl<'a> LookAhead<'a> {
         ensures before { OnOk result (self.new.passed ≤ place) }
     {
         if self.passed > place {
-            self.coming = Coming::new(alloc, self.plan)?;
+            self.pending = Pending::new(alloc, self.plan)?;
             self.passed = 0;
             self.last = 0;
         }
@@ -84,26 +84,26 @@ impl<'a> LookAhead<'a> {
     {
         let horizon = self.plan.horizon();
         let count = place - self.passed;
-        self.last = pass(&mut self.coming, self.last, count, horizon);
+        self.last = pass(&mut self.pending, self.last, count, horizon);
         self.passed = place;
-        match self.coming.next_time() {
+        match self.pending.next_time() {
             Some(time) => horizon.min(time),
-            None => horizon.min(quiet_after(&self.coming, self.last, horizon)),
+            None => horizon.min(quiet_after(&self.pending, self.last, horizon)),
         }
     }
 }
 
 // Steps after so many conversions, or all that are left, and reports when the last of them came, where
 // one before them came last.
-fn pass(coming: &mut Coming<'_>, before: u64, count: u64, horizon: u64) -> u64
-    requires { come horizon coming.old.conversions ≡ length coming.old.conversions }
-    ensures last { result ≡ last_after before (take count coming.old.conversions) }
-    ensures after { coming.new ≡ record coming.old { conversions = drop count coming.old.conversions } }
+fn pass(pending: &mut Pending<'_>, before: u64, count: u64, horizon: u64) -> u64
+    requires { come horizon pending.old.conversions ≡ length pending.old.conversions }
+    ensures last { result ≡ last_after before (take count pending.old.conversions) }
+    ensures after { pending.new ≡ record pending.old { conversions = drop count pending.old.conversions } }
 {
     let mut last = before;
     let mut passed = 0;
     while passed < count {
-        let Some(conversion) = coming.next_by(horizon) else {
+        let Some(conversion) = pending.next_by(horizon) else {
             break;
         };
         last = conversion.time;
@@ -113,15 +113,15 @@ fn pass(coming: &mut Coming<'_>, before: u64, count: u64, horizon: u64) -> u64
 }
 
 // When a command ends of which nothing is to come, after the last that came.
-fn quiet_after(coming: &Coming<'_>, last: u64, horizon: u64) -> u64
-    requires { coming.now.conversions ≡ [] }
-    ensures { result ≡ quiet_after coming.now last horizon }
+fn quiet_after(pending: &Pending<'_>, last: u64, horizon: u64) -> u64
+    requires { pending.now.conversions ≡ [] }
+    ensures { result ≡ quiet_after pending.now last horizon }
 {
-    match coming.lost_at() {
+    match pending.lost_at() {
         Some(lost) => lost,
         None => {
-            if coming.is_complete() {
-                last.max(coming.stop_edge().unwrap_or(0))
+            if pending.is_complete() {
+                last.max(pending.stop_edge().unwrap_or(0))
             } else {
                 horizon
             }

@@ -4,8 +4,8 @@ ghost use Rattle.cm_text.specs.Outputs.{output_text, output_texts};
 ghost use Rattle.cm_running.specs.Putting.{Moves, emptied, going, less, without};
 ghost use Rattle.cm_running.specs.Running.{outputs};
 
-use crate::coming::Coming;
 use crate::handing::HandsOver;
+use crate::pending::Pending;
 use cm_base::transfer::NoMemory;
 use cm_expand::conv::Conv;
 use cm_ring_core::local::LocalRing;
@@ -17,7 +17,7 @@ pub fn put_due(
     text: &mut Vec<u8>,
     sub: u32,
     ring: &mut LocalRing,
-    board: &mut Coming<'_>,
+    board: &mut Pending<'_>,
     time: u64,
 ) -> Result<(), NoMemory>
     requires unmapped { ring.old.ra ≡ ring.old.r }

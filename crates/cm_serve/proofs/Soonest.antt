@@ -17,7 +17,7 @@ use Rattle.cm_fifo.proofs.Lists.{come-by, found-come, past_none}
 use Rattle.cm_running.specs.Awaiting.{await_time, deciding, is_served, quiet_time}
 use Rattle.cm_serve.specs.Soonest.{AwaitLaw, AwaitsAreSoonest, AreSoonestAtLines, IsSoonest, is_there}
 use Rattle.cm_replay.specs.Job.{setting_of}
-use Rattle.cm_replay.specs.Law.{GoesWell, History, Keeps, Spot, no_history, spot_at}
+use Rattle.cm_replay.specs.Law.{GoesWell, History, Keeps, Wiring, no_history, wiring_at}
 use Rattle.cm_running.specs.Running.{Running, Schedule, arrived, brought, end_by, has_stopped, is_out, lost_end, moved_on, put_by, some_if, written_by}
 use Rattle.cm_replay.specs.Session.{brought_all}
 use Rattle.cm_replay.specs.State.{Device, State, at_start, device_at}
@@ -294,9 +294,9 @@ brought-once : (time : ℕ) (running : Option Running) → IsBrought time (optio
 brought-once time None = tt
 brought-once time (Some c) = bringing_law time c
 
-awaits-soonest : (spot : Spot) (time : ℕ) (h : History) (running : Option Running) → time ≤ spot.signals.horizon → Keeps spot time h running → IsBrought time running → AwaitsAreSoonest time running
-awaits-soonest spot time h None by keeps same = tt
-awaits-soonest spot time h (Some c) by keeps same =
+awaits-soonest : (wiring : Wiring) (time : ℕ) (h : History) (running : Option Running) → time ≤ wiring.signals.horizon → Keeps wiring time h running → IsBrought time running → AwaitsAreSoonest time running
+awaits-soonest wiring time h None by keeps same = tt
+awaits-soonest wiring time h (Some c) by keeps same =
     let within : time ≤ c.schedule.horizon = omega (arith, by, ap (λ (x : Schedule). x.horizon) keeps.0.same, ap (λ (x : SignalsText). x.horizon) keeps.1.1) in
     λ n. await-soonest n time c keeps.0.timely same within
 
@@ -304,7 +304,7 @@ awaits-soonest spot time h (Some c) by keeps same =
 soonest-at : (s : Setting) (time : ℕ) (histories : ℕ → History) (state : State) (lines : List SessionLine) → InOrder s.signals.horizon time lines → GoesWell s histories state lines → AreSoonestAtLines s state lines
 soonest-at s time histories state [] order well = tt
 soonest-at s time histories state (line ∷ rest) order well = (
-  λ i. awaits-soonest (spot_at s i) line.time (histories i) (device_at (brought_all line.time state).devices i).running order.1.0 (well.0 i)
+  λ i. awaits-soonest (wiring_at s i) line.time (histories i) (device_at (brought_all line.time state).devices i).running order.1.0 (well.0 i)
       (subst (λ (d : Device). IsBrought line.time d.running) (sym (device_at-brought line.time state.devices i)) (brought-once line.time (device_at state.devices i).running)),
   soonest-at s line.time _ _ rest order.2 well.3,
 )

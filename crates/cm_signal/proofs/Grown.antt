@@ -1,6 +1,6 @@
 -- Signals with one line more keep what signals keep.
-use Rattle.std.proofs.Common.{◌≡◌, ℕ, zero, suc, ◌+◌, ◌-◌, ◌<◌, ◌≤◌, ◌^◌, List, [], ◌∷◌, ◌++◌, length, get_or, set, Bool, true, false, cond, ◌&&◌, refl, ap, sym, subst, ◌∙◌, inl, inr, arith, length-append}
-use Rattle.std.specs.Prelude.{◌==◌, not, nat_le, slice_index_or, slice_set, replicate}
+use Rattle.std.proofs.Common.{◌≡◌, ℕ, zero, suc, ◌+◌, ◌-◌, ◌<◌, ◌≤◌, ◌^◌, List, [], ◌∷◌, ◌++◌, length, get_or, set, Bool, true, false, cond, ◌&&◌, refl, ap, sym, subst, ◌∙◌, inl, inr, arith, length-append, Result, Ok, Err}
+use Rattle.std.specs.Prelude.{OnOk, ◌==◌, not, nat_le, slice_index_or, slice_set, replicate}
 use Rattle.std.specs.List.{list_all, list_any}
 use Rattle.std.specs.List.Sorted.{IsStrictlyIncreasing}
 use Rattle.std.specs.Global.{Vec}
@@ -12,10 +12,14 @@ use Rattle.std.proofs.Math.Seq.{get_or-append_right}
 use Rattle.std.proofs.lemmas.List.Elements.{All-nil, All-push}
 use Rattle.std.proofs.lemmas.List.{get_or-set_same, get_or-set_other, length-set, with_items_is}
 use Rattle.cm_base.proofs.Bools.{both, neither, not_true}
+use Rattle.cm_board.specs.Board.{SubText}
 use Rattle.cm_signal.proofs.Waves.{is_wave}
+use Rattle.cm_signal.specs.Fitting.{FitBoard, Fits, HasChannel, HasSub}
 use Rattle.cm_signal.specs.Signals.{SignalsText, IsSoundSignals, IsWave, AreEdges, edge_count, have_own, is_at, recorded_count, recorded_in, times_at}
-use Rattle.cm_signal.specs.Adding.{has_record_room, has_room, rises_from, silent, with_times}
+use Rattle.cm_signal.specs.Adding.{has_record_room, has_room, rises_from, silent, with_said, with_times}
 use Rattle.cm_signal.specs.Wave.{HasPeriod, is_fine}
+use Rattle.cm_signal.specs.declared.signal_line.SignalLine.{SignalLine}
+use Rattle.cm_signal.specs.declared.signal_line.SignalLine.TheVariants as said
 use Rattle.cm_signal.specs.declared.signals.IntAt.{IntAt}
 use Rattle.cm_signal.specs.declared.signals.Slope.{Slope}
 use Rattle.cm_signal.specs.declared.signals.Slope.TheVariants as slopes
@@ -294,3 +298,15 @@ silent_like horizon waves edges falls ints no_waves no_edges no_falls no_ints h 
     let same : ◌≡◌ {A = SignalsText} (record { horizon = horizon; waves = waves; edges = edges; falls = falls; ints = ints }) (silent horizon) =
     λ i. record { horizon = horizon; waves = no_waves i; edges = no_edges i; falls = no_falls i; ints = no_ints i } in
     subst IsSoundSignals (sym same) (silent_sound horizon h)
+
+-- signals that fit a board still do with one line more that fits it
+fits_more : (subs : List SubText) (s : SignalsText) (what : SignalLine) → FitBoard subs s → Fits subs what → FitBoard subs (with_said s what)
+fits_more subs s (said.Wave w) fit fits = record { waves = All-push (HasChannel subs) s.waves w fit.waves fits; ints = fit.ints }
+fits_more subs s (said.Edges slopes.Rise line times) fit fits = record { waves = fit.waves; ints = fit.ints }
+fits_more subs s (said.Edges slopes.Fall line times) fit fits = record { waves = fit.waves; ints = fit.ints }
+fits_more subs s (said.Int int) fit fits = record { waves = fit.waves; ints = All-push (HasSub subs) s.ints int fit.ints fits }
+
+pub fits_with : {E : Type 0} (subs : List SubText) (s new : SignalsText) (what : SignalLine) (r : Result (Unit {0}) E) → FitBoard subs s → Fits subs what → OnOk r (new ≡ with_said s what) →
+    OnOk r (FitBoard subs new)
+fits_with subs s new what (Ok u) fit fits is = subst (FitBoard subs) (sym is) (fits_more subs s what fit fits)
+fits_with subs s new what (Err e) fit fits is = tt

@@ -2,6 +2,7 @@
 use Rattle.std.specs.Prelude.{ℕ, zero, suc, ◌+◌, Bool, true, ◌&&◌, nat_le, nat_lt, List, [], ◌∷◌, ◌++◌, length}
 use Rattle.std.specs.Prelude.{replicate, slice_set, Result, Ok, Err, if◌then◌else◌}
 use Rattle.std.specs.List.{list_all, list_any}
+use Rattle.cm_base.specs.Reading.{◌>>=◌}
 use Rattle.cm_base.specs.Words.{limited}
 use Rattle.cm_base.specs.declared.faults.Fault.{Fault}
 use Rattle.cm_base.specs.declared.faults.Fault.TheVariants.{Bad, Double, Limit}
@@ -68,6 +69,10 @@ abbrev pub with_said : SignalsText → SignalLine → SignalsText
 with_said s (said.Wave w) = record s { waves = s.waves ++ w ∷ [] }
 with_said s (said.Edges slope line times) = with_times s slope line (times_at s slope line ++ times)
 with_said s (said.Int int) = record s { ints = s.ints ++ int ∷ [] }
+
+-- the signals with one line more, where it may stand after those before it
+abbrev pub added : SignalsText → SignalLine → Result SignalsText Fault
+added s what = checked s what >>= λ fits. Ok (with_said s what)
 
 -- no wave, no edge and no trigger
 abbrev pub silent : ℕ → SignalsText

@@ -116,6 +116,10 @@ wave_forms board =
     (codes "table", table_words board.subs) ∷
     (codes "record", record_words board) ∷ []
 
+-- a wave by its kind and the words after it
+abbrev pub kind_words : BoardText → List ℕ → List ℕ → List ℕ → Form SignalLine
+kind_words board sub chan kind words = keyword (wave_forms board) kind >>= λ form. form sub chan words
+
 -- `wave SUB CHAN KIND ..`
 abbrev pub wave_words : BoardText → Form SignalLine
-wave_words board words = three_and_more words >>= λ w. keyword (wave_forms board) w.2 >>= λ form. form w.0 w.1 w.3
+wave_words board words = three_and_more words >>= λ w. kind_words board w.0 w.1 w.2 w.3

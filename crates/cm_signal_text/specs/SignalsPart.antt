@@ -14,7 +14,7 @@ use Rattle.cm_base.specs.declared.faults.Refused.{Refused}
 use Rattle.cm_board.specs.Board.{BoardText, SubText}
 use Rattle.cm_board.specs.Versions.{most_in, most_lines}
 use Rattle.cm_signal.specs.Channel.{period_word}
-use Rattle.cm_signal.specs.Adding.{checked, progression, silent, with_said}
+use Rattle.cm_signal.specs.Adding.{added, progression, silent}
 use Rattle.cm_signal.specs.Signals.{SignalsText}
 use Rattle.cm_signal.specs.Wave.{wave_words}
 use Rattle.cm_signal.specs.declared.signal_line.SignalLine.{SignalLine}
@@ -72,7 +72,7 @@ said_line board horizon line = if line.bad then Err BadLine else said_words boar
 
 -- what a line adds to the signals of the lines before it
 abbrev pub said_after : BoardText → SignalsText → LineText → Result SignalsText Fault
-said_after board s line = said_line board s.horizon line >>= λ what. checked s what >>= λ fits. Ok (with_said s what)
+said_after board s line = said_line board s.horizon line >>= λ what. added s what
 
 -- the line that starts the session
 abbrev pub is_session : LineText → Bool

@@ -7,6 +7,8 @@ ghost use Rattle.cm_base.specs.Reading.{at_line};
 ghost use Rattle.cm_base.specs.Words.{alone};
 ghost use Rattle.cm_board.specs.Versions.{most_in};
 ghost use Rattle.cm_signal.specs.Fitting.{FitBoard};
+ghost use Rattle.cm_signal.specs.Adding.{added, with_said};
+ghost use Rattle.cm_signal.specs.Said.{IsSaid};
 ghost use Rattle.cm_signal_text.specs.SignalsPart.{horizon_words, said_after, signals_at, signals_after, signals_of};
 
 use crate::said::read_signal;
@@ -16,6 +18,7 @@ use cm_base::parts::{begins, fixed, refused};
 use cm_base::words::{at_line, none, one, time_in};
 use cm_board::board::BoardDesc;
 use cm_board::versions::is_wide;
+use cm_signal::signal_line::SignalLine;
 use cm_signal::signals::Signals;
 use std::alloc::Global;
 
@@ -144,7 +147,16 @@ fn add_line(
     ensures value { Gives (λ u. signals.new) result (at_line line.now.number (said_after board.now signals.old (line_view line.now))) }
 {
     let said = read_signal(alloc, board, signals.horizon, line)?;
-    at_line(line.number, signals.check(&said))?;
+    add_said(signals, line.number, said)
+}
+
+// Adds what a line says to the signals, where it may stand after those so far.
+fn add_said(signals: &mut Signals, number: u32, said: SignalLine) -> Result<(), ReadStop>
+    requires { IsSaid signals.old.horizon said }
+    ensures kept { OnOk result (signals.new ≡ with_said signals.old said) }
+    ensures value { Gives (λ u. signals.new) result (at_line number (added signals.old said)) }
+{
+    at_line(number, signals.check(&said))?;
     signals.put(said)?;
     Ok(())
 }

@@ -33,6 +33,23 @@ pub(crate) fn read_wave(
     ensures fits { IfOk result (Fits board.now.subs) }
 {
     let (sub, chan, kind, words) = at_line(number, three_and_more(words))?;
+    read_kind(alloc, number, board, sub, chan, kind, words)
+}
+
+// The words after the kind of a wave.
+fn read_kind(
+    alloc: Global,
+    number: u32,
+    board: &BoardDesc,
+    sub: &[u8],
+    chan: &[u8],
+    kind: &[u8],
+    words: &[&[u8]],
+) -> Result<SignalLine, ReadStop>
+    ensures value { Gives (λ said. said) result (at_line number (spec.kind_words board.now sub.now chan.now kind.now (map (λ word. word.now) words.now))) }
+    ensures limits { IfOk result (IsSaid 0) }
+    ensures fits { IfOk result (Fits board.now.subs) }
+{
     let subs = &board.subs;
     if kind == b"const".as_slice() {
         at_line(number, read_const(subs, sub, chan, words))

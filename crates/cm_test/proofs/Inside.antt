@@ -2,7 +2,7 @@
 use Rattle.std.proofs.Common.{◌≡◌, ℕ, ◌-◌, ◌<◌, ◌≤◌, Bool, true, false, refl, sym, ap, arith, subst}
 use Rattle.std.specs.Prelude.{◌==◌, if◌then◌else◌}
 use Rattle.std.proofs.lemmas.Bool.{cond-true, eq-eqb}
-use Rattle.cm_board.specs.Board.{SubText, IsSoundSub, HasLine, line_of}
+use Rattle.cm_board.specs.Board.{SubText, IsSoundSub, HasLine, external_line}
 use Rattle.cm_base.specs.Source as source
 use Rattle.cm_cmd.specs.Command.{CmdText}
 use Rattle.cm_cmd.specs.declared.command.Trig.{Trig}
@@ -42,9 +42,9 @@ below_lines lines a h k = omega arith
 names : (sub : SubText) (mask : ℕ) (l : ArgLimits) (t : Trig) → HasLine sub.lines mask → narrowed_to mask t ≡ t → (t.src ≡ source.ext → l ≡ line_limits sub) → IsInside sub l t → NamesLine sub t
 names sub mask l t line e lines i is =
     let high : limited sub t ≤ l.high = i.high in
-    let number : limited sub t ≡ line_of sub t.arg = cond-true (t.src == source.ext) _ _ (eq-eqb t.src source.ext is) in
+    let number : limited sub t ≡ external_line sub t.arg = cond-true (t.src == source.ext) _ _ (eq-eqb t.src source.ext is) in
     let most = ap (λ (l : ArgLimits). l.high) (lines is) in
-    below_lines sub.lines (line_of sub t.arg) (has_line sub mask t line e is) (omega (arith, high, number, most))
+    below_lines sub.lines (external_line sub t.arg) (has_line sub mask t line e is) (omega (arith, high, number, most))
 
 -- the limits of a period are not empty, nor are those of a conversion time
 begin_order : (sub : SubText) (cmd : CmdText) → IsSoundSub sub → (cmd.scan_begin.src == source.timer) ≡ true → HasOrder (begin sub (scan_length sub cmd) (held_time sub cmd))

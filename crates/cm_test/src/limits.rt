@@ -75,7 +75,7 @@ fn limited(sub: &Sub, trigger: Trig) -> u32
     ensures part { result ≤ trigger.arg }
 {
     match trigger.src {
-        EXT => sub.line_of(trigger.arg),
+        EXT => sub.external_line(trigger.arg),
         _ => trigger.arg,
     }
 }

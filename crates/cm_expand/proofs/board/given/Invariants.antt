@@ -11,7 +11,7 @@ invariant-loop-count l = record {
   within : l.count ≤ length l.out;
   conversions : take l.count l.out ≡ take l.count (drop l.place (items_of (plan_text l.plan)));
   come : l.count + length (drop l.count (drop l.place (items_of (plan_text l.plan)))) ≡ length (drop l.place (items_of (plan_text l.plan)));
-  board : IsBoard (plan_text l.plan) (l.place + l.count) (progress_of (Some l.course) l.spot);
+  board : IsBoard (plan_text l.plan) (l.place + l.count) (progress_of (Some l.timing) l.point);
 }
 
 abbrev pub decreases-loop-count : goal.decreases-loop-count

@@ -14,15 +14,15 @@ conversion-requires-clause-index c =
     c.requires.entry 0 (omega arith) ∙ ap (λ k. k % length (plan_text c.args.plan.now).cmd.list) here
 
 pub returns-then-convs-eq1 : goal.returns-then-convs-eq1
-returns-then-convs-eq1 c = step_alone (plan_text c.args.plan.now) c.args.place c.args.spot.now.time c.args.step c.args.convs.now c.conversion.result c.if-convs-eq1.true c.conversion.ensures
+returns-then-convs-eq1 c = step_alone (plan_text c.args.plan.now) c.args.place c.args.point.now.time c.args.step c.args.convs.now c.conversion.result c.if-convs-eq1.true c.conversion.ensures
 
 pub returns : goal.returns
 returns c =
     let p = plan_text c.args.plan.now in
-    let spot = c.args.spot.now in
+    let point = c.args.point.now in
     let step = c.args.step in
     let count = length c.args.convs.now in
-    let first : Conv = record { time = spot.time; place = c.args.place; list_index = spot.index; raw = 0 } in
+    let first : Conv = record { time = point.time; place = c.args.place; list_index = point.index; raw = 0 } in
     c.put_steps.ensures
-    ∙ ap (steps_from first step) (c.put_raws.ensures ∙ ap (λ n. map (raw_at p spot.index) (progression spot.time step n)) (length-take-le count _ c.requires.few))
-    ∙ steps_are p spot.index step count first refl c.requires.entry
+    ∙ ap (steps_from first step) (c.put_raws.ensures ∙ ap (λ n. map (raw_at p point.index) (progression point.time step n)) (length-take-le count _ c.requires.few))
+    ∙ steps_are p point.index step count first refl c.requires.entry

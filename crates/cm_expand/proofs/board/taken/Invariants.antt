@@ -12,7 +12,7 @@ invariant-loop-count l = record {
   within : l.count ≤ length l.out;
   words : take l.count l.out ≡ raw_words (take l.count (drop l.fn.place (items_of (plan_text l.plan))));
   come : l.count + come_first l.time (drop l.count (drop l.fn.place (items_of (plan_text l.plan)))) ≡ come_first l.time (drop l.fn.place (items_of (plan_text l.plan)));
-  board : IsBoard (plan_text l.plan) (l.fn.place + l.count) (progress_of (Some l.course) l.spot);
+  board : IsBoard (plan_text l.plan) (l.fn.place + l.count) (progress_of (Some l.timing) l.point);
 }
 
 abbrev pub decreases-loop-count : goal.decreases-loop-count

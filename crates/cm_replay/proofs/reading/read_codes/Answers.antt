@@ -5,7 +5,7 @@ use Rattle.cm_sub.specs.Checks.{first_refusal, refuse}
 use Rattle.cm_sub.specs.declared.errno.Errno.TheVariants.{Inval}
 use Rattle.cm_replay.specs.Forms.{reader_checks}
 use Rattle.cm_replay.specs.Reading.{mapped}
-use Rattle.cm_replay.specs.Replies.{here_at, spot_of}
+use Rattle.cm_replay.specs.Replies.{here_at, wiring_of}
 use Rattle.cm_replay.specs.State.{Device}
 use Rattle.cm_replay.proofs.Forming.{read-unmapped, reads-input, unmapped}
 use Rattle.cm_replay.proofs.reading.read_codes.Goals as goal
@@ -13,7 +13,7 @@ use Rattle.cm_replay.proofs.reading.read_codes.Goals as goal
 pub read_codes-requires-clause-input : goal.read_codes-requires-clause-input
 read_codes-requires-clause-input c =
     let runs = sym (ap (λ (d : Device). d.running) c.seat.view_is) ∙ c.in-Some.is in
-    reads-input (spot_of c.args.at.now) c.args.at.now.index c.args.at.now.time c.args.seat.now.running c.in-Some.command _ runs c.requires.ready (sym c.refuses.ensures ∙ ap result_err c.in_default.is)
+    reads-input (wiring_of c.args.at.now) c.args.at.now.index c.args.at.now.time c.args.seat.now.running c.in-Some.command _ runs c.requires.ready (sym c.refuses.ensures ∙ ap result_err c.in_default.is)
 
 pub read_codes-requires-clause-unmapped : goal.read_codes-requires-clause-unmapped
 read_codes-requires-clause-unmapped c =

@@ -6,8 +6,8 @@ use Rattle.cm_running.proofs.look_ahead.pass.Given as goal
 abbrev pub invariant-loop-passed : goal.invariant-loop-passed
 invariant-loop-passed l = record {
   few : l.passed ≤ l.count;
-  last : l.last ≡ last_after l.before (take l.passed l.initial.coming.conversions);
-  left : l.coming ≡ record l.initial.coming { conversions = drop l.passed l.initial.coming.conversions };
+  last : l.last ≡ last_after l.before (take l.passed l.initial.pending.conversions);
+  left : l.pending ≡ record l.initial.pending { conversions = drop l.passed l.initial.pending.conversions };
 }
 
 abbrev pub decreases-loop-passed : goal.decreases-loop-passed

@@ -20,10 +20,10 @@ pass-self-inside-requires c =
     ∙ sym (ap (λ (t : ToCome). length t.conversions) is.left)
 
 pub quiet_after-requires : goal.quiet_after-requires
-quiet_after-requires c = ap (λ (t : ToCome). t.conversions) c.next_time.ensures.after ∙ nothing_left c.pass-self-inside.new.coming.conversions (sym c.next_time.ensures.value ∙ c.in-None.is)
+quiet_after-requires c = ap (λ (t : ToCome). t.conversions) c.next_time.ensures.after ∙ nothing_left c.pass-self-inside.new.pending.conversions (sym c.next_time.ensures.value ∙ c.in-None.is)
 
 -- what is left after the place, and the last before it
-stands : (c : goal.Joined-next_time) → (c.self.inside.passed + (c.args.place - c.self.inside.passed) ≡ c.args.place) × (c.pass-self-inside.new.coming ≡ left_after c.args.place (look_of c.self.inside).schedule)
+stands : (c : goal.Joined-next_time) → (c.self.inside.passed + (c.args.place - c.self.inside.passed) ≡ c.args.place) × (c.pass-self-inside.new.pending ≡ left_after c.args.place (look_of c.self.inside).schedule)
 stands c =
     let is = c.self.invariant in
     let s = (look_of c.self.inside).schedule in
@@ -67,7 +67,7 @@ returns-clause-time c =
           let next = ap (λ (cs : List Conv). option_map (λ (x : Conv). x.time) (slice_get cs 0)) (sym left) ∙ sym c.next_time.ensures.value ∙ w.in-Some.is in
           w.result-is ∙ w.min.ensures ∙ ap₂ min c.horizon-horizon.ensures (sym (time-there quiet place w.in-Some.time all next)) ∙ seen
       | in-None w ↦
-          let none : drop place all ≡ [] = sym left ∙ nothing_left c.pass-self-inside.new.coming.conversions (sym c.next_time.ensures.value ∙ w.in-None.is) in
+          let none : drop place all ≡ [] = sym left ∙ nothing_left c.pass-self-inside.new.pending.conversions (sym c.next_time.ensures.value ∙ w.in-None.is) in
           let gone = time-gone quiet place all none in
           w.result-is ∙ w.min-in-None.ensures
           ∙ ap₂ min c.horizon-horizon.ensures (w.quiet_after.ensures
