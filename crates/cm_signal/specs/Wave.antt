@@ -74,19 +74,20 @@ const_words subs sub chan words =
     signed_number w >>= λ v.
     Ok (wave_said at (Const v))
 
--- a square wave: its low level, its high level and its period
-abbrev pub square_words : List SubText → List ℕ → List ℕ → Form SignalLine
-square_words subs sub chan words =
+-- the channel, the low level, the high level and the period of a wave that goes from one level to another
+abbrev pub swing_words : List SubText → List ℕ → List ℕ → Form ((ℕ × ℕ) × ℤ × ℤ × ℕ)
+swing_words subs sub chan words =
     three_words words >>= λ w. channel_words subs sub chan >>= λ at.
     signed_number w.0 >>= λ low. signed_number w.1 >>= λ high. period_word w.2 >>= λ period.
-    Ok (wave_said at (Square low high period))
+    Ok (at, low, high, period)
 
--- a saw: its low level, its high level and its period
+-- a square wave
+abbrev pub square_words : List SubText → List ℕ → List ℕ → Form SignalLine
+square_words subs sub chan words = swing_words subs sub chan words >>= λ s. Ok (wave_said s.0 (Square s.1 s.2 s.3))
+
+-- a saw
 abbrev pub saw_words : List SubText → List ℕ → List ℕ → Form SignalLine
-saw_words subs sub chan words =
-    three_words words >>= λ w. channel_words subs sub chan >>= λ at.
-    signed_number w.0 >>= λ low. signed_number w.1 >>= λ high. period_word w.2 >>= λ period.
-    Ok (wave_said at (Saw low high period))
+saw_words subs sub chan words = swing_words subs sub chan words >>= λ s. Ok (wave_said s.0 (Saw s.1 s.2 s.3))
 
 -- the channel, the period and the levels of a wave whose levels each last one period,
 -- of which at most so many may stand

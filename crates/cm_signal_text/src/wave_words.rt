@@ -86,11 +86,8 @@ fn read_square(subs: &[Sub], sub: &[u8], chan: &[u8], words: &[&[u8]]) -> Result
     ensures limits { IfOk result (IsSaid 0) }
     ensures fits { IfOk result (Fits subs.now) }
 {
-    let (low, high, period) = three(words)?;
-    let (sub, chan) = read_channel(subs, sub, chan)?;
-    let low = signed_number(low)?;
-    let high = signed_number(high)?;
-    let wave = Wave::Square(low, high, read_period(period)?);
+    let ((sub, chan), low, high, period) = read_swing(subs, sub, chan, words)?;
+    let wave = Wave::Square(low, high, period);
     Ok(SignalLine::Wave(WaveAt { sub, chan, wave }))
 }
 
@@ -101,12 +98,29 @@ fn read_saw(subs: &[Sub], sub: &[u8], chan: &[u8], words: &[&[u8]]) -> Result<Si
     ensures limits { IfOk result (IsSaid 0) }
     ensures fits { IfOk result (Fits subs.now) }
 {
+    let ((sub, chan), low, high, period) = read_swing(subs, sub, chan, words)?;
+    let wave = Wave::Saw(low, high, period);
+    Ok(SignalLine::Wave(WaveAt { sub, chan, wave }))
+}
+
+// The channel, both levels and the period of `wave SUB CHAN KIND LOW HIGH PERIOD`.
+fn read_swing(
+    subs: &[Sub],
+    sub: &[u8],
+    chan: &[u8],
+    words: &[&[u8]],
+) -> Result<((u32, u32), i32, i32, u64), Fault>
+    requires { length subs.now < 2 ^ 32 }
+    ensures value { result ≡ spec.swing_words subs.now sub.now chan.now (map (λ word. word.now) words.now) }
+    ensures limits { IfOk result (λ s. (1 ≤ s.3) × (s.3 ≤ 10 ^ 12)) }
+    ensures fits { IfOk result (λ s. s.0.1 < level_channels (slice_get subs.now s.0.0)) }
+{
     let (low, high, period) = three(words)?;
-    let (sub, chan) = read_channel(subs, sub, chan)?;
+    let at = read_channel(subs, sub, chan)?;
     let low = signed_number(low)?;
     let high = signed_number(high)?;
-    let wave = Wave::Saw(low, high, read_period(period)?);
-    Ok(SignalLine::Wave(WaveAt { sub, chan, wave }))
+    let period = read_period(period)?;
+    Ok((at, low, high, period))
 }
 
 // `wave SUB CHAN table PERIOD V..`

@@ -1,5 +1,5 @@
 -- The client has let each board know of all that it has released.
-use Rattle.std.proofs.Common.{◌≡◌, ℕ, ◌+◌, List, length, map, set, sym, ap, ◌∙◌, subst, Some}
+use Rattle.std.proofs.Common.{◌≡◌, ℕ, ◌+◌, List, length, map, set, sym, ap, ◌∙◌, Some}
 use Rattle.std.specs.Prelude.{slice_get, option_map}
 use Rattle.std.proofs.lemmas.List.{map-set}
 use Rattle.std.proofs.lemmas.Option.{slice_get-map}

@@ -4,7 +4,7 @@ use Rattle.std.specs.List.{All}
 use Rattle.cm_client.specs.Progress.{Accepts}
 use Rattle.cm_text.specs.SampleText.{CanReport, LinesText, lines_of, with_lines}
 use Rattle.cm_stream.specs.Stream.{Streaming, IsOver}
-use Rattle.cm_stream.specs.Merging.{IsPacedOn, fixed, given_words, plan_of}
+use Rattle.cm_stream.specs.Merging.{Fixed, IsPacedOn, fixed, given_words, plan_of}
 use Rattle.cm_text.specs.Format.{Format}
 
 -- more samples can be reported after those of one source
@@ -43,6 +43,14 @@ pub record AreSame (first now : List Streaming) (before after : List LinesText) 
 -- each stream has asked its ring's writer to stop
 abbrev pub AreStopped : List Streaming → Type 0
 AreStopped streams = All (λ s. s.reader.part.asked ≡ true) streams
+
+-- what no step changes of a stream, once it has asked for the stop
+abbrev pub asked_fixed : Streaming → Fixed
+asked_fixed s = record (fixed s) { asked = true }
+
+-- the same rings in the same scans, each of which was asked for the stop
+abbrev pub HaveAsked : List Streaming → List Streaming → Type 0
+HaveAsked first now = map fixed now ≡ map asked_fixed first
 
 -- all streams have been read to their ends, and what each has given is its whole plan
 pub record HasWatched (first now : List Streaming) (before after : List LinesText) : Type 0 where

@@ -1,9 +1,9 @@
 // The threads of the watched lines.
-ghost use Rattle.std.specs.Prelude.{◌≡◌, ◌+◌, ◌<◌, ◌≤◌, ◌^◌, [], length, IfOk, MatchOption};
+ghost use Rattle.std.specs.Prelude.{◌≡◌, ◌+◌, ◌<◌, ◌≤◌, ◌^◌, [], length, IfErr, IfOk, MatchOption};
 ghost use Rattle.std.specs.List.{All};
 ghost use Rattle.std.specs.Thread.{IsSync};
 ghost use Rattle.cm_client.specs.Idle.{IsIdle};
-ghost use Rattle.cm_watch.specs.Watched.{AreRead, HasWatched};
+ghost use Rattle.cm_watch.specs.Watched.{AreRead, HasWatched, HaveAsked};
 ghost use Rattle.cm_client.specs.Streamed.{EndsTruly};
 
 use crate::client::{GaveUp, Watched, give_up, read_scans};
@@ -88,7 +88,8 @@ pub(crate) fn watch_sides<
     requires events { length sides.items ≤ length events.now.lines.items }
     requires streams { length client.merge.streams ≤ length events.now.lines.items }
     requires read { AreRead client.merge.streams client.texts.items }
-    ensures { IfOk result (λ w. HasWatched client.entry.merge.streams w.merge.streams client.entry.texts.items w.texts.items) }
+    ensures watched { IfOk result (λ w. HasWatched client.entry.merge.streams w.merge.streams client.entry.texts.items w.texts.items) }
+    ensures gave_up { IfErr result (λ g. HaveAsked client.entry.merge.streams g.client.merge.streams) }
 {
     let Some(side) = last_side(owners, &mut sides) else {
         return read_scans(rt, alloc, client, events, gate);
@@ -106,7 +107,7 @@ pub(crate) fn watch_sides<
         { board_thread(rt, owners, theirs, board, waiting, gate, who) },
         move |putting| -> Result<Watched<'_, P>, GaveUp<'_, P>>
             requires { IsSync R.row × IsSync G.row × IsIdle owners.now seat × All (λ side. side.board.sub < length owners.now.channels) sides.items × (length sides.items < 2 ^ 32) × (length sides.items < length events.now.lines.items) × (length client.merge.streams ≤ length events.now.lines.items) × AreRead client.merge.streams client.texts.items }
-            ensures { IfOk result (λ w. HasWatched client.entry.merge.streams w.merge.streams client.entry.texts.items w.texts.items) }
+            ensures { IfOk result (λ w. HasWatched client.entry.merge.streams w.merge.streams client.entry.texts.items w.texts.items) × IfErr result (λ g. HaveAsked client.entry.merge.streams g.client.merge.streams) }
         {
             munge_beside(
                 rt, alloc, owners, seat, sides, munger, putting, client, events, gate,
@@ -142,7 +143,8 @@ fn munge_beside<
     requires events { length sides.items < length events.now.lines.items }
     requires streams { length client.merge.streams ≤ length events.now.lines.items }
     requires read { AreRead client.merge.streams client.texts.items }
-    ensures { IfOk result (λ w. HasWatched client.entry.merge.streams w.merge.streams client.entry.texts.items w.texts.items) }
+    ensures watched { IfOk result (λ w. HasWatched client.entry.merge.streams w.merge.streams client.entry.texts.items w.texts.items) }
+    ensures gave_up { IfErr result (λ g. HaveAsked client.entry.merge.streams g.client.merge.streams) }
 {
     if other == Worker::Refused {
         return Err(give_up(client, events));
@@ -154,7 +156,7 @@ fn munge_beside<
         move || munge_waiting(rt, munger, waiting),
         move |munging| -> Result<Watched<'_, P>, GaveUp<'_, P>>
             requires { IsSync R.row × IsSync G.row × IsIdle owners.now seat × All (λ side. side.board.sub < length owners.now.channels) sides.items × (length sides.items < 2 ^ 32) × (length sides.items ≤ length events.now.lines.items) × (length client.merge.streams ≤ length events.now.lines.items) × AreRead client.merge.streams client.texts.items }
-            ensures { IfOk result (λ w. HasWatched client.entry.merge.streams w.merge.streams client.entry.texts.items w.texts.items) }
+            ensures { IfOk result (λ w. HasWatched client.entry.merge.streams w.merge.streams client.entry.texts.items w.texts.items) × IfErr result (λ g. HaveAsked client.entry.merge.streams g.client.merge.streams) }
         {
             if munging == Worker::Refused {
                 return Err(give_up(client, events));

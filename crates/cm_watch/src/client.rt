@@ -1,7 +1,7 @@
 // The one client of all watched lines.
-ghost use Rattle.std.specs.Prelude.{◌≡◌, ◌<◌, ◌≤◌, length, map, IfOk};
-ghost use Rattle.cm_stream.specs.Merging.{released_of};
-ghost use Rattle.cm_watch.specs.Watched.{AreRead, AreSame, AreStopped, CanPut, HasPut, HasWatched};
+ghost use Rattle.std.specs.Prelude.{◌≡◌, ◌<◌, ◌≤◌, length, map, IfErr, IfOk};
+ghost use Rattle.cm_stream.specs.Merging.{fixed, released_of};
+ghost use Rattle.cm_watch.specs.Watched.{AreRead, AreSame, AreStopped, CanPut, HasPut, HasWatched, HaveAsked};
 
 use crate::events::WatchEvents;
 use crate::watcher::Watcher;
@@ -54,6 +54,7 @@ fn put_more<P: Planned, G: Gate>(
     ensures told { IfOk result (λ _. watcher.new.told ≡ map released_of merge.new.streams) }
     ensures read { IfOk result (λ _. AreRead merge.new.streams texts.new) }
     ensures same { IfOk result (λ _. AreSame merge.old.streams merge.new.streams texts.old texts.new) }
+    ensures kept { map fixed merge.new.streams ≡ map fixed merge.old.streams }
 {
     room.clear();
     let scans = merge.append_scans(source, room, PIECE)?;
@@ -81,7 +82,8 @@ fn read_all<R: Wait + Sync, P: Planned, G: Gate>(
 ) -> Result<(), NoMemory>
     requires events { length merge.old.streams ≤ length events.now.lines.items }
     requires read { AreRead merge.old.streams texts.old }
-    ensures { IfOk result (λ _. HasWatched merge.old.streams merge.new.streams texts.old texts.new) }
+    ensures watched { IfOk result (λ _. HasWatched merge.old.streams merge.new.streams texts.old texts.new) }
+    ensures kept { map fixed merge.new.streams ≡ map fixed merge.old.streams }
 {
     let mut room = Vec::new(alloc);
     let mut watcher = Watcher::new(alloc, events, merge.all_released(alloc)?)?;
@@ -112,7 +114,8 @@ pub(crate) fn read_scans<'a, R: Wait + Sync, P: Planned, G: Gate>(
 ) -> Result<Watched<'a, P>, GaveUp<'a, P>>
     requires events { length client.merge.streams ≤ length events.now.lines.items }
     requires read { AreRead client.merge.streams client.texts.items }
-    ensures { IfOk result (λ w. HasWatched client.entry.merge.streams w.merge.streams client.entry.texts.items w.texts.items) }
+    ensures watched { IfOk result (λ w. HasWatched client.entry.merge.streams w.merge.streams client.entry.texts.items w.texts.items) }
+    ensures gave_up { IfErr result (λ g. HaveAsked client.entry.merge.streams g.client.merge.streams) }
 {
     let Watched {
         mut texts,
@@ -128,7 +131,9 @@ pub(crate) fn read_scans<'a, R: Wait + Sync, P: Planned, G: Gate>(
 pub(crate) fn give_up<'a, P: Planned>(
     mut client: Watched<'a, P>,
     events: &WatchEvents,
-) -> GaveUp<'a, P> {
+) -> GaveUp<'a, P>
+    ensures { HaveAsked client.entry.merge.streams result.client.merge.streams }
+{
     client.merge.stop_all();
     events.wake_boards();
     GaveUp { client }

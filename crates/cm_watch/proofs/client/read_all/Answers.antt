@@ -27,8 +27,8 @@ loop-preserved-in-Given g c =
       same = same_on _ _ _ _ _ _ c.loop.invariant.same (same_on _ _ _ _ _ _ one more.same);
     }
 
-pub returns-in-Ended : goal.returns-in-Ended
-returns-in-Ended g c = ended_read _ _ _ _ _ _ c.loop.invariant.read c.loop.invariant.same c.in-Ended.ensures.merged
+pub returns-in-Ended-clause-watched : goal.returns-in-Ended-clause-watched
+returns-in-Ended-clause-watched g c = ended_read _ _ _ _ _ _ c.loop.invariant.read c.loop.invariant.same c.in-Ended.ensures.merged
 
 pub loop-preserved : goal.loop-preserved
 loop-preserved g c =

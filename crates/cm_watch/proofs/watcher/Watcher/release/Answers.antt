@@ -1,7 +1,7 @@
 use Rattle.std.proofs.Common.{◌≡◌, ℕ, ◌-◌, ◌<◌, length, min, sym, ap, ◌∙◌, subst, arith, refl}
 use Rattle.std.proofs.lemmas.List.{get_or_read}
 use Rattle.std.proofs.lemmas.Option.{slice_get_read}
-use Rattle.cm_client.specs.Waiting.{AlarmText, HasHandedOn}
+use Rattle.cm_client.specs.Waiting.{HasHandedOn}
 use Rattle.cm_watch.specs.Told.{WatcherText, untold}
 use Rattle.cm_watch.proofs.watcher.Watcher.release.Goals as goal
 
