@@ -1,78 +1,52 @@
 // Whole reads and writes over memory, and calls of a device that are interrupted.
+ghost use Rattle.std.specs.Prelude.{◌≡◌, IfOk};
+
 use cm_base::memory::{MemSink, MemSource};
 use cm_base::outside::{Failed, Sink, Source};
 use cm_base::standard::{StdSink, StdSource};
-use cm_base::transfer::{ReadError, WriteFault, read_all, write_all};
+use cm_base::transfer::{NoMemory, ReadError, WriteFault, read_all, write_all};
+use std::alloc::Global;
 use std::io::{Error, ErrorKind, Read, Result as IoResult, Write};
 use std::test::Fail;
 
 const TEXT: &[u8] = b"seven words make one line of text";
 
-// A step, a call that fails (0: none), whether the text comes whole, and how many calls are made.
-const READS: [(u32, u64, bool, u64); 5] = [
-    (100, 0, true, 2),
-    (1, 0, true, 34),
-    (10, 0, true, 5),
-    (10, 1, false, 1),
-    (10, 5, false, 5),
-];
+// Reads the text in pieces of ten bytes, where one call fails. It gives what comes of it, and how many calls are made.
+fn read_whole(alloc: Global, fails: u64) -> Result<(Result<Vec<u8>, ReadError>, u64), NoMemory> {
+    let mut source = MemSource::new(TEXT.to_vec(alloc)?, 10, [fails].to_vec(alloc)?);
+    let read = read_all(alloc, &mut source, 1000);
+    Ok((read, source.calls()))
+}
 
 #[test]
 fn a_whole_read_stops_at_the_first_fault(rt: HostRuntime) -> Result<(), Fail> {
-    for (step, fails, whole, calls) in READS {
-        let text = TEXT.to_vec(rt.alloc())?;
-        let mut source = MemSource::new(text, step.max(1), [fails].to_vec(rt.alloc())?);
-        let read = read_all(rt.alloc(), &mut source, 1000);
-        match read {
-            Ok(bytes) => assert!(rt; whole && bytes.as_slice() == TEXT, "at {step} {fails}"),
-            Err(error) => assert!(rt;
-                !whole && error == ReadError::ReadFault,
-                "at {step} {fails}"
-            ),
-        }
-        assert_eq!(rt; source.calls(), calls, "at {step} {fails}");
+    for fails in 1..7u64 {
+        let (read, calls) = read_whole(rt.alloc(), fails)?;
+        let right = match read {
+            Ok(bytes) => fails == 6 && bytes.as_slice() == TEXT,
+            Err(error) => fails < 6 && error == ReadError::ReadFault,
+        };
+        assert!(rt; right && calls == fails.min(5));
     }
     Ok(())
 }
 
-#[test]
-fn a_read_past_its_limit_takes_one_byte_more(rt: HostRuntime) -> Result<(), Fail> {
-    let text = TEXT.to_vec(rt.alloc())?;
-    let mut source = MemSource::new(text, 1, Vec::new(rt.alloc()));
-    assert_eq!(rt;
-        read_all(rt.alloc(), &mut source, 10).err(),
-        Some(ReadError::TooLong)
-    );
-    assert_eq!(rt; source.calls(), 11);
-    Ok(())
+// Writes the text in pieces of ten bytes, where one call fails. It gives what comes of it, what was taken, and how many
+// calls are made.
+fn write_whole(alloc: Global, fails: u64) -> Result<(bool, Vec<u8>, u64), NoMemory> {
+    let mut sink = MemSink::new(alloc, 100, 10, [fails].to_vec(alloc)?)?;
+    let written = write_all(&mut sink, TEXT);
+    Ok((written == Ok(()), sink.text().to_vec(alloc)?, sink.calls()))
 }
-
-// A room, a step, a call that fails (0: none), how many bytes are taken, and how many calls are made.
-const WRITES: [(u32, u32, u64, usize, u64); 6] = [
-    (33, 100, 0, 33, 1),
-    (100, 1, 0, 33, 33),
-    (100, 10, 0, 33, 4),
-    (100, 10, 1, 0, 1),
-    (100, 10, 3, 20, 3),
-    (25, 10, 0, 25, 4),
-];
 
 #[test]
 fn a_whole_write_stops_at_the_first_fault(rt: HostRuntime) -> Result<(), Fail> {
-    for (room, step, fails, taken, calls) in WRITES {
-        let mut sink = MemSink::new(rt.alloc(), room, step.max(1), [fails].to_vec(rt.alloc())?)?;
-        let written = write_all(&mut sink, TEXT);
-        assert_eq!(rt;
-            written == Err(WriteFault),
-            taken < TEXT.len(),
-            "at {room} {step} {fails}"
+    for fails in 1..6usize {
+        let (whole, taken, calls) = write_whole(rt.alloc(), fails as u64)?;
+        let wanted = &TEXT[..(fails * 10 - 10).min(33)];
+        assert!(rt;
+            whole == (fails == 5) && taken.as_slice() == wanted && calls == fails.min(4) as u64
         );
-        assert_eq!(rt;
-            sink.text(),
-            &TEXT[..taken.min(TEXT.len())],
-            "at {room} {step} {fails}"
-        );
-        assert_eq!(rt; sink.calls(), calls, "at {room} {step} {fails}");
     }
     Ok(())
 }
@@ -85,34 +59,30 @@ struct Interrupted {
 }
 
 impl Interrupted {
-    // Why the next call moves nothing, if it doesn't.
-    fn refusal(&mut self) -> Option<ErrorKind> {
+    // What the next call answers, of so many bytes.
+    fn answer(&mut self, count: usize) -> IoResult<usize>
+        ensures { IfOk result (λ moved. moved ≡ count) }
+    {
         if self.times > 0 {
             self.times -= 1;
-            Some(ErrorKind::Interrupted)
+            Err(Error::from(ErrorKind::Interrupted))
         } else if self.fails {
-            Some(ErrorKind::BrokenPipe)
+            Err(Error::from(ErrorKind::BrokenPipe))
         } else {
-            None
+            Ok(count)
         }
     }
 }
 
 impl Read for Interrupted {
     fn read(&mut self, buf: &mut [u8]) -> IoResult<usize> {
-        match self.refusal() {
-            Some(kind) => Err(Error::from(kind)),
-            None => Ok(buf.len()),
-        }
+        self.answer(buf.len())
     }
 }
 
 impl Write for Interrupted {
     fn write(&mut self, buf: &[u8]) -> IoResult<usize> {
-        match self.refusal() {
-            Some(kind) => Err(Error::from(kind)),
-            None => Ok(buf.len()),
-        }
+        self.answer(buf.len())
     }
 
     fn flush(&mut self) -> IoResult<()> {
@@ -120,22 +90,15 @@ impl Write for Interrupted {
     }
 }
 
-// How often a call is interrupted, whether it fails then, and what comes of it.
-const CALLS: [(u32, bool, Result<usize, Failed>); 4] = [
-    (0, false, Ok(4)),
-    (3, false, Ok(4)),
-    (0, true, Err(Failed)),
-    (3, true, Err(Failed)),
-];
+// What a read and a write of four bytes give that are interrupted three times.
+fn tried_again(fails: bool) -> [Result<usize, Failed>; 2] {
+    let mut source = StdSource::new(Interrupted { times: 3, fails });
+    let mut sink = StdSink::new(Interrupted { times: 3, fails });
+    [source.read(&mut [0; 4]), sink.write(b"four")]
+}
 
 #[test]
-fn an_interrupted_call_is_tried_again(rt: HostRuntime) -> Result<(), Fail> {
-    for (times, fails, wanted) in CALLS {
-        let mut source = StdSource::new(Interrupted { times, fails });
-        let mut buf = [0; 4];
-        assert_eq!(rt; source.read(&mut buf), wanted, "a read at {times} {fails}");
-        let mut sink = StdSink::new(Interrupted { times, fails });
-        assert_eq!(rt; sink.write(b"four"), wanted, "a write at {times} {fails}");
-    }
-    Ok(())
+fn an_interrupted_call_is_tried_again(rt: HostRuntime) {
+    assert!(rt; tried_again(false) == [Ok(4); 2]);
+    assert!(rt; tried_again(true) == [Err(Failed); 2]);
 }

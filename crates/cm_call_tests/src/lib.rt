@@ -1,13 +1,7 @@
-// Tests of calls without threads, at worked values that no job shows.
+// Tests of calls that meet the outside, and of places that seats share.
 #![tactic(auto)]
 
 #[cfg(test)]
 mod base;
-#[cfg(test)]
-mod printing;
-#[cfg(test)]
-mod ring_core;
-#[cfg(test)]
-mod sample;
 #[cfg(test)]
 mod sub;

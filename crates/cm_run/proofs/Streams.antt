@@ -1,5 +1,5 @@
 -- What a stream through a line's ring says of the line.
-use Rattle.std.proofs.Common.{◌≡◌, ℕ, ◌≤◌, Bool, ◌++◌, List, length, take, refl, sym, ap, ◌∙◌, subst, arith, eqb, Option, Some}
+use Rattle.std.proofs.Common.{◌≡◌, ℕ, ◌≤◌, ◌++◌, List, length, take, sym, ap, ◌∙◌, subst, arith, Option}
 use Rattle.cm_base.specs.UpTo.{up_to}
 use Rattle.cm_expand.specs.Items.{samples_of}
 use Rattle.cm_expand.specs.Plan.{PlanText}

@@ -8,3 +8,4 @@ pub mod Rounding
 pub mod Moved
 pub mod Walks
 pub mod Tested
+pub mod Failing

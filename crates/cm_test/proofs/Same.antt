@@ -1,5 +1,5 @@
 -- Commands whose triggers are the same.
-use Rattle.std.proofs.Common.{◌≡◌, true, ap}
+use Rattle.std.proofs.Common.{◌≡◌, Bool, true, false, ◌&&◌, refl, ap, ap₂, ◌∙◌}
 use Rattle.std.specs.Prelude.{◌==◌}
 use Rattle.std.proofs.lemmas.Bool.{eqb-true, eq-eqb}
 use Rattle.cm_cmd.specs.Command.{CmdText}
@@ -42,3 +42,26 @@ are_same a b h =
 pub triggers_same : (a b : CmdText) → AreSame a b → same_triggers a b ≡ true
 triggers_same a b e =
     and_true _ _ (and_true _ _ (and_true _ _ (and_true _ _ (trigger_same a.start b.start e.start) (trigger_same a.scan_begin b.scan_begin e.scan_begin)) (trigger_same a.convert b.convert e.convert)) (trigger_same a.scan_end b.scan_end e.scan_end)) (trigger_same a.stop b.stop e.stop)
+
+-- a command with other times
+abbrev pub with_times : CmdText → Trig → Trig → CmdText
+with_times cmd scan_begin convert = record cmd { scan_begin = scan_begin; convert = convert }
+
+and_rest : (a : Bool) → (a && true && true) ≡ a
+and_rest true = refl
+and_rest false = refl
+
+-- its times tell whether all its triggers are the same
+pub times_tell : (cmd : CmdText) (scan_begin convert : Trig) → same_triggers (with_times cmd scan_begin convert) cmd ≡ (same_trigger scan_begin cmd.scan_begin && same_trigger convert cmd.convert)
+times_tell cmd scan_begin convert =
+    let both_times = λ (a : Bool). a && same_trigger scan_begin cmd.scan_begin && same_trigger convert cmd.convert in
+    ap (λ a. both_times a && same_trigger cmd.scan_end cmd.scan_end && same_trigger cmd.stop cmd.stop) (trigger_same cmd.start cmd.start refl)
+    ∙ ap (λ a. both_times true && a && same_trigger cmd.stop cmd.stop) (trigger_same cmd.scan_end cmd.scan_end refl)
+    ∙ ap (λ a. both_times true && true && a) (trigger_same cmd.stop cmd.stop refl)
+    ∙ and_rest (both_times true)
+
+-- and so whether it is the same command
+pub times_keep : (cmd : CmdText) (scan_begin convert : Trig) → same_triggers (with_times cmd scan_begin convert) cmd ≡ true → with_times cmd scan_begin convert ≡ cmd
+times_keep cmd scan_begin convert h =
+    let same = are_same (with_times cmd scan_begin convert) cmd h in
+    ap₂ (with_times cmd) same.scan_begin same.convert

@@ -23,16 +23,16 @@ pub(crate) fn repair(sub: &Sub, cmd: &mut Cmd) -> bool
     ensures kept { IsTrue result → cmd.new ≡ cmd.old }
 {
     let limits = start_limits(sub, cmd);
-    let start = limits.repair(sub, &mut cmd.start);
+    let mut kept = limits.repair(sub, &mut cmd.start);
     let limits = scan_begin_limits(sub, cmd);
-    let scan_begin = limits.repair(sub, &mut cmd.scan_begin);
+    kept &= limits.repair(sub, &mut cmd.scan_begin);
     let limits = convert_limits(sub, cmd);
-    let convert = limits.repair(sub, &mut cmd.convert);
+    kept &= limits.repair(sub, &mut cmd.convert);
     let length = cmd.list.len() as u32;
-    let scan_end = put(&mut cmd.scan_end, length);
+    kept &= put(&mut cmd.scan_end, length);
     let limits = stop_limits(sub, cmd);
-    let stop = limits.repair(sub, &mut cmd.stop);
-    start && scan_begin && convert && scan_end && stop
+    kept &= limits.repair(sub, &mut cmd.stop);
+    kept
 }
 
 impl ArgLimits {

@@ -15,12 +15,12 @@ pub(crate) fn narrow(sub: &Sub, cmd: &mut Cmd) -> bool
     ensures kept { IsTrue result → cmd.new ≡ cmd.old }
 {
     let some = has_sources(cmd);
-    let start = narrow_trigger(sub.sources[0], &mut cmd.start);
-    let scan_begin = narrow_trigger(sub.sources[1], &mut cmd.scan_begin);
-    let convert = narrow_trigger(sub.sources[2], &mut cmd.convert);
-    let scan_end = narrow_trigger(sub.sources[3], &mut cmd.scan_end);
-    let stop = narrow_trigger(sub.sources[4], &mut cmd.stop);
-    start && scan_begin && convert && scan_end && stop && some
+    let mut kept = narrow_trigger(sub.sources[0], &mut cmd.start);
+    kept &= narrow_trigger(sub.sources[1], &mut cmd.scan_begin);
+    kept &= narrow_trigger(sub.sources[2], &mut cmd.convert);
+    kept &= narrow_trigger(sub.sources[3], &mut cmd.scan_end);
+    kept &= narrow_trigger(sub.sources[4], &mut cmd.stop);
+    kept && some
 }
 
 // Leaves a trigger the sources of the mask, and reports whether it had no others.

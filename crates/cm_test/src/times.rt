@@ -1,5 +1,5 @@
 // The times that the timers of a subdevice can make, in nanoseconds.
-ghost use Rattle.std.specs.Prelude.{◌≡◌, ◌<◌, ◌≤◌, ◌^◌, ◌/◌, ◌%◌, ◌*◌, ◌==◌, length, IsTrue};
+ghost use Rattle.std.specs.Prelude.{◌≡◌, ◌<◌, ◌≤◌, ◌^◌, ◌/◌, ◌%◌, ◌*◌, ◌==◌, ◌&&◌, length, IsTrue};
 ghost use Rattle.cm_base.specs.Source as source;
 ghost use Rattle.cm_board.specs.declared.board.Way.TheVariants as ways;
 ghost use Rattle.cm_test.specs.Steps as spec;
@@ -32,13 +32,14 @@ pub(crate) fn round(sub: &Sub, cmd: &mut Cmd) -> bool
     let convert = cmd.convert;
     round_times(sub, cmd);
     raise(sub, cmd);
-    is_same(cmd.scan_begin, scan_begin) && is_same(cmd.convert, convert)
+    has_times(cmd, scan_begin, convert)
 }
 
-fn is_same(new: Trig, old: Trig) -> bool
-    ensures { result ≡ same_trigger new old }
+// Whether both times of a command are these.
+fn has_times(cmd: &Cmd, scan_begin: Trig, convert: Trig) -> bool
+    ensures { result ≡ (same_trigger cmd.now.scan_begin scan_begin && same_trigger cmd.now.convert convert) }
 {
-    new == old
+    cmd.scan_begin == scan_begin && cmd.convert == convert
 }
 
 // Rounds both times to ones that can be made in their limits. A scan still fits then.

@@ -1,18 +1,27 @@
-// Gates that hold threads. They are counts that any thread raises, and each wait has a limit, so that
-// they take no leave to wait.
+// A gate that holds threads. It counts, by numbers that any thread raises, and each wait has a limit, so that it takes no
+// leave to wait.
 use cm_base::gate::Gate;
 use std::sync::atomic::{AtomicU64, Ordering};
 use std::thread;
 
-// The most turns that a thread is held.
+// The most turns that a thread is held, and that one is for which the other one isn't to come.
 const TURNS: u32 = 10_000_000;
 
-/// A pass of a point: the worker of a line that passes it, and its how manieth pass it is, from 1.
+const FEW_TURNS: u32 = 1_000_000;
+
+/// A pass of a point: the line whose worker passes it, the point, and its how manieth pass it is, from 1.
 #[derive(Clone, Copy)]
-pub struct Pass {
-    pub who: u32,
-    pub point: u32,
-    pub count: u64,
+pub struct Pass(pub u32, pub u32, pub u64);
+
+/// What comes of two passes.
+#[derive(Clone, Copy, PartialEq, Eq)]
+pub enum Course {
+    /// The first is held until the other one has come.
+    Held,
+    /// Each is held until the other one has come. One thread never gets past them.
+    Met,
+    /// The same, but they don't meet: the one that comes first is held up to the limit.
+    Missed,
 }
 
 // How often a point was passed by a worker of a line, and the pass that counts.
@@ -32,14 +41,14 @@ impl Watch {
 
     // Whether this is the pass that counts.
     fn comes(&self, who: u32, point: u32) -> bool {
-        who == self.pass.who
-            && point == self.pass.point
-            && self.seen.fetch_add(1, Ordering::SeqCst).wrapping_add(1) == self.pass.count
+        who == self.pass.0
+            && point == self.pass.1
+            && self.seen.fetch_add(1, Ordering::SeqCst).wrapping_add(1) == self.pass.2
     }
 
     // Whether the pass that counts has come.
     fn came(&self) -> bool {
-        self.pass.count <= self.seen.load(Ordering::SeqCst)
+        self.pass.2 <= self.seen.load(Ordering::SeqCst)
     }
 
     // Waits until it comes, and reports whether it came within so many turns.
@@ -54,90 +63,50 @@ impl Watch {
     }
 }
 
-/// Holds a worker at its pass until another pass has come.
-#[derive(Drop)]
-pub struct HoldGate {
-    held: Watch,
-    until: Watch,
-    late: AtomicU64,
-}
-
-impl HoldGate {
-    pub fn new(held: Pass, until: Pass) -> HoldGate {
-        HoldGate {
-            held: Watch::new(held),
-            until: Watch::new(until),
-            late: AtomicU64::new(0),
-        }
-    }
-
-    /// Whether both passes came, and the second one within the limit.
-    pub fn kept(&self) -> bool {
-        self.held.came() && self.until.came() && self.late.load(Ordering::SeqCst) == 0
-    }
-}
-
-impl Gate for HoldGate {
-    fn pass(&self, who: u32, point: u32) {
-        self.until.comes(who, point);
-        if self.held.comes(who, point) && !self.until.wait(TURNS) {
-            self.late.store(1, Ordering::SeqCst);
-        }
-    }
-}
-
-/// Holds each of two workers at its pass until the other one has come to its own. One thread never
-/// gets past it.
+/// Holds workers at two passes.
 #[derive(Drop)]
 pub struct MeetGate {
     one: Watch,
     other: Watch,
-    turns: u32,
+    course: Course,
     late: AtomicU64,
 }
 
 impl MeetGate {
-    pub fn new(one: Pass, other: Pass) -> MeetGate {
-        MeetGate::within(one, other, TURNS)
-    }
-
-    /// A gate that holds a worker for so many turns at most.
-    pub fn within(one: Pass, other: Pass, turns: u32) -> MeetGate {
+    pub fn new(one: Pass, other: Pass, course: Course) -> MeetGate {
         MeetGate {
             one: Watch::new(one),
             other: Watch::new(other),
-            turns,
+            course,
             late: AtomicU64::new(0),
         }
     }
 
-    // Whether both passes came.
-    fn both_came(&self) -> bool {
-        self.one.came() && self.other.came()
+    /// Whether both passes came, as their course says.
+    pub fn has_ended(&self) -> bool {
+        let late = self.late.load(Ordering::SeqCst) == 1;
+        self.one.came() && self.other.came() && late == (self.course == Course::Missed)
     }
 
-    /// Whether the two met within the limit.
-    pub fn kept(&self) -> bool {
-        self.both_came() && self.late.load(Ordering::SeqCst) == 0
-    }
-
-    /// Whether both came, and didn't meet: the first was held up to the limit.
-    pub fn missed(&self) -> bool {
-        self.both_came() && self.late.load(Ordering::SeqCst) == 1
+    // Holds a worker until a pass has come.
+    fn hold(&self, until: &Watch) {
+        let turns = if self.course == Course::Missed {
+            FEW_TURNS
+        } else {
+            TURNS
+        };
+        if !until.wait(turns) {
+            self.late.store(1, Ordering::SeqCst);
+        }
     }
 }
 
 impl Gate for MeetGate {
     fn pass(&self, who: u32, point: u32) {
-        let met = if self.one.comes(who, point) {
-            self.other.wait(self.turns)
-        } else if self.other.comes(who, point) {
-            self.one.wait(self.turns)
-        } else {
-            true
-        };
-        if !met {
-            self.late.store(1, Ordering::SeqCst);
+        if self.one.comes(who, point) {
+            self.hold(&self.other);
+        } else if self.other.comes(who, point) && self.course != Course::Held {
+            self.hold(&self.one);
         }
     }
 }

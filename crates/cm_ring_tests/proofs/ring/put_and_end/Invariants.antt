@@ -1,5 +1,5 @@
 use Rattle.std.proofs.Common.{◌≡◌}
-use Rattle.cm_ring_tests.proofs.ring.put_between.Given as goal
+use Rattle.cm_ring_tests.proofs.ring.put_and_end.Given as goal
 
 abbrev pub invariant-loop-i : goal.invariant-loop-i
 invariant-loop-i l = record {

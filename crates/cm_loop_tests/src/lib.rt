@@ -1,5 +1,0 @@
-// Tests of a loop's filter.
-#![tactic(auto)]
-
-#[cfg(test)]
-mod loops;
