@@ -21,8 +21,8 @@ use cm_job::test_lines::read_tests;
 use cm_replay::job::Job;
 use cm_replay::replay::replay;
 use cm_session::reading::read_session;
-use cm_signal_text::reading::read_signals;
 use cm_signal::signals::Signals;
+use cm_signal_text::reading::read_signals;
 use std::alloc::Global;
 
 /// Does what a command without threads asks of a whole text: nothing is written before the text is read whole, and

@@ -1,5 +1,5 @@
 -- The schedule of each accepted command is timely.
-use Rattle.std.proofs.Common.{◌≡◌, ◌<◌, ◌≤◌, length, arith}
+use Rattle.std.proofs.Common.{◌≡◌, ◌<◌, ◌≤◌, length, arith, Some}
 use Rattle.std.specs.List.{All}
 use Rattle.cm_board.specs.Board.{IsSoundSub, no_sub}
 use Rattle.cm_signal.specs.Signals.{IsSoundSignals}

@@ -144,7 +144,7 @@ abbrev pub GoesWell : Setting → (ℕ → History) → State → List SessionLi
 GoesWell s histories state [] = Unit {0}
 GoesWell s histories state (line ∷ rest) =
     ((i : ℕ) →
-        Keeps (wiring_at s i) line.time (histories i) (device_at (brought_all line.time state).devices i).running)
+    Keeps (wiring_at s i) line.time (histories i) (device_at (brought_all line.time state).devices i).running)
     × ((i : ℕ) → PutsOut i line.time (histories i) (device_at state.devices i).running)
     × Continues (step s line state).answer (histories (named_sub line.op)) (running_at line state)
     × GoesWell s (remembered_at histories (named_sub line.op) (step s line state).answer) (step s line state).state rest

@@ -18,7 +18,7 @@ use Rattle.cm_insn.specs.declared.insn.Instr.{Instr}
 use Rattle.cm_sub.specs.Claims.{use_checks}
 use Rattle.cm_replay.specs.Calling.{insn_here, insn_reply}
 use Rattle.cm_replay.specs.Answers.{Answer, Refused, Reply, kept}
-use Rattle.cm_replay.specs.Forms.{Form, form, is_unfit, kind_checks, named_sub}
+use Rattle.cm_replay.specs.Forms.{Form, is_unfit, kind_checks, named_sub}
 use Rattle.cm_replay.specs.Law.{IsSoundJob, Wiring}
 use Rattle.cm_running.specs.Running.{Running, arrived, served}
 use Rattle.cm_replay.specs.Ready.{AllCanMove, CanMove}

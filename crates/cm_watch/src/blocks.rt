@@ -9,9 +9,9 @@ ghost use Rattle.cm_watch.specs.Whole.{AreEnds, AreWhole};
 
 use crate::client::Watched;
 use cm_base::transfer::NoMemory;
-use cm_job::whole::block_of;
 use cm_expand::plan::Plan;
 use cm_job::job::RunJob;
+use cm_job::whole::block_of;
 use cm_ring_core::view::End;
 use cm_sample::planned::Planned;
 use cm_stream::merge::Merge;

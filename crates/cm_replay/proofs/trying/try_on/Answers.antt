@@ -1,4 +1,4 @@
-use Rattle.std.proofs.Common.{◌≡◌, Bool, None, Some, ap, sym, subst, ◌∙◌}
+use Rattle.std.proofs.Common.{Bool, None, Some, ap, sym, subst, ◌∙◌}
 use Rattle.std.proofs.lemmas.Bool.{cond-false, ne_eqb}
 use Rattle.std.specs.Prelude.{◌≢◌, ◌&&◌, ◌==◌}
 use Rattle.cm_board.specs.Board.{takes_commands}

@@ -3,7 +3,8 @@ use Rattle.cm_base.specs.LineView.{line_view}
 use Rattle.cm_base.specs.Lines.{LineText}
 use Rattle.cm_base.proofs.Places.{line_taken}
 use Rattle.cm_signal_text.specs.SignalsPart.{is_session}
-use Rattle.cm_signal_text.proofs.Parts.{gives_err, line_more, lines_stop}
+use Rattle.cm_base.proofs.Refusal.{gives_err}
+use Rattle.cm_signal_text.proofs.Parts.{line_more, lines_stop}
 use Rattle.cm_signal_text.proofs.reading.add_lines.Goals as goal
 
 pub loop-count-preserved : goal.loop-count-preserved

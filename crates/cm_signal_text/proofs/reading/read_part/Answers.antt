@@ -1,5 +1,6 @@
 use Rattle.cm_board.specs.Board.{BoardText}
-use Rattle.cm_signal_text.proofs.Parts.{gives_err, part_stops, part_reported}
+use Rattle.cm_base.proofs.Refusal.{gives_err}
+use Rattle.cm_signal_text.proofs.Parts.{part_stops, part_reported}
 use Rattle.cm_signal_text.proofs.reading.read_part.Goals as goal
 
 pub returns-in_err-count-clause-value : goal.returns-in_err-count-clause-value

@@ -18,5 +18,5 @@ new-stream-requires-clause-n c =
     (omega arith, omega arith)
 
 pub returns-clause-report : goal.returns-clause-report
-returns-clause-report c κs within =
+returns-clause-report c =
     ring_accepts (plan_of c.args.board.now c.args.signals.now c.args.line.now) true (CanReport c.in_ok-text.text) (scan_of c.args.board.now c.args.line.now c.requires.watch).0 c.in_ok-text.ensures.accepts
