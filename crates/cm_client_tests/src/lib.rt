@@ -1,7 +1,7 @@
-// Tests of the threads at the ends of a ring.
+// Tests of workers that wait for each other, and of a line's block.
 #![tactic(auto)]
 
 #[cfg(test)]
-mod client;
-#[cfg(test)]
 mod run;
+#[cfg(test)]
+mod waiting;

@@ -1,24 +1,16 @@
-// The block of a line whose words its client keeps, and what the board's worker puts of a line.
-ghost use Rattle.std.specs.Prelude.{◌<◌, ◌≤◌};
-
+// The block of a line whose words its client keeps.
 use cm_base::cursor::split_lines;
 use cm_base::faults::ReadStop;
 use cm_base::gate::OpenGate;
 use cm_base::transfer::NoMemory;
-use cm_board::board::Munge;
 use cm_board_text::reading::read_board;
-use cm_client::boarding::board_work;
 use cm_client::client::Reads;
-use cm_client::reading::read_to_end;
 use cm_client::streaming::stream_command;
 use cm_expand::call::plan_of;
 use cm_job::job::RunJob;
 use cm_job::line::{Access, Mode, RunLine};
 use cm_job::reading::read_run;
 use cm_job::whole::block_text;
-use cm_ring::open::open;
-use cm_ring_core::view::{End, EndKind};
-use cm_ring_tests::rule::rule_of;
 use cm_signal_text::reading::read_signals;
 use std::alloc::Global;
 use std::sync::Wait;
@@ -110,47 +102,5 @@ fn the_words_of_a_line_have_its_block(rt: HostRuntime) -> Result<(), Fail> {
     let block = block_by_words(&rt, rt.alloc(), &job)?;
     let text = b"0 -153\n1 -153\n0 999923\n1 -153\n0 2000000\n1 -153\ndone\n";
     assert!(&rt; block.is_some_and(|block| block.as_slice() == text.as_slice()));
-    Ok(())
-}
-
-// What is read of a ring of so many cells that isn't paced, after the board's worker has put the expansion of a
-// job's first line.
-fn put_by_board<R: Wait + Sync>(
-    rt: &R,
-    alloc: Global,
-    job: &RunJob,
-    size: u32,
-) -> Result<Option<(Vec<u32>, End)>, NoMemory>
-    requires { (0 < size) × (size ≤ 8) }
-{
-    if job.lines.len() == 0 {
-        return Ok(None);
-    }
-    let plan = plan_of(&job.board, &job.signals, &job.lines[0]);
-    let plain = rule_of(alloc, Munge::Plain)?;
-    let (writer, mut munger, mut reader) = open(alloc, size, plain, false, 0, plan)?;
-    let _closed = board_work(rt, writer, plan, false, &OpenGate, 0);
-    munger.munge_some(8);
-    let read = read_to_end(rt, alloc, &mut reader, 4, false, None, &OpenGate, 0)?;
-    Ok(Some(read))
-}
-
-#[test]
-fn a_board_puts_all_or_overruns(rt: HostRuntime) -> Result<(), Fail> {
-    let job = read_job(rt.alloc(), JOB)?;
-    let words = [32767, 32767, 36044, 32767, 39321, 32767];
-    for (size, kind, count) in [(8, EndKind::Done, 6), (4, EndKind::Overrun, 4)] {
-        assert!(rt; 0 < size && size <= 8 && count <= 6);
-        let Some((came, end)) = put_by_board(&rt, rt.alloc(), &job, size)? else {
-            assert!(rt; false, "the job has no line");
-            return Ok(());
-        };
-        assert!(rt; came.as_slice() == &words[..count], "in {size} cells");
-        let found = End {
-            kind,
-            count: count as u64,
-        };
-        assert_eq!(rt; end, found, "in {size} cells");
-    }
     Ok(())
 }

@@ -1,5 +1,5 @@
 // What a ring gives when one thread makes the calls of its three ends in turn.
-ghost use Rattle.std.specs.Prelude.{◌≡◌, ◌≤◌, length, false};
+ghost use Rattle.std.specs.Prelude.{◌≡◌, false};
 ghost use Rattle.cm_ring_core.specs.Lawful.{first_writer};
 
 use crate::rule::rule_of;
