@@ -1,6 +1,6 @@
 // Jobs with threads whose workers are held at the points of a gate.
 use crate::boards;
-use crate::gates::{Course, MeetGate, Pass};
+use crate::gates::{MeetGate, Meeting, Pass};
 use crate::job::Job;
 use std::test::Fail;
 
@@ -67,31 +67,31 @@ const WATCH_TWO: Job = Job {
 };
 
 // The gate that a job goes through: of which two passes, and what comes of them.
-static ROWS: [(Job, Pass, Pass, Course); 10] = [
+static ROWS: [(Job, Pass, Pass, Meeting); 10] = [
     // A client that is held until the board has found the ring full: a free line loses the fifth sample, and a paced one
     // waits.
-    (FREE_SIX, Pass(0, 3, 1), Pass(0, 2, 1), Course::Held),
-    (PACED_SIX, Pass(0, 3, 1), Pass(0, 2, 1), Course::Held),
+    (FREE_SIX, Pass(0, 3, 1), Pass(0, 2, 1), Meeting::Held),
+    (PACED_SIX, Pass(0, 3, 1), Pass(0, 2, 1), Meeting::Held),
     // A board that is held until its client has released loses nothing, though its line is free.
-    (FREE_FIVE, Pass(0, 1, 2), Pass(0, 4, 1), Course::Held),
+    (FREE_FIVE, Pass(0, 1, 2), Pass(0, 4, 1), Meeting::Held),
     // Two workers that meet are two threads: the board and the client of a line, the board and the one client of a watch,
     // a board and a client of a soak, and the input's board and the output's client of a loop, of which the one has come to
     // the end of its ring when the other has read some words.
-    (PACED_FIVE, Pass(0, 1, 2), Pass(0, 3, 1), Course::Met),
-    (WATCH_FIVE, Pass(0, 1, 2), Pass(0, 4, 1), Course::Met),
-    (SOAK, Pass(0, 1, 2), Pass(0, 3, 1), Course::Met),
-    (LOOP, Pass(0, 1, 4), Pass(1, 4, 1), Course::Met),
+    (PACED_FIVE, Pass(0, 1, 2), Pass(0, 3, 1), Meeting::Met),
+    (WATCH_FIVE, Pass(0, 1, 2), Pass(0, 4, 1), Meeting::Met),
+    (SOAK, Pass(0, 1, 2), Pass(0, 3, 1), Meeting::Met),
+    (LOOP, Pass(0, 1, 4), Pass(1, 4, 1), Meeting::Met),
     // The boards of two lines of one subdevice never meet: a line has it until its workers have ended. Those of two lines
     // of a soak, which are of two subdevices, do.
-    (TWO_LINES, Pass(0, 1, 1), Pass(1, 1, 1), Course::Missed),
-    (WATCH_TWO, Pass(0, 1, 1), Pass(1, 1, 1), Course::Missed),
-    (SOAK, Pass(0, 1, 1), Pass(1, 1, 1), Course::Met),
+    (TWO_LINES, Pass(0, 1, 1), Pass(1, 1, 1), Meeting::Missed),
+    (WATCH_TWO, Pass(0, 1, 1), Pass(1, 1, 1), Meeting::Missed),
+    (SOAK, Pass(0, 1, 1), Pass(1, 1, 1), Meeting::Met),
 ];
 
 #[test]
 fn workers_are_held_at_gates(rt: HostRuntime) -> Result<(), Fail> {
-    for (job, one, other, course) in &ROWS {
-        let gate = MeetGate::new(*one, *other, *course);
+    for (job, one, other, meeting) in &ROWS {
+        let gate = MeetGate::new(*one, *other, *meeting);
         let answered = job.is_answered(&rt, rt.alloc(), &gate)?;
         assert!(&rt; answered && gate.has_ended(), "{}", job.lines);
     }

@@ -15,7 +15,7 @@ pub struct Pass(pub u32, pub u32, pub u64);
 
 /// What comes of two passes.
 #[derive(Clone, Copy, PartialEq, Eq)]
-pub enum Course {
+pub enum Meeting {
     /// The first is held until the other one has come.
     Held,
     /// Each is held until the other one has come. One thread never gets past them.
@@ -68,29 +68,29 @@ impl Watch {
 pub struct MeetGate {
     one: Watch,
     other: Watch,
-    course: Course,
+    meeting: Meeting,
     late: AtomicU64,
 }
 
 impl MeetGate {
-    pub fn new(one: Pass, other: Pass, course: Course) -> MeetGate {
+    pub fn new(one: Pass, other: Pass, meeting: Meeting) -> MeetGate {
         MeetGate {
             one: Watch::new(one),
             other: Watch::new(other),
-            course,
+            meeting,
             late: AtomicU64::new(0),
         }
     }
 
-    /// Whether both passes came, as their course says.
+    /// Whether both passes came, as their meeting is to go.
     pub fn has_ended(&self) -> bool {
         let late = self.late.load(Ordering::SeqCst) == 1;
-        self.one.came() && self.other.came() && late == (self.course == Course::Missed)
+        self.one.came() && self.other.came() && late == (self.meeting == Meeting::Missed)
     }
 
     // Holds a worker until a pass has come.
     fn hold(&self, until: &Watch) {
-        let turns = if self.course == Course::Missed {
+        let turns = if self.meeting == Meeting::Missed {
             FEW_TURNS
         } else {
             TURNS
@@ -105,7 +105,7 @@ impl Gate for MeetGate {
     fn pass(&self, who: u32, point: u32) {
         if self.one.comes(who, point) {
             self.hold(&self.other);
-        } else if self.other.comes(who, point) && self.course != Course::Held {
+        } else if self.other.comes(who, point) && self.meeting != Meeting::Held {
             self.hold(&self.one);
         }
     }
