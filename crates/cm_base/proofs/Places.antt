@@ -1,7 +1,8 @@
 -- The lines of a text by their places.
 use Rattle.std.proofs.Common.{◌≡◌, ℕ, ◌-◌, ◌<◌, ◌+◌, suc, Bool, true, List, [], ◌∷◌, ◌++◌, append_assoc, length, map, drop, take, get_or, ap, sym, ◌∙◌, arith, add-one, drop-cons, length-drop}
 use Rattle.std.specs.Prelude.{if◌then◌else◌}
-use Rattle.std.proofs.lemmas.List.{drop-map, map-append, take_all}
+use Rattle.std.proofs.Math.Seq.{take-append-add}
+use Rattle.std.proofs.lemmas.List.{append-nil, drop-map, length-map, map-append, take_all}
 use Rattle.cm_base.specs.LineView.{line_view}
 use Rattle.cm_base.specs.Lines.{LineText}
 use Rattle.cm_base.specs.declared.lines.Line.{Line}
@@ -17,15 +18,20 @@ next_line lines i line h e =
     ∙ ap (λ (x : Line). line_view x ∷ map line_view (drop (suc i) lines)) (sym e)
     ∙ ap (λ (n : ℕ). line_view line ∷ map line_view (drop n lines)) (sym (add-one i))
 
--- one line more of the first lines
-pub line_more : (lines reported : List Line) (line : Line) (old new : List LineText) (m n : ℕ) → reported ≡ lines ++ line ∷ [] → old ≡ line_view line ∷ new → n ≡ suc m →
-    map line_view reported ++ take m new ≡ map line_view lines ++ take n old
-line_more lines reported line old new m n t e s =
-    ap (λ (ls : List Line). map line_view ls ++ take m new) t
-    ∙ ap (λ (ls : List LineText). ls ++ take m new) (map-append line_view lines (line ∷ []))
-    ∙ append_assoc (map line_view lines) (line_view line ∷ []) (take m new)
-    ∙ ap (λ (ls : List LineText). map line_view lines ++ take (suc m) ls) (sym e)
-    ∙ ap (λ (k : ℕ). map line_view lines ++ take k old) (sym s)
+-- the lines read and the next one, where there is one, are the first of all
+pub first_lines : (lines : List Line) (rest all : List LineText) → map line_view lines ++ rest ≡ all → take (length lines + 1) all ≡ map line_view lines ++ take 1 rest
+first_lines lines rest all e =
+    ap (take (length lines + 1)) (sym e)
+    ∙ ap (λ (n : ℕ). take (n + 1) (map line_view lines ++ rest)) (sym (length-map lines line_view))
+    ∙ take-append-add (map line_view lines) rest 1
+
+-- the last one is read
+pub last_read : (lines reported : List Line) (line : Line) (old new all : List LineText) → reported ≡ lines ++ line ∷ [] → old ≡ line_view line ∷ new → map line_view lines ++ old ≡ all →
+    map line_view reported ≡ take (length lines + 1) all
+last_read lines reported line old new all t e before =
+    ap (map line_view) t
+    ∙ map-append line_view lines (line ∷ [])
+    ∙ sym (first_lines lines old all before ∙ ap (λ (ls : List LineText). map line_view lines ++ take 1 ls) e)
 
 -- the next of the lines that are left
 abbrev pub taken : Bool → LineText → List LineText → List LineText

@@ -1,14 +1,11 @@
 -- The words of a line from its first one on.
-use Rattle.std.proofs.Common.{◌≡◌, ℕ, suc, ◌+◌, ◌<◌, Bool, true, false, cond, not, ◌||◌, ◌&&◌, ◌==◌, List, [], ◌∷◌, ◌++◌, length, map, append_assoc, take, drop, refl, sym, ap, ◌∙◌, inl, inr, arith}
+use Rattle.std.proofs.Common.{◌≡◌, ℕ, suc, ◌+◌, ◌<◌, Bool, true, false, cond, not, ◌||◌, List, [], ◌∷◌, ◌++◌, length, map, append_assoc, take, drop, refl, sym, ap, ◌∙◌, arith}
 use Rattle.std.specs.Prelude.{slice_index}
 use Rattle.std.specs.List.{filter, onto_first, prefix_len, slice_split}
-use Rattle.std.proofs.lemmas.Bool.{cases_lt}
 use Rattle.std.proofs.lemmas.Bool.Decides.{nat_tests}
 use Rattle.std.proofs.lemmas.List.Folds.{length-prefix_len}
 use Rattle.std.proofs.lemmas.List.Splits.{slice_split-cons_yes, slice_split-cons_no}
 use Rattle.std.proofs.lemmas.List.{map-append}
-use Rattle.std.specs.Str.{bytes_eq}
-use Rattle.cm_base.specs.Parts.{begins_words}
 use Rattle.cm_base.specs.Lines.{is_allowed, is_bad, is_blank, is_not_empty, is_printable, words_of}
 
 -- the bytes after the first printable ones
@@ -96,17 +93,3 @@ word_more {X} now words reported found all line rest t f r cut before =
     ∙ append_assoc (map now words) (now found ∷ []) (words_of rest)
     ∙ ap (λ (ws : List (List ℕ)). map now words ++ ws) (ap (λ (w : List ℕ). w ∷ words_of rest) f ∙ ap (λ (ws : List (List ℕ)). word line ∷ ws) r ∙ sym cut)
     ∙ before
-
-full_word : (w key : List ℕ) (ws : List (List ℕ)) → 0 < length w → (not (length w == 0) && bytes_eq w key) ≡ begins_words key (w ∷ ws)
-full_word [] key ws some = absurd (omega arith)
-full_word (c ∷ w) key ws some = ap (λ b. b && bytes_eq (c ∷ w) key) (let full : not (length (c ∷ w) == 0) ≡ true = grind (arith, nat_tests) in full)
-
--- the first word of a line that is not bad and starts with no blank
-pub first_word : (key line : List ℕ) → is_bad line ≡ false → (0 < length line → is_blank (slice_index line 0) ≡ false) → (not (length (word line) == 0) && bytes_eq (word line) key) ≡ begins_words key (words_of line)
-first_word key [] good first = refl
-first_word key (c ∷ line) good first = elim (cases_lt 0 (prefix_len is_printable (c ∷ line))) [
-  | inl some ↦
-      full_word (word (c ∷ line)) key (words_of (after (c ∷ line))) (omega (arith, length-prefix_len is_printable (c ∷ line), some))
-      ∙ sym (ap (begins_words key) (words_after (c ∷ line) some (sym (bad_after (c ∷ line)) ∙ good)))
-  | inr none ↦ absurd (let bad = bad_first (c ∷ line) (omega arith) (omega (arith, none)) first in cc)
-]

@@ -4,7 +4,7 @@ use Rattle.std.specs.List.{list_all, join_with_byte, slice_split, filter}
 use Rattle.std.proofs.lemmas.Bool.Decides.{nat_tests}
 use Rattle.std.proofs.lemmas.List.Splits.{slice_split_at}
 use Rattle.cm_base.specs.Lines.{LineText, is_allowed, is_bad, is_comment, is_line_feed, is_word, line_text, lines_from, raw_lines, text_counts, without_empty_end}
-use Rattle.cm_base.specs.WrittenLines.{is_line, line_of, numbered, text_of}
+use Rattle.cm_base.specs.WrittenLines.{is_line, written_line, numbered, text_of}
 use Rattle.cm_base.proofs.Bools.{and_true, both}
 use Rattle.cm_base.proofs.Joined.{allowed-joined, free, free_of, words_of-joined}
 use Rattle.cm_base.proofs.RawLines.{ends_later, lines_from-cons, split_some}
@@ -50,7 +50,7 @@ lines_from-written number [] rest h = ap (λ (n : ℕ). lines_from n (raw_lines 
 lines_from-written number (words ∷ lines) rest h =
     let b = both (is_line words) (list_all is_line lines) h in
     let text : LineText = record { number = number; words = words; bad = false } in
-    ap (λ (t : List ℕ). lines_from number (raw_lines t)) (append_assoc (line_of words) (text_of lines) rest)
+    ap (λ (t : List ℕ). lines_from number (raw_lines t)) (append_assoc (written_line words) (text_of lines) rest)
     ∙ ap (lines_from number) (raw_lines-written (join_with_byte 32 words) (text_of lines ++ rest) (allowed words b.0))
     ∙ lines_from-cons number (join_with_byte 32 words) (raw_lines (text_of lines ++ rest))
     ∙ ap (λ (t : LineText). filter text_counts (t ∷ []) ++ lines_from (number + 1) (raw_lines (text_of lines ++ rest))) (line_text-joined number words b.0)

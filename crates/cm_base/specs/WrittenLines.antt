@@ -4,12 +4,12 @@ use Rattle.std.specs.List.{join_with_byte, list_all}
 use Rattle.cm_base.specs.Lines.{LineText, is_comment, is_word}
 
 -- the words with a space between two, and a line feed after them
-abbrev pub line_of : List (List ℕ) → List ℕ
-line_of words = join_with_byte 32 words ++ 10 ∷ []
+abbrev pub written_line : List (List ℕ) → List ℕ
+written_line words = join_with_byte 32 words ++ 10 ∷ []
 
 -- lines of words as a text
 abbrev pub text_of : List (List (List ℕ)) → List ℕ
-text_of lines = flat_map line_of lines
+text_of lines = flat_map written_line lines
 
 -- some words, of which the first does not make the line a comment
 abbrev pub is_line : List (List ℕ) → Bool

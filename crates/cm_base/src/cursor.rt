@@ -7,7 +7,8 @@ ghost use Rattle.cm_base.specs.LineView.{line_view};
 ghost use Rattle.cm_base.specs.Parts.{begins};
 
 use crate::lines::Line;
-use crate::splitting::{Found, begins_raw, count_lines, find_line, line_of_words};
+use crate::parts::begins;
+use crate::splitting::{Found, count_lines, find_line, line_of_words};
 use crate::transfer::NoMemory;
 use std::alloc::{AllocError, Global};
 use std::marker::Model;
@@ -89,40 +90,27 @@ impl<'a> Lines<'a> {
         cursor
     }
 
-    /// The first lines, so many at most, with their words.
-    pub fn through(&self, alloc: Global, count: usize) -> Result<Vec<Line<'a>>, AllocError>
-        ensures { IfOk result (λ list. map line_view list.items ≡ take count self.now.list) }
+    /// The lines up to the first whose first word is this one, with that line and their words, and its
+    /// place, or how many lines there are where none begins so.
+    pub fn through(&self, alloc: Global, key: &[u8]) -> Result<(Vec<Line<'a>>, usize), AllocError>
+        ensures place { IfOk result (λ r. r.1 ≡ position_or_len (begins key.now) self.now.list) }
+        ensures within { IfOk result (λ r. r.1 ≤ length self.now.list) }
+        ensures lines { IfOk result (λ r. map line_view r.0.items ≡ take (r.1 + 1) self.now.list) }
     {
         let mut list = Vec::new(alloc);
         let mut cursor = self.all();
-        for _ in 0..count {
+        loop {
+            let place = list.len();
             let mut line = Line::empty(alloc);
             if !cursor.next(alloc, &mut line)? {
-                return Ok(list);
+                return Ok((list, place));
             }
+            let is_last = begins(key, &line);
             list.push(line)?;
-        }
-        Ok(list)
-    }
-
-    /// The place of the first line whose first word is this one, or how many lines there are.
-    pub fn place_of(&self, key: &[u8]) -> usize
-        ensures place { result ≡ position_or_len (begins key.now) self.now.list }
-        ensures within { result ≤ length self.now.list }
-        ensures few { result < 2 ^ 32 }
-    {
-        let mut place = 0usize;
-        let mut number = self.number;
-        let mut rest = self.text;
-        while let Some(found) = find_line(number, rest) {
-            if begins_raw(key, found.raw) {
-                return place;
+            if is_last {
+                return Ok((list, place));
             }
-            place += 1;
-            number = found.number + 1;
-            rest = found.rest;
         }
-        place
     }
 
     // All the lines.

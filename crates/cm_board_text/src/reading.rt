@@ -190,8 +190,7 @@ pub fn read_board(alloc: Global, lines: &Lines<'_>) -> Result<(BoardDesc, usize)
     ensures value { Gives (λ r. (r.0, r.1)) result (board_of lines.now.end lines.now.list) }
     ensures within { IfOk result (λ r. r.1 ≤ length lines.now.list) }
 {
-    let place = lines.place_of(b"signals");
-    let list = lines.through(alloc, place + 1)?;
+    let (list, place) = lines.through(alloc, b"signals")?;
     read_part(alloc, &list, lines.end(), place)
 }
 

@@ -18,7 +18,8 @@ fn starts_session(alloc: Global, bytes: &[u8]) -> Result<bool, NoMemory>
     ensures { IfOk result (λ starts. starts ≡ starts_session bytes.now) }
 {
     let lines = split_lines(alloc, bytes)?;
-    let mut rest = lines.from(lines.place_of(b"session"));
+    let (_, place) = lines.through(alloc, b"session")?;
+    let mut rest = lines.from(place);
     Ok(rest.skip())
 }
 

@@ -10,6 +10,6 @@ pub returns : goal.returns
 returns c =
     let lines = c.in_ok-lines.lines.list in
     c.skip.ensures.more
-    ∙ ap (λ (ls : List LineText). not (length ls == 0)) (c.from-rest.ensures ∙ ap (λ (n : ℕ). drop n lines) c.place_of.ensures.place)
+    ∙ ap (λ (ls : List LineText). not (length ls == 0)) (c.from-rest.ensures ∙ ap (λ (n : ℕ). drop n lines) c.in_ok-place.ensures.place)
     ∙ some_from (begins (codes "session")) lines
     ∙ ap (λ (ls : List LineText). list_any (begins (codes "session")) ls) c.in_ok-lines.ensures.list
