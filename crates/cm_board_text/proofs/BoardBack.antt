@@ -13,7 +13,7 @@ use Rattle.cm_base.specs.Lines.{LineText, is_comment, is_line_feed, is_not_empty
 use Rattle.cm_base.specs.Parts.{begins_words, fixed}
 use Rattle.cm_base.specs.Reading.{◌>>=◌, at_line}
 use Rattle.cm_base.specs.Words.{limited}
-use Rattle.cm_base.specs.WrittenLines.{is_line, line_of, numbered, text_of}
+use Rattle.cm_base.specs.WrittenLines.{is_line, written_line, numbered, text_of}
 use Rattle.cm_base.specs.declared.faults.Fault.TheVariants as faults
 use Rattle.cm_base.proofs.Bools.{and_true, both, not_true}
 use Rattle.cm_base.proofs.NumbersBack.{number_in-decimal, word-decimal}
@@ -202,11 +202,11 @@ subs_fit version subs v h = λ k d below. record { sound = h k d below; has_vers
 subs_text : (subs : List SubText) → flat_map block_text subs ≡ text_of (flat_map sub_lines subs)
 subs_text [] = refl
 subs_text (s ∷ subs) =
-    ap₂ (λ (x y : List ℕ). (line_of (head_line s) ++ x) ++ y) (sym (flat_map-map line_of (item_words board_table) s.block)) (subs_text subs)
-    ∙ sym (flat_map-append line_of (sub_lines s) (flat_map sub_lines subs))
+    ap₂ (λ (x y : List ℕ). (written_line (head_line s) ++ x) ++ y) (sym (flat_map-map written_line (item_words board_table) s.block)) (subs_text subs)
+    ∙ sym (flat_map-append written_line (sub_lines s) (flat_map sub_lines subs))
 
 board_text_lines : (b : BoardText) → printed_board b ≡ text_of (board_lines b)
-board_text_lines b = ap (λ (x : List ℕ). line_of (version_line b.version) ++ (line_of (name_line b.name) ++ x)) (subs_text b.subs)
+board_text_lines b = ap (λ (x : List ℕ). written_line (version_line b.version) ++ (written_line (name_line b.name) ++ x)) (subs_text b.subs)
 
 -- no line before the end begins with `signals`
 

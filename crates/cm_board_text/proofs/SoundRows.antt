@@ -117,8 +117,8 @@ abbrev pub is_range : Range → Bool
 is_range r = fits_range r && int_lt r.min r.max
 
 -- a line of these values
-abbrev pub line_of : ℕ → List Value → ItemText
-line_of at vs = record { row = 0; form = at; values = vs }
+abbrev pub item_of : ℕ → List Value → ItemText
+item_of at vs = record { row = 0; form = at; values = vs }
 
 -- no form of a row but the one at a place, where the forms are counted from `n`
 abbrev pub is_only : ℕ → ℕ → ℕ → List FormText → Bool
@@ -190,7 +190,7 @@ unit_fits n = le-leb (min 2 n) 2 (omega arith)
 
 pub range_kept : (head : Head) (items : List ItemText) → AreGood head items → list_all (λ item. is_range (range_said 0 item)) (of_row lines.RANGE items) ≡ true
 range_kept head items h =
-    row_keeps head lines.RANGE lines.RANGE (λ at vs. is_range (range_said 0 (line_of at vs))) (own_lands lines.RANGE (omega arith)) (
+    row_keeps head lines.RANGE lines.RANGE (λ at vs. is_range (range_said 0 (item_of at vs))) (own_lands lines.RANGE (omega arith)) (
       λ vs stands k.
           let b = both _ (keeps_rule rules_of.Below vs) k in
           let f : FormText = form_at lines.RANGE_FORM board_forms in
@@ -209,7 +209,7 @@ trigger n h = let below = ltb-true n 5 h in omega (arith, below)
 
 pub forbid_kept : (head : Head) (items : List ItemText) → AreGood head items → list_all (λ item. is_pair (forbid_said item)) (of_row lines.FORBID items) ≡ true
 forbid_kept head items h =
-    row_keeps head lines.FORBID lines.FORBID (λ at vs. is_pair (forbid_said (line_of at vs))) (own_lands lines.FORBID (omega arith)) (
+    row_keeps head lines.FORBID lines.FORBID (λ at vs. is_pair (forbid_said (item_of at vs))) (own_lands lines.FORBID (omega arith)) (
       λ vs stands k.
           let b = both _ (keeps_rule rules_of.Apart vs) k in
           let f : FormText = form_at lines.FORBID_FORM board_forms in
@@ -224,7 +224,7 @@ forbid_kept head items h =
 
 pub fifo_kept : (head : Head) (items : List ItemText) → AreGood head items → list_all (λ item. is_fifo (fifo_said item)) (of_row lines.FIFO items) ≡ true
 fifo_kept head items h =
-    row_keeps head lines.FIFO lines.FIFO (λ at vs. is_fifo (fifo_said (line_of at vs))) (own_lands lines.FIFO (omega arith)) (
+    row_keeps head lines.FIFO lines.FIFO (λ at vs. is_fifo (fifo_said (item_of at vs))) (own_lands lines.FIFO (omega arith)) (
       λ vs stands k.
           let b = both _ (keeps_rule rules_of.Even vs) k in
           let f : FormText = form_at lines.FIFO_FORM board_forms in
@@ -300,7 +300,7 @@ chan_bits_kept head chan items h =
 pub chan_range_kept : (head : Head) (chan : ℕ) (items : List ItemText) → AreGood head items →
     list_all (λ item. is_range (range_said 1 item)) (of_row (channel_place chan lines.CHAN_RANGE) items) ≡ true
 chan_range_kept head chan items h =
-    row_keeps head (channel_place chan lines.CHAN_RANGE) lines.CHAN_RANGE (λ at vs. is_range (range_said 1 (line_of at vs)))
+    row_keeps head (channel_place chan lines.CHAN_RANGE) lines.CHAN_RANGE (λ at vs. is_range (range_said 1 (item_of at vs)))
     (chan_lands chan lines.CHAN_RANGE (omega arith)) (
       λ vs stands k.
           let b = both _ (keeps_rule rules_of.Below vs) k in

@@ -2,7 +2,7 @@
 use Rattle.std.specs.Prelude.{ℕ, zero, suc, if◌then◌else◌, List, [], ◌∷◌, ◌++◌, map, flat_map, codes, decimal}
 use Rattle.std.specs.Fmt.{signed_decimal}
 use Rattle.cm_base.specs.SourceText.{source_text}
-use Rattle.cm_base.specs.WrittenLines.{line_of}
+use Rattle.cm_base.specs.WrittenLines.{written_line}
 use Rattle.cm_board.specs.Board.{BoardText, SubText, is_wide}
 use Rattle.cm_board.specs.BoardTable.{board_table}
 use Rattle.cm_board.specs.Items.{ItemText}
@@ -50,7 +50,7 @@ item_words t item = words_text (form_at item.form t.forms).words item.values
 
 -- lines as text
 abbrev pub items_text : TableText → List ItemText → List ℕ
-items_text t items = flat_map (λ item. line_of (item_words t item)) items
+items_text t items = flat_map (λ item. written_line (item_words t item)) items
 
 -- the name of a subdevice's kind
 abbrev pub kind_text : Kind → List ℕ
@@ -67,7 +67,7 @@ head_line s = codes "subdevice" ∷ kind_text s.kind ∷ decimal s.channels ∷ 
 
 -- the printed block of a subdevice
 abbrev pub block_text : SubText → List ℕ
-block_text s = line_of (head_line s) ++ items_text board_table s.block
+block_text s = written_line (head_line s) ++ items_text board_table s.block
 
 -- the line of the version; the third is the first of the wider texts
 abbrev pub version_line : ℕ → List (List ℕ)
@@ -80,7 +80,8 @@ name_line name = codes "board" ∷ name ∷ []
 
 -- a board as it is printed
 abbrev pub printed_board : BoardText → List ℕ
-printed_board b = line_of (version_line b.version) ++ (line_of (name_line b.name) ++ flat_map block_text b.subs)
+printed_board b =
+    written_line (version_line b.version) ++ (written_line (name_line b.name) ++ flat_map block_text b.subs)
 
 -- the lines of a block, and of a board part
 abbrev pub sub_lines : SubText → List (List (List ℕ))

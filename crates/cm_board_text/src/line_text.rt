@@ -1,6 +1,6 @@
 // The lines of a block, written as text.
 ghost use Rattle.std.specs.Prelude.{◌≡◌, ◌++◌, ◌∷◌, OnOk, flat_map, map};
-ghost use Rattle.cm_base.specs.WrittenLines.{line_of};
+ghost use Rattle.cm_base.specs.WrittenLines.{written_line};
 ghost use Rattle.cm_board_text.specs.Printed.{item_words, items_text, name_at, name_text, number_text, value_text, words_text};
 ghost use Rattle.cm_board.specs.Table.{form_at, form_text, table_text, word_text};
 
@@ -79,7 +79,7 @@ fn put_words(out: &mut Vec<u8>, kinds: &[Word], values: &[Value]) -> Result<(), 
 // A fixed word and the words after it.
 #[tactic(auto, using(crate::proofs::Written::written))]
 fn put_key(out: &mut Vec<u8>, key: &[u8], kinds: &[Word], values: &[Value]) -> Result<(), NoMemory>
-    ensures { OnOk result (out.new.items ≡ out.old.items ++ line_of (key.now ∷ words_text (map word_text kinds.now) values.now)) }
+    ensures { OnOk result (out.new.items ≡ out.old.items ++ written_line (key.now ∷ words_text (map word_text kinds.now) values.now)) }
 {
     out.extend_from_slice(key)?;
     put_words(out, kinds, values)?;
@@ -95,7 +95,7 @@ fn put_said(
     kinds: &[Word],
     values: &[Value],
 ) -> Result<(), NoMemory>
-    ensures { OnOk result (out.new.items ≡ out.old.items ++ line_of (value_text (word_text kind.now) value.now ∷ words_text (map word_text kinds.now) values.now)) }
+    ensures { OnOk result (out.new.items ≡ out.old.items ++ written_line (value_text (word_text kind.now) value.now ∷ words_text (map word_text kinds.now) values.now)) }
 {
     put_value(out, kind, value)?;
     put_words(out, kinds, values)?;
@@ -104,7 +104,7 @@ fn put_said(
 
 // One line of a form.
 fn put_line(out: &mut Vec<u8>, kinds: &[Word], values: &[Value]) -> Result<(), NoMemory>
-    ensures { OnOk result (out.new.items ≡ out.old.items ++ line_of (words_text (map word_text kinds.now) values.now)) }
+    ensures { OnOk result (out.new.items ≡ out.old.items ++ written_line (words_text (map word_text kinds.now) values.now)) }
 {
     match kinds {
         [] => Ok(out.push(b'\n')?),
@@ -136,7 +136,7 @@ fn form_at(forms: &[Form], at: usize) -> Form
 
 // One line.
 fn put_item(out: &mut Vec<u8>, table: &Table, item: &Item) -> Result<(), NoMemory>
-    ensures { OnOk result (out.new.items ≡ out.old.items ++ line_of (item_words (table_text table.now) item.now)) }
+    ensures { OnOk result (out.new.items ≡ out.old.items ++ written_line (item_words (table_text table.now) item.now)) }
 {
     let form = form_at(table.forms, item.form);
     put_line(out, form.words, item.values.as_slice())

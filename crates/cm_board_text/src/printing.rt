@@ -1,7 +1,7 @@
 // A board, written as text.
 ghost use Rattle.std.specs.Prelude.{◌≡◌, ◌++◌, ◌∷◌, [], codes, flat_map, IfOk, OnOk, decimal};
 ghost use Rattle.std.specs.List.{All};
-ghost use Rattle.cm_base.specs.WrittenLines.{line_of};
+ghost use Rattle.cm_base.specs.WrittenLines.{written_line};
 ghost use Rattle.cm_board.specs.Board.{IsSoundSub};
 ghost use Rattle.cm_board_text.specs.PrintedReads.{ReadsAs};
 ghost use Rattle.cm_board_text.specs.Printed.{block_text, kind_text, name_line, printed_board, version_line};
@@ -29,7 +29,7 @@ pub fn print_board(alloc: Global, board: &BoardDesc) -> Result<Vec<u8>, NoMemory
 
 // The line of the version; the third is the first of the wider texts.
 fn put_version(out: &mut Vec<u8>, version: u32) -> Result<(), NoMemory>
-    ensures { OnOk result (out.new.items ≡ out.old.items ++ line_of (version_line version)) }
+    ensures { OnOk result (out.new.items ≡ out.old.items ++ written_line (version_line version)) }
 {
     if is_wide(version) {
         put_one(out, b"zendrouz", 1)
@@ -40,7 +40,7 @@ fn put_version(out: &mut Vec<u8>, version: u32) -> Result<(), NoMemory>
 
 // The line of the board's name.
 fn put_name(out: &mut Vec<u8>, name: &[u8]) -> Result<(), NoMemory>
-    ensures { OnOk result (out.new.items ≡ out.old.items ++ line_of (name_line name.now)) }
+    ensures { OnOk result (out.new.items ≡ out.old.items ++ written_line (name_line name.now)) }
 {
     out.extend_from_slice(b"board ")?;
     out.extend_from_slice(name)?;
@@ -69,7 +69,7 @@ fn put_sub(out: &mut Vec<u8>, sub: &Sub) -> Result<(), NoMemory>
 
 // The first line of a block.
 fn put_head(out: &mut Vec<u8>, kind: Kind, channels: u32) -> Result<(), NoMemory>
-    ensures { OnOk result (out.new.items ≡ out.old.items ++ line_of (codes "subdevice" ∷ kind_text kind ∷ decimal channels ∷ [])) }
+    ensures { OnOk result (out.new.items ≡ out.old.items ++ written_line (codes "subdevice" ∷ kind_text kind ∷ decimal channels ∷ [])) }
 {
     out.extend_from_slice(b"subdevice ")?;
     put_kind(out, kind)?;
@@ -80,7 +80,7 @@ fn put_head(out: &mut Vec<u8>, kind: Kind, channels: u32) -> Result<(), NoMemory
 
 // A key and a number.
 fn put_one(out: &mut Vec<u8>, key: &[u8], number: u32) -> Result<(), NoMemory>
-    ensures { OnOk result (out.new.items ≡ out.old.items ++ line_of (key.now ∷ decimal number ∷ [])) }
+    ensures { OnOk result (out.new.items ≡ out.old.items ++ written_line (key.now ∷ decimal number ∷ [])) }
 {
     out.extend_from_slice(key)?;
     out.push(b' ')?;

@@ -12,8 +12,8 @@ use Rattle.cm_text.specs.Outputs.{output_text, output_texts}
 use Rattle.cm_text.specs.Blocks.{outputs_of}
 
 -- the line of a word that is put out at a conversion
-abbrev pub line_of : ℕ → Conv → ℕ → List ℕ
-line_of sub conv word = output_text (record { sub = sub; time = conv.time; index = conv.list_index; word = word })
+abbrev pub output_line : ℕ → Conv → ℕ → List ℕ
+output_line sub conv word = output_text (record { sub = sub; time = conv.time; index = conv.list_index; word = word })
 
 abbrev pub outs_of : ℕ → List Conv → List ℕ → List ℕ
 outs_of sub convs words = output_texts (outputs_of sub convs words)
@@ -29,11 +29,11 @@ outs_none sub [] = refl
 outs_none sub (c ∷ cs) = refl
 
 outs_more : (sub : ℕ) (items : List Conv) (words out : List ℕ) (k i : ℕ) (c : Conv) (d : ℕ) → k < length items → i < length words → get_or items k c ≡ c
-    → out ++ outs_of sub (drop k items) (drop i words) ≡ (out ++ line_of sub c (get_or words i d)) ++ outs_of sub (drop (k + 1) items) (drop (i + 1) words)
+    → out ++ outs_of sub (drop k items) (drop i words) ≡ (out ++ output_line sub c (get_or words i d)) ++ outs_of sub (drop (k + 1) items) (drop (i + 1) words)
 outs_more sub items words out k i c d within room here =
     ap (λ (l : List Conv). out ++ outs_of sub l (drop i words)) (drop_more items k c within ∙ ap (λ (x : Conv). x ∷ drop (k + 1) items) here)
     ∙ ap (λ (l : List ℕ). out ++ outs_of sub (c ∷ drop (k + 1) items) l) (drop_more words i d room)
-    ∙ sym (append_assoc out (line_of sub c (get_or words i d)) (outs_of sub (drop (k + 1) items) (drop (i + 1) words)))
+    ∙ sym (append_assoc out (output_line sub c (get_or words i d)) (outs_of sub (drop (k + 1) items) (drop (i + 1) words)))
 
 -- after the last conversion
 pub ends_items : (sub : ℕ) (b : BoardState) (words out all : List ℕ) (i : ℕ) (o : Option Conv) → o ≡ slice_get (items_of b.plan) b.place → o ≡ None
@@ -49,11 +49,11 @@ ends_words sub items words out all i past rest =
 
 -- a conversion with a word
 pub goes_on : (sub : ℕ) (b new : BoardState) (words out all : List ℕ) (i d : ℕ) (o : Option Conv) (c : Conv) → o ≡ slice_get (items_of b.plan) b.place → o ≡ Some c → new ≡ record b { place = b.place + 1 } → i < length words
-    → out ++ outs_of sub (left_of b) (drop i words) ≡ all → (out ++ line_of sub c (get_or words i d)) ++ outs_of sub (left_of new) (drop (i + 1) words) ≡ all
+    → out ++ outs_of sub (left_of b) (drop i words) ≡ all → (out ++ output_line sub c (get_or words i d)) ++ outs_of sub (left_of new) (drop (i + 1) words) ≡ all
 goes_on sub b new words out all i d o c next some after room rest =
     let items : List Conv = items_of b.plan in
     let here : slice_get items b.place ≡ Some c = sym next ∙ some in
-    ap (λ (x : BoardState). (out ++ line_of sub c (get_or words i d)) ++ outs_of sub (left_of x) (drop (i + 1) words)) after
+    ap (λ (x : BoardState). (out ++ output_line sub c (get_or words i d)) ++ outs_of sub (left_of x) (drop (i + 1) words)) after
     ∙ (sym (outs_more sub items words out b.place i c d (slice_get_within items b.place c here) room (get_or_from_slice_get items b.place c c here)) ∙ rest)
 
 -- no words, no lines
@@ -65,7 +65,7 @@ pub outs_append : (sub : ℕ) (items : List Conv) (first rest : List ℕ) → ou
 outs_append sub items [] rest = ap (λ (l : List ℕ). l ++ outs_of sub items rest) (sym (outs_none sub items))
 outs_append sub [] (w ∷ first) rest = refl
 outs_append sub (c ∷ items) (w ∷ first) rest =
-    ap (λ (l : List ℕ). line_of sub c w ++ l) (outs_append sub items first rest) ∙ sym (append_assoc (line_of sub c w) (outs_of sub items first) (outs_of sub (drop (length first) items) rest))
+    ap (λ (l : List ℕ). output_line sub c w ++ l) (outs_append sub items first rest) ∙ sym (append_assoc (output_line sub c w) (outs_of sub items first) (outs_of sub (drop (length first) items) rest))
 
 -- what a board has left that has passed so many conversions
 pub left_after : (b : BoardState) (p : PlanText) (count : ℕ) → b.plan ≡ p → b.place ≡ min count (length (items_of p)) → left_of b ≡ drop count (items_of p)

@@ -1,7 +1,7 @@
 use Rattle.std.proofs.Common.{◌≡◌, ℕ, List, [], ◌++◌, rules, flat_map, ap, ◌∙◌, subst}
 use Rattle.std.specs.List.{All}
 use Rattle.cm_base.specs.Lines.{lines_of}
-use Rattle.cm_base.specs.WrittenLines.{line_of}
+use Rattle.cm_base.specs.WrittenLines.{written_line}
 use Rattle.cm_board.specs.Board.{BoardText, IsSoundSub, IsSoundBoard, SubText}
 use Rattle.cm_board_text.specs.BoardPart.{board_of}
 use Rattle.cm_board_text.specs.Printed.{block_text, name_line, printed_board, version_line}
@@ -14,10 +14,10 @@ returns-clause-text c =
     let board : BoardText = c.args.board.now in
     let first : List ℕ = c.put_version.new.out.items in
     let second : List ℕ = c.put_name.new.out.items in
-    let name = ap (λ (n : List ℕ). first ++ line_of (name_line n)) (c.deref.ensures.value ∙ ap (λ (b : BoardText). b.name) c.board.view_is) in
+    let name = ap (λ (n : List ℕ). first ++ written_line (name_line n)) (c.deref.ensures.value ∙ ap (λ (b : BoardText). b.name) c.board.view_is) in
     let subs = ap (λ (s : List SubText). second ++ flat_map block_text s) (c.deref-2.ensures.value ∙ ap (λ (b : BoardText). b.subs) c.board.view_is) in
-    three_pieces [] (line_of (version_line board.version)) (line_of (name_line board.name)) (flat_map block_text board.subs) first second c.put_subs.new.out.items
-    (c.in_ok-put_version.ensures ∙ ap (λ (items : List ℕ). items ++ line_of (version_line c.board.inside.version)) c.new-out.ensures.items ∙ ap (λ (b : BoardText). line_of (version_line b.version)) c.board.view_is)
+    three_pieces [] (written_line (version_line board.version)) (written_line (name_line board.name)) (flat_map block_text board.subs) first second c.put_subs.new.out.items
+    (c.in_ok-put_version.ensures ∙ ap (λ (items : List ℕ). items ++ written_line (version_line c.board.inside.version)) c.new-out.ensures.items ∙ ap (λ (b : BoardText). written_line (version_line b.version)) c.board.view_is)
     (c.in_ok-put_name.ensures ∙ name)
     (c.in_ok-put_subs.ensures.text ∙ subs)
 
