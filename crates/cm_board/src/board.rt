@@ -7,7 +7,7 @@ use cm_base::lists::Nums;
 use std::marker::Model;
 
 /// What a subdevice is (Comedi: `COMEDI_SUBD_*`).
-#[derive(Clone, Copy, Debug, PartialEq, Eq)]
+#[derive(Clone, Copy)]
 pub enum Kind {
     /// No subdevice. It has no channels and takes no commands.
     Unused,
@@ -25,7 +25,7 @@ pub enum Kind {
 
 /// The levels that a channel can measure or put out, in micro-units. The unit is 0 for volt, 1 for
 /// mA and 2 for none (Comedi: `comedi_krange`).
-#[derive(Clone, Copy, Debug, PartialEq, Eq)]
+#[derive(Clone, Copy)]
 pub struct Range {
     pub min: i32,
     pub max: i32,
@@ -34,7 +34,7 @@ pub struct Range {
 
 /// Two sources that may not stand together, each at the number of its trigger: start 0,
 /// scan_begin 1, convert 2, scan_end 3, stop 4.
-#[derive(Clone, Copy, Debug, PartialEq, Eq)]
+#[derive(Clone, Copy)]
 pub struct Forbid {
     pub field: u8,
     pub src: u32,
@@ -65,7 +65,7 @@ impl Model for ChanSet {
 }
 
 /// How the channels of a list follow each other.
-#[derive(Clone, Copy, Debug, PartialEq, Eq)]
+#[derive(Clone, Copy)]
 pub enum Order {
     /// Each is the one after the channel before, and channel 0 comes after the last of the subdevice.
     Consecutive,
@@ -80,7 +80,7 @@ pub enum Order {
 }
 
 /// The order of the channels in a list.
-#[derive(Clone, Copy, Debug, PartialEq, Eq)]
+#[derive(Clone, Copy)]
 pub struct ListOrder {
     pub order: Order,
     /// Whether the list may be entries in this order, and then these same entries over and over.
@@ -88,7 +88,7 @@ pub struct ListOrder {
 }
 
 /// What all entries of a channel list keep together.
-#[derive(Clone, Copy, Debug, PartialEq, Eq)]
+#[derive(Clone, Copy)]
 pub struct ListRules {
     /// Whether they have ranges of one number.
     pub same_range: bool,
@@ -101,7 +101,7 @@ pub struct ListRules {
 }
 
 /// A way to round a time to the tick.
-#[derive(Clone, Copy, Debug, PartialEq, Eq)]
+#[derive(Clone, Copy)]
 pub enum Way {
     Nearest,
     Down,
@@ -109,7 +109,7 @@ pub enum Way {
 }
 
 /// How a board rounds times.
-#[derive(Clone, Copy, Debug, PartialEq, Eq)]
+#[derive(Clone, Copy)]
 pub struct Rounding {
     /// Its own way, whatever a command's flags say, where it has one.
     pub own: Option<Way>,
@@ -118,7 +118,7 @@ pub struct Rounding {
 }
 
 /// What a timed scan holds at least.
-#[derive(Clone, Copy, Debug, PartialEq, Eq)]
+#[derive(Clone, Copy)]
 pub struct LeastScan {
     /// So many nanoseconds for each entry of the list, whatever its conversions follow; or 0.
     pub per_entry: u32,
@@ -157,7 +157,7 @@ impl Model for Timers {
 }
 
 /// A FIFO between a board's converter and its buffer.
-#[derive(Clone, Copy, Debug, PartialEq, Eq)]
+#[derive(Clone, Copy)]
 pub struct Fifo {
     /// How many samples it holds: 2 to 4,096, and even. It asks to be emptied when it is half full.
     pub depth: u32,

@@ -6,7 +6,7 @@ use crate::lines::{CHAN_MUNGE, MUNGE};
 use crate::table::{Form, Limits, Rule, Word};
 
 /// How a word of the buffer stands for a code (Comedi: a driver's `munge`).
-#[derive(Clone, Copy, Debug, PartialEq, Eq)]
+#[derive(Clone, Copy)]
 pub enum Munge {
     /// The word is the code.
     Plain,

@@ -10,7 +10,7 @@ use std::alloc::{AllocError, Global};
 /// The first line of a block: the subdevice's kind, and its channels, 1 to 64 and in the wider texts
 /// to 256, or 0 where it is unused. The version is that of the board, on which it depends what the
 /// block's lines may say.
-#[derive(Clone, Copy, Debug, PartialEq, Eq)]
+#[derive(Clone, Copy)]
 pub struct Head {
     pub version: u32,
     pub kind: Kind,
@@ -18,7 +18,7 @@ pub struct Head {
 }
 
 /// A number from `least` to `most`, and in the wider texts to `wide`, which isn't below `most`.
-#[derive(Clone, Copy, Debug, PartialEq, Eq)]
+#[derive(Clone, Copy)]
 pub struct Limits {
     pub least: u32,
     pub most: u32,
@@ -26,7 +26,7 @@ pub struct Limits {
 }
 
 /// The sources that a word may have, as bits: on boards of version 1, of version 2, and of wider texts.
-#[derive(Clone, Copy, Debug, PartialEq, Eq)]
+#[derive(Clone, Copy)]
 pub struct Sets {
     pub first: u32,
     pub second: u32,
@@ -99,7 +99,7 @@ impl Default for Value {
 }
 
 /// What the values of a line keep together.
-#[derive(Clone, Copy, Debug, PartialEq, Eq)]
+#[derive(Clone, Copy)]
 pub enum Rule {
     Free,
     /// The first number isn't above the second.
@@ -115,7 +115,7 @@ pub enum Rule {
 }
 
 /// The blocks in which a line may stand.
-#[derive(Clone, Copy, Debug, PartialEq, Eq)]
+#[derive(Clone, Copy)]
 pub enum Place {
     /// Each subdevice that is in use.
     Any,
@@ -126,7 +126,7 @@ pub enum Place {
 }
 
 /// What holds where a block has no such line.
-#[derive(Clone, Copy, Debug, PartialEq, Eq)]
+#[derive(Clone, Copy)]
 pub enum Absent {
     /// The block is refused.
     Missing,
@@ -150,7 +150,7 @@ pub struct Form {
 }
 
 /// What holds of a line however it is written.
-#[derive(Clone, Copy, Debug, PartialEq, Eq)]
+#[derive(Clone, Copy)]
 pub struct Row {
     /// How many such lines a block may have, or each channel of it.
     pub most: u32,

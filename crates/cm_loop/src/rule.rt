@@ -2,7 +2,7 @@
 use std::marker::Model;
 
 /// The greatest codes of one list entry's channels.
-#[derive(Clone, Copy, Debug, PartialEq, Eq, Drop)]
+#[derive(Clone, Copy, Drop)]
 pub struct LoopItem {
     /// The greatest code of the input's channel.
     pub in_max: u32,

@@ -8,7 +8,7 @@ use cm_board::munge::{Munge, munged, unmunged};
 use std::marker::Model;
 
 /// The munge and the greatest code of one list entry's channel.
-#[derive(Clone, Copy, Debug, PartialEq, Eq, Drop)]
+#[derive(Clone, Copy, Drop)]
 pub struct MungeItem {
     pub kind: Munge,
     /// The greatest code.

@@ -9,7 +9,7 @@ use cm_board::board::Sub;
 use cm_cmd::command::{Cmd, Trig};
 
 /// The least and the greatest value of a trigger's argument.
-#[derive(Clone, Copy, Debug, PartialEq, Eq)]
+#[derive(Clone, Copy)]
 pub struct ArgLimits {
     pub low: u32,
     pub high: u32,
