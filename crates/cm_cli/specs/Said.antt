@@ -15,12 +15,12 @@ use Rattle.cm_job.specs.LoopPart.{loop_of}
 use Rattle.cm_job.specs.RunPart.{run_of, watch_of}
 use Rattle.cm_job.specs.TestLines.{tests_of}
 use Rattle.cm_job.specs.declared.line.RunLine.{RunLine}
-use Rattle.cm_job.specs.RunText.{IsRunText, run_text}
+use Rattle.cm_block.specs.RunText.{IsRunText, run_text}
 use Rattle.cm_loop.specs.LoopText.{loop_text}
 use Rattle.cm_replay.specs.Job.{JobText, setting_of}
 use Rattle.cm_replay.specs.Texts.{replay_text}
 use Rattle.cm_run.specs.Soak.{soak_text}
-use Rattle.cm_job.specs.ExpandSession.{expands_text}
+use Rattle.cm_block.specs.ExpandSession.{expands_text}
 use Rattle.cm_cli.specs.TestSession.{tests_text}
 use Rattle.cm_cli.specs.declared.command.Command.{Command}
 use Rattle.cm_cli.specs.declared.command.Command.TheVariants as commands

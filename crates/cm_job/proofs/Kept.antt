@@ -24,7 +24,7 @@ use Rattle.cm_job.specs.Calls.{CanCall, cmd_of, plan_of}
 use Rattle.cm_job.specs.Forms.{access_of, asked_of, drive_head, drive_line, go_head, go_line, keyed, line_key, mode_of, numbers_of, take_of}
 use Rattle.cm_job.specs.Head.{before_commands, word_at}
 use Rattle.cm_job.specs.RunLines.{AreRunLines, CanRun, HasLimits}
-use Rattle.cm_job.specs.RunPart.{accepted, are_codes, directed, directed_sub, drive_of, is_directed, line_after, line_of, next_line, taken_line, values_of}
+use Rattle.cm_job.specs.RunPart.{accepted, are_codes, directed, directed_sub, drive_of, is_directed, line_after, next_line, run_line, taken_line, values_of}
 use Rattle.cm_job.specs.Sessions.{takes}
 use Rattle.cm_job.specs.declared.asked.AskedLine.{AskedLine}
 use Rattle.cm_job.specs.declared.asked.AskedLine.TheVariants as asks
@@ -129,7 +129,7 @@ abbrev pub IsCalled : BoardText → SignalsText → RunLine → Type 0
 IsCalled board signals line = CanCall board signals line × HasLimits (sub_at board (cmd_of line).sub) line
 
 go-called : (board : BoardText) (signals : SignalsText) (mode : Mode) (access : Access) (t0 : ℕ) (most : Option ℕ) (cmd : CmdText) (line : RunLine) → (t0 ≤ signals.horizon) × IsTake most →
-    line_of board (asks.Go mode access t0 most cmd) ≡ Ok line → IsCalled board signals line
+    run_line board (asks.Go mode access t0 most cmd) ≡ Ok line → IsCalled board signals line
 go-called board signals mode access t0 most cmd line asked e =
     let a = then-from (accepted board false cmd) (λ next. Ok (Go mode access t0 most next)) line e in
     let f = accepted-from board false cmd a.0 a.1 in
@@ -154,19 +154,19 @@ drive-called board signals t0 numbers cmd line asked e =
       (subst (λ (s : SubText). is_output s.kind ≡ true) (sym f.there) f.directed, asked.1, few, codes),
     )
 
-line-called : (board : BoardText) (signals : SignalsText) (asked : AskedLine) (line : RunLine) → IsAsked signals.horizon asked → line_of board asked ≡ Ok line → IsCalled board signals line
+line-called : (board : BoardText) (signals : SignalsText) (asked : AskedLine) (line : RunLine) → IsAsked signals.horizon asked → run_line board asked ≡ Ok line → IsCalled board signals line
 line-called board signals (asks.Go mode access t0 most cmd) line asked e = go-called board signals mode access t0 most cmd line asked e
 line-called board signals (asks.Drive t0 numbers cmd) line asked e = drive-called board signals t0 numbers cmd line asked e
 
 -- what a session takes
 pub record IsTaken (session : Session) (board : BoardText) (asked : AskedLine) (line : RunLine) : Type 0 where
   pub takes : takes session board asked ≡ true
-  pub said : line_of board asked ≡ Ok line
+  pub said : run_line board asked ≡ Ok line
 
 pub taken-from : (session : Session) (board : BoardText) (asked : AskedLine) (line : RunLine) → taken_line session board asked ≡ Ok line → IsTaken session board asked line
 taken-from session board asked line e = by (takes session board asked) refl e
   where
-    by : (b : Bool) → takes session board asked ≡ b → (if b then line_of board asked else Err Bad) ≡ Ok line → IsTaken session board asked line
+    by : (b : Bool) → takes session board asked ≡ b → (if b then run_line board asked else Err Bad) ≡ Ok line → IsTaken session board asked line
     by true is said = record { takes = is; said = said }
     by false is said = absurd (cc)
 

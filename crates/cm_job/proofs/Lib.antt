@@ -5,11 +5,9 @@ pub mod Rows
 pub mod Steps
 pub mod Watched
 pub mod LoopKept
+pub mod LoopLines
 pub mod Later
 pub mod LoopRules
 pub mod Sooner
 pub mod LoopWords
 pub mod ExpandLines
-pub mod Expansions
-pub mod Reported
-pub mod Wholes

@@ -22,7 +22,7 @@ use Rattle.cm_test.specs.Accepting.{sub_at}
 use Rattle.cm_expand.specs.Totals.{has_room, length_of, length_of_all}
 use Rattle.cm_job.specs.Forms.{asked_of}
 use Rattle.cm_job.specs.RunLines.{AreRunLines}
-use Rattle.cm_job.specs.RunPart.{accepted, line_after, line_of, next_line, taken_line, watch_of}
+use Rattle.cm_job.specs.RunPart.{accepted, line_after, next_line, run_line, taken_line, watch_of}
 use Rattle.cm_job.specs.Modes.{is_paced}
 use Rattle.cm_job.specs.Sessions.{holds_scan, is_watched}
 use Rattle.cm_job.specs.WatchLines.{AreWatchLines, IsWatched}
@@ -66,7 +66,7 @@ none-from (Some n) e = absurd (cc)
 
 -- a line that asks for what a watch takes is watched
 go-watched : (board : BoardText) (mode : Mode) (access : Access) (t0 : ℕ) (most : Option ℕ) (cmd : CmdText) (line : RunLine) → is_watched board (asks.Go mode access t0 most cmd) ≡ true →
-    line_of board (asks.Go mode access t0 most cmd) ≡ Ok line → IsWatched board line
+    run_line board (asks.Go mode access t0 most cmd) ≡ Ok line → IsWatched board line
 go-watched board mode access t0 most cmd line takes e =
     let a = then-from (accepted board false cmd) (λ next. Ok (Go mode access t0 most next)) line e in
     let f = accepted-from board false cmd a.0 a.1 in
@@ -81,7 +81,7 @@ go-watched board mode access t0 most cmd line takes e =
       leb-true (length cmd.list) (sub_at board cmd.sub).buffer held.1,
     )
 
-asked-watched : (board : BoardText) (asked : AskedLine) (line : RunLine) → is_watched board asked ≡ true → line_of board asked ≡ Ok line → IsWatched board line
+asked-watched : (board : BoardText) (asked : AskedLine) (line : RunLine) → is_watched board asked ≡ true → run_line board asked ≡ Ok line → IsWatched board line
 asked-watched board (asks.Go mode access t0 most cmd) line takes e = go-watched board mode access t0 most cmd line takes e
 asked-watched board (asks.Drive t0 numbers cmd) line takes e = absurd (cc)
 

@@ -36,8 +36,8 @@ abbrev pub accepted_line : BoardText → ℕ × CmdText → Result ExpandLine Fa
 accepted_line board w = accepted board w.1 >>= λ cmd. Ok (record { t0 = w.0; cmd = cmd })
 
 -- the line that a text says
-abbrev pub line_of : BoardText → SignalsText → LineText → Result ExpandLine Fault
-line_of board signals line = expand_words (bounds_of board signals) line >>= λ w. accepted_line board w
+abbrev pub expand_line : BoardText → SignalsText → LineText → Result ExpandLine Fault
+expand_line board signals line = expand_words (bounds_of board signals) line >>= λ w. accepted_line board w
 
 -- what a line calls, and when
 abbrev pub call_of : ExpandLine → calls.CallText
@@ -54,7 +54,7 @@ CanExpand board signals line = calls.CanCall board signals (call_of line)
 -- the line that a text says, where there is room for its conversions after those of other lines
 abbrev pub line_after : BoardText → SignalsText → List ExpandLine → LineText → Result ExpandLine Fault
 line_after board signals before line =
-    line_of board signals line >>= λ next.
+    expand_line board signals line >>= λ next.
     limited (has_room (length_of_all (plan_of board signals) before) (length_of (plan_of board signals next))) next
 
 -- the lines of a session

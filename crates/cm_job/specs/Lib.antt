@@ -14,10 +14,6 @@ pub mod Later
 pub mod LoopPart
 pub mod Pace
 pub mod Head
-pub mod Going
-pub mod Whole
-pub mod RunText
 pub mod TestLines
 pub mod ExpandLines
-pub mod ExpandSession
 pub mod Law

@@ -2,7 +2,7 @@
 use Rattle.std.specs.Prelude.{ℕ, Bool, true, false, not, ◌&&◌, ◌==◌, nat_le, List, [], ◌∷◌, length, Result, Ok, Err}
 use Rattle.std.specs.Prelude.{if◌then◌else◌}
 use Rattle.cm_base.specs.Lines.{LineText}
-use Rattle.cm_base.specs.Reading.{◌>>=◌, at_line}
+use Rattle.cm_base.specs.Reading.{◌>>=◌, at_line, read_each}
 use Rattle.cm_base.specs.declared.faults.Fault.{Fault}
 use Rattle.cm_base.specs.declared.faults.Fault.TheVariants.{Bad, Limit, Missing}
 use Rattle.cm_base.specs.declared.faults.Refused.{Refused}
@@ -53,12 +53,12 @@ called_of board a =
     Ok (record { t_in = a.t_in; t_out = a.t_out; window = a.window; input = input; output = output })
 
 -- such a line, where it keeps the rules
-abbrev pub line_of : BoardText → SignalsText → AskedLoop → Result LoopLine Fault
-line_of board signals a = called_of board a >>= λ line. ruled board signals line
+abbrev pub ruled_line : BoardText → SignalsText → AskedLoop → Result LoopLine Fault
+ruled_line board signals a = called_of board a >>= λ line. ruled board signals line
 
 -- the line that a text says
 abbrev pub loop_line : BoardText → SignalsText → LineText → Result LoopLine Fault
-loop_line board signals line = asked_of (bounds_of board signals) line >>= λ a. line_of board signals a
+loop_line board signals line = asked_of (bounds_of board signals) line >>= λ a. ruled_line board signals a
 
 -- a further line, which is refused where its words aren't
 abbrev pub further_line : Bounds → LineText → Result (Unit {0}) Fault
@@ -92,3 +92,17 @@ job_of board signals line = record {
 -- the job that lines say over a board and signals
 abbrev pub loop_of : BoardText → SignalsText → ℕ → List LineText → Result LoopJobText Refused
 loop_of board signals end lines = only_line board signals end lines >>= λ line. Ok (job_of board signals line)
+
+-- what a line says after those before it: the one line of the job, or a further one
+abbrev pub line_after : BoardText → SignalsText → List LoopLine → LineText → Result LoopLine Fault
+line_after board signals [] line = loop_line board signals line
+line_after board signals (one ∷ more) line = further_line (bounds_of board signals) line >>= λ none. Ok one
+
+-- the lines of a loop, read one after another
+abbrev pub lines_of : BoardText → SignalsText → List LineText → Result (List LoopLine) Refused
+lines_of board signals lines = read_each (line_after board signals) [] lines
+
+-- the job of these lines, of which none is Missing at the end of the text
+abbrev pub job_of_lines : BoardText → SignalsText → ℕ → List LoopLine → Result LoopJobText Refused
+job_of_lines board signals end [] = Err (record { line = end; cause = Missing })
+job_of_lines board signals end (line ∷ more) = Ok (job_of board signals line)

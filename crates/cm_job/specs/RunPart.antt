@@ -70,13 +70,13 @@ drive_of board t0 numbers cmd =
     Ok (Drive t0 values cmd)
 
 -- a line that asks for a command which its subdevice accepts: an input's for `go`, an output's for `drive`
-abbrev pub line_of : BoardText → AskedLine → Result RunLine Fault
-line_of board (asks.Go mode access t0 most cmd) = accepted board false cmd >>= λ cmd. Ok (Go mode access t0 most cmd)
-line_of board (asks.Drive t0 numbers cmd) = drive_of board t0 numbers cmd
+abbrev pub run_line : BoardText → AskedLine → Result RunLine Fault
+run_line board (asks.Go mode access t0 most cmd) = accepted board false cmd >>= λ cmd. Ok (Go mode access t0 most cmd)
+run_line board (asks.Drive t0 numbers cmd) = drive_of board t0 numbers cmd
 
 -- such a line, where the session takes what it asks
 abbrev pub taken_line : Session → BoardText → AskedLine → Result RunLine Fault
-taken_line session board asked = if takes session board asked then line_of board asked else Err Bad
+taken_line session board asked = if takes session board asked then run_line board asked else Err Bad
 
 -- the line that a text says after so many others, of which there may be 16
 abbrev pub next_line : Session → BoardText → Bounds → ℕ → LineText → Result RunLine Fault

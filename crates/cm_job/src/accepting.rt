@@ -93,7 +93,7 @@ fn accept_line(
     asked: AskedLine,
 ) -> Result<RunLine, ReadStop>
     requires { length (asked_cmd asked).list ≤ 1024 }
-    ensures { Gives (λ line. line) result (at_line number (spec.line_of board.now asked)) }
+    ensures { Gives (λ line. line) result (at_line number (spec.run_line board.now asked)) }
 {
     match asked {
         AskedLine::Go {

@@ -97,7 +97,7 @@ fn read_line(
     signals: &Signals,
     line: &Line<'_>,
 ) -> Result<ExpandLine, ReadStop>
-    ensures line { Gives (λ next. next) result (at_line line.now.number (spec.line_of board.now signals.now (line_view line.now))) }
+    ensures line { Gives (λ next. next) result (at_line line.now.number (spec.expand_line board.now signals.now (line_view line.now))) }
     ensures can { IfOk result (spec.CanExpand board.now signals.now) }
 {
     let (t0, cmd) = read_words(alloc, Bounds::of(board, signals), line)?;

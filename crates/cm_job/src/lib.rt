@@ -1,13 +1,10 @@
-// The lines of a job that are streamed: what each asks, how they are read over a board and its signals, and
-// the block of each that reads.
+// The lines of a job: what each asks, and how they are read over a board and its signals.
 #![tactic(auto)]
 
 pub mod accepting;
 pub mod ahead;
 pub mod asked;
 pub mod expand_lines;
-pub mod expanding;
-pub mod going;
 pub mod head;
 pub mod job;
 pub mod law;
@@ -19,4 +16,3 @@ pub mod loop_line;
 pub mod loop_reading;
 pub mod reading;
 pub mod test_lines;
-pub mod whole;

@@ -30,7 +30,7 @@ pub(crate) fn accept_loop(
     requires output { length asked.output.list ≤ 1024 }
     requires t_in { asked.t_in ≤ signals.now.horizon }
     requires t_out { asked.t_out ≤ signals.now.horizon }
-    ensures { result ≡ spec.line_of board.now signals.now asked }
+    ensures { result ≡ spec.ruled_line board.now signals.now asked }
 {
     let line = accept_both(board, asked)?;
     ask_rules(board, signals, &line)?;

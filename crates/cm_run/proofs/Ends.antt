@@ -14,7 +14,7 @@ use Rattle.cm_job.specs.declared.line.Mode.{Mode}
 use Rattle.cm_job.specs.declared.line.Mode.TheVariants.{Paced, Free}
 use Rattle.cm_expand.specs.Totals.{length_of}
 use Rattle.cm_text.specs.Blocks.{block, ending, take_count, cut_tail, paced_block, HasOverrun}
-use Rattle.cm_job.specs.RunText.{IsGoBlock}
+use Rattle.cm_block.specs.RunText.{IsGoBlock}
 use Rattle.cm_run.specs.Ran.{GoRan}
 use Rattle.cm_client.specs.LineRing.{ring_of}
 use Rattle.cm_job.specs.Modes.{is_paced}

@@ -10,7 +10,7 @@ use Rattle.cm_job.specs.declared.line.Mode.{Mode}
 use Rattle.cm_job.specs.declared.line.Mode.TheVariants.{Paced}
 use Rattle.cm_job.specs.declared.line.RunLine.{RunLine}
 use Rattle.cm_job.specs.declared.line.RunLine.TheVariants.{Go, Drive}
-use Rattle.cm_job.specs.RunText.{IsBlock, IsGoBlock, IsRunText, line_block, run_text}
+use Rattle.cm_block.specs.RunText.{IsBlock, IsGoBlock, IsRunText, line_block, run_text}
 use Rattle.cm_run.specs.Law.{ArePaced, PacedLaw}
 use Rattle.cm_text.specs.Blocks.{paced_block}
 use Rattle.cm_run.specs.Ran.{HaveRun, LineRan, as_list}

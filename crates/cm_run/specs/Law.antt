@@ -2,7 +2,7 @@
 use Rattle.std.specs.Prelude.{◌≡◌, ℕ, List, [], ◌∷◌}
 use Rattle.cm_board.specs.Board.{BoardText}
 use Rattle.cm_signal.specs.Signals.{SignalsText}
-use Rattle.cm_job.specs.RunText.{IsRunText, run_text}
+use Rattle.cm_block.specs.RunText.{IsRunText, run_text}
 use Rattle.cm_job.specs.declared.line.Mode.TheVariants.{Paced}
 use Rattle.cm_job.specs.declared.line.RunLine.{RunLine}
 use Rattle.cm_job.specs.declared.line.RunLine.TheVariants.{Go, Drive}

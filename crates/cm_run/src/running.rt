@@ -1,7 +1,7 @@
 // A whole run.
 ghost use Rattle.std.specs.Prelude.{◌≡◌, ◌<◌, ℕ, length, slice_get, IfOk, IfSome, Ok};
 ghost use Rattle.std.specs.List.{AllZip};
-ghost use Rattle.cm_job.specs.RunText.{IsRunText};
+ghost use Rattle.cm_block.specs.RunText.{IsRunText};
 ghost use Rattle.cm_run.specs.Lines.{AreMade};
 ghost use Rattle.cm_run.specs.Ran.{HaveRun, LineRan, as_list};
 ghost use Rattle.cm_job.specs.RunLines.{CanRun};
@@ -12,10 +12,10 @@ use crate::gone::go_line;
 use crate::lines::lines_up_to;
 use cm_base::gate::Gate;
 use cm_base::transfer::NoMemory;
+use cm_block::going::go_of;
 use cm_board::board::BoardDesc;
 use cm_client::claiming::states_of;
 use cm_expand::call::plan_of;
-use cm_job::going::go_of;
 use cm_job::job::RunJob;
 use cm_job::line::RunLine;
 use cm_signal::signals::Signals;

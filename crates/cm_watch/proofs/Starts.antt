@@ -10,7 +10,7 @@ use Rattle.cm_client.specs.Progress.{Accepts}
 use Rattle.cm_ring.specs.Samples.{first_munged}
 use Rattle.cm_signal.specs.Signals.{SignalsText}
 use Rattle.cm_text.specs.SampleText.{CanReport, LinesText, lines_of, no_lines}
-use Rattle.cm_job.specs.Whole.{line_format}
+use Rattle.cm_block.specs.Whole.{line_format}
 use Rattle.cm_job.specs.declared.line.RunLine.{RunLine}
 use Rattle.cm_stream.specs.Stream.{Streaming}
 use Rattle.cm_stream.specs.Merging.{IsFresh, IsPacedOn, given_words}

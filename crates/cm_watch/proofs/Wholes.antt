@@ -15,11 +15,11 @@ use Rattle.cm_ring_core.specs.declared.view.End.{End}
 use Rattle.cm_ring_core.specs.declared.view.EndKind.{EndKind}
 use Rattle.cm_ring_core.specs.declared.view.RingConstants.{RingConstants}
 use Rattle.cm_ring_core.specs.Lawful.{IsFoundEnd}
-use Rattle.cm_job.specs.RunText.{line_block, run_text}
+use Rattle.cm_block.specs.RunText.{line_block, run_text}
 use Rattle.cm_text.specs.Blocks.{munged_samples}
 use Rattle.cm_client.specs.LineRing.{ring_of}
 use Rattle.cm_text.specs.SampleText.{LinesText, lines_of}
-use Rattle.cm_job.specs.Whole.{HasWhole, TakesAll, line_format}
+use Rattle.cm_block.specs.Whole.{HasWhole, TakesAll, line_format}
 use Rattle.cm_text.proofs.Counts.{length-samples}
 use Rattle.cm_text.proofs.Counts.{length-munged, munged_by_rule}
 use Rattle.cm_job.specs.Calls.{cmd_of, plan_of}

@@ -9,7 +9,7 @@ use Rattle.cm_job.specs.Calls.{cmd_of, plan_of}
 use Rattle.cm_job.specs.declared.line.RunLine.{RunLine}
 use Rattle.cm_client.specs.LineRing.{ring_of}
 use Rattle.cm_text.specs.SampleText.{LinesText}
-use Rattle.cm_job.specs.Whole.{line_format}
+use Rattle.cm_block.specs.Whole.{line_format}
 use Rattle.cm_stream.specs.Stream.{Streaming}
 use Rattle.cm_watch.specs.Watched.{HasWatched, text_format}
 

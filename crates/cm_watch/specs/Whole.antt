@@ -2,7 +2,7 @@
 use Rattle.std.specs.Prelude.{◌≡◌, ◌≤◌, ℕ, List, length, slice_get, Some, IfSome}
 use Rattle.cm_ring_core.specs.declared.view.End.{End}
 use Rattle.cm_text.specs.SampleText.{LinesText}
-use Rattle.cm_job.specs.Whole.{HasWhole}
+use Rattle.cm_block.specs.Whole.{HasWhole}
 use Rattle.cm_job.specs.Job.{RunJobText}
 use Rattle.cm_stream.specs.Stream.{Streaming}
 use Rattle.cm_stream.specs.Merging.{IsEndOf}

@@ -1,7 +1,7 @@
 // The blocks of watched lines.
 ghost use Rattle.std.specs.Prelude.{◌≡◌, length, take, IfOk};
 ghost use Rattle.std.specs.List.{All};
-ghost use Rattle.cm_job.specs.RunText.{run_text};
+ghost use Rattle.cm_block.specs.RunText.{run_text};
 ghost use Rattle.cm_job.specs.WatchLines.{IsWatched};
 ghost use Rattle.cm_stream.specs.Stream.{IsOver};
 ghost use Rattle.cm_watch.specs.Opened.{HaveWatched};
@@ -9,9 +9,9 @@ ghost use Rattle.cm_watch.specs.Whole.{AreEnds, AreWhole};
 
 use crate::client::Watched;
 use cm_base::transfer::NoMemory;
+use cm_block::whole::block_of;
 use cm_expand::plan::Plan;
 use cm_job::job::RunJob;
-use cm_job::whole::block_of;
 use cm_ring_core::view::End;
 use cm_sample::planned::Planned;
 use cm_stream::merge::Merge;

@@ -1,7 +1,7 @@
 // A whole watch.
 ghost use Rattle.std.specs.Prelude.{◌≡◌, ◌≤◌, length, IfOk};
 ghost use Rattle.std.specs.List.{All};
-ghost use Rattle.cm_job.specs.RunText.{run_text};
+ghost use Rattle.cm_block.specs.RunText.{run_text};
 ghost use Rattle.cm_job.specs.RunLines.{CanRun};
 ghost use Rattle.cm_job.specs.WatchLines.{IsWatched};
 ghost use Rattle.cm_watch.specs.Opened.{HaveWatched};

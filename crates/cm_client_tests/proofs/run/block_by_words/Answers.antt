@@ -16,7 +16,7 @@ use Rattle.cm_text.proofs.Counts.{munged_by_rule}
 use Rattle.cm_job.specs.Calls.{plan_of}
 use Rattle.cm_job.specs.Job.{RunJobText}
 use Rattle.cm_job.specs.Modes.{is_paced}
-use Rattle.cm_job.specs.Whole.{IsWhole, TakesAll}
+use Rattle.cm_block.specs.Whole.{IsWhole, TakesAll}
 use Rattle.cm_job.specs.declared.line.Access.{Access}
 use Rattle.cm_job.specs.declared.line.Mode.{Mode}
 use Rattle.cm_job.specs.declared.line.Mode.TheVariants.{Paced}

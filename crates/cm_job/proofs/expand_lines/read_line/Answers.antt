@@ -6,7 +6,7 @@ use Rattle.cm_base.specs.declared.faults.Fault.{Fault}
 use Rattle.cm_base.specs.declared.faults.Refused.{Refused}
 use Rattle.cm_signal.specs.Bounds.{bounds_of}
 use Rattle.cm_signal.specs.declared.bounds.Bounds.{Bounds}
-use Rattle.cm_job.specs.ExpandLines.{accepted_line, expand_words, line_of}
+use Rattle.cm_job.specs.ExpandLines.{accepted_line, expand_words, expand_line}
 use Rattle.cm_job.specs.declared.expand_lines.ExpandLine.{ExpandLine}
 use Rattle.cm_job.proofs.ExpandLines.{line-can}
 use Rattle.cm_job.proofs.Steps.{then-reads}
@@ -20,7 +20,7 @@ returns-clause-line c =
     let number = c.args.line.now.number in
     let words : at_line number (expand_words (bounds_of board signals) line) ≡ Ok (c.in_ok-t0.t0, c.in_ok-t0.cmd) =
     subst (λ (b : Bounds). at_line number (expand_words b line) ≡ Ok (c.in_ok-t0.t0, c.in_ok-t0.cmd)) c.of.ensures c.in_ok-t0.ensures.words in
-    let same : at_line number c.accepted_line.result ≡ at_line number (line_of board signals line) =
+    let same : at_line number c.accepted_line.result ≡ at_line number (expand_line board signals line) =
     ap (λ (r : Result ExpandLine Fault). at_line number r) c.accepted_line.ensures
     ∙ sym (then-reads number (expand_words (bounds_of board signals) line) (λ w. accepted_line board w) (c.in_ok-t0.t0, c.in_ok-t0.cmd) words) in
     subst (λ (r : Result ExpandLine Refused). Gives (λ (next : ExpandLine). next) c.at_line.result r) same c.at_line.ensures

@@ -35,14 +35,14 @@ returns-in_err-asked-clause-value c =
     let signals = c.args.signals.now in
     let line = line_view c.args.line.now in
     let stop = c.in_err-asked.field-0.0 in
-    gives_err _ c.from_residual.result stop _ c.from_residual.ensures.1 (then-stops stop line.number (asked_of (bounds_of board signals) line) (λ a. spec.line_of board signals a) c.in_err-asked.ensures.value)
+    gives_err _ c.from_residual.result stop _ c.from_residual.ensures.1 (then-stops stop line.number (asked_of (bounds_of board signals) line) (λ a. spec.ruled_line board signals a) c.in_err-asked.ensures.value)
 
 pub returns-clause-value : goal.returns-clause-value
 returns-clause-value c =
     let board = c.args.board.now in
     let signals = c.args.signals.now in
     let line = line_view c.args.line.now in
-    let through = then-reads line.number (asked_of (bounds_of board signals) line) (λ a. spec.line_of board signals a) c.in_ok-asked.asked c.in_ok-asked.ensures.value in
+    let through = then-reads line.number (asked_of (bounds_of board signals) line) (λ a. spec.ruled_line board signals a) c.in_ok-asked.asked c.in_ok-asked.ensures.value in
     subst (λ (r : Result LoopLine Refused). Gives (λ next. next) c.at_line.result r) (ap (λ (r : Result LoopLine Fault). at_line line.number r) c.accept_loop.ensures ∙ sym through) c.at_line.ensures
 
 pub returns-clause-line : goal.returns-clause-line

@@ -2,8 +2,8 @@ use Rattle.std.proofs.Common.{◌≡◌, get_or, sym, ◌∙◌, subst, arith}
 use Rattle.std.proofs.lemmas.Result.{IfOk-weaker}
 use Rattle.cm_ring_core.specs.declared.view.End.{End}
 use Rattle.cm_ring_core.specs.declared.view.EndKind.TheVariants.{Done}
-use Rattle.cm_job.specs.RunText.{line_block}
-use Rattle.cm_job.specs.Whole.{HasWhole}
+use Rattle.cm_block.specs.RunText.{line_block}
+use Rattle.cm_block.specs.Whole.{HasWhole}
 use Rattle.cm_job.specs.Job.{RunJobText}
 use Rattle.cm_watch.proofs.Wholes.{text_longer, whole_before, whole_last}
 use Rattle.cm_watch.proofs.blocks.+blocks_up_to.Goals as goal

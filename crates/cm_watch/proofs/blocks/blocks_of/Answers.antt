@@ -1,6 +1,6 @@
 use Rattle.std.proofs.Common.{◌≡◌, IfOk, length, take, sym, subst, arith}
 use Rattle.std.proofs.lemmas.List.{take_all}
-use Rattle.cm_job.specs.RunText.{run_text}
+use Rattle.cm_block.specs.RunText.{run_text}
 use Rattle.cm_watch.specs.Whole.{AreWhole}
 use Rattle.cm_watch.proofs.Wholes.{are_whole, texts_counted}
 use Rattle.cm_watch.proofs.blocks.blocks_of.Goals as goal

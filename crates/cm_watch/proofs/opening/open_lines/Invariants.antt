@@ -1,6 +1,6 @@
 use Rattle.std.proofs.Common.{◌≡◌, ◌<◌, length, map, take}
 use Rattle.std.specs.List.{All}
-use Rattle.cm_job.specs.Whole.{line_format}
+use Rattle.cm_block.specs.Whole.{line_format}
 use Rattle.cm_watch.specs.Opened.{line_start, stream_start}
 use Rattle.cm_watch.specs.Watched.{AreRead, text_format}
 use Rattle.cm_watch.proofs.opening.open_lines.Given as goal

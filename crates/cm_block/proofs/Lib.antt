@@ -1,0 +1,3 @@
+pub mod Expansions
+pub mod Reported
+pub mod Wholes

@@ -1,0 +1,4 @@
+pub mod Going
+pub mod Whole
+pub mod RunText
+pub mod ExpandSession
