@@ -79,7 +79,7 @@ fn start<'a>(
     shows(&signals.horizon);
     let rule = rule_of(alloc, sub, cmd)?;
     let plan = Plan::new(sub, signals, cmd, at.index, at.time, None);
-    seat.running = Some(Command::start(alloc, plan, rule)?);
+    seat.set_running(Some(Command::start(alloc, plan, rule)?));
     files.set_runner(at.index, Some(at.file));
     put_fine(text)
 }

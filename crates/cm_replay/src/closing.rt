@@ -47,6 +47,6 @@ fn end_command(claim: Claim, seat: &mut Seat<'_>)
     ensures { seat.new ≡ left_by claim seat.old }
 {
     if claim.runner.is_none() {
-        seat.running = None;
+        seat.set_running(None);
     }
 }

@@ -49,7 +49,7 @@ pub(crate) fn report_over(
     match command.reported_end() {
         None => unreachable!(),
         Some(end) => {
-            seat.running = None;
+            seat.set_running(None);
             files.finish(at.index);
             put_end(text, end)
         }
@@ -204,7 +204,7 @@ pub(crate) fn cancel(
     match files.cancel(at.file, at.index) {
         Err(error) => put_refused(text, error),
         Ok(_) => {
-            seat.running = None;
+            seat.set_running(None);
             put_fine(text)
         }
     }

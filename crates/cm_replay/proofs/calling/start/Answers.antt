@@ -26,5 +26,5 @@ returns c =
     let h : Here = here_at c.args.at.now c.args.files.now c.args.seat.now in
     let command = c.in_ok-start.ensures ∙ ap (λ (p : PlanText). started (schedule_of p)) c.new-plan.ensures in
     called h c.args.cmd.now c.put_fine.result c.set_runner.new.self _ c.args.text.now.items c.put_fine.new.text.items c.requires.passed c.set_runner.ensures
-    (ap (λ (r : Running). let d : Device = record { state = c.seat.inside.state; running = Some r } in d) command ∙ ap (λ (d : Device). record d { running = Some (started (schedule_of (plan_here h c.args.cmd.now))) }) c.seat.view_is)
+    (c.set_running.ensures ∙ ap (λ (r : Running). let d : Device = record h.device { running = Some r } in d) command)
     c.put_fine.ensures

@@ -6,7 +6,6 @@ use Rattle.cm_sub.specs.Files.{claim_at, reach_checks}
 use Rattle.cm_session.specs.declared.op.Op.TheVariants as ops
 use Rattle.cm_replay.specs.Forms.{form}
 use Rattle.cm_replay.specs.Replies.{here_at}
-use Rattle.cm_replay.specs.State.{Device}
 use Rattle.std.specs.Result.{result_err}
 use Rattle.cm_replay.proofs.Checks.{passes-both}
 use Rattle.cm_replay.proofs.Forming.{line-done}
@@ -19,6 +18,6 @@ returns-in-Ok c =
     line-done (form (ops.Cancel c.args.at.now.index) h) h c.put_fine.result _ _ _ _ (sym (passes-both (reach_checks h.file h.index h.files) _ passed).1)
     (on_ok_weaker c.put_fine.result (λ said. record {
       its_files = c.in-Ok.ensures.ok;
-      its_device = ap (λ (d : Device). record d { running = None }) c.seat.view_is;
+      its_device = c.set_running.ensures;
       reported = said;
     }) c.put_fine.ensures)
