@@ -93,7 +93,7 @@ static int find_subdevice(comedi_cmd *command, struct subdevice **s)
 	if (command->subdev >= device->subdevices)
 		return -ENODEV;
 	*s = &device->subdevice[command->subdev];
-	if (!(*s)->takes_commands)
+	if (!((*s)->flags & SDF_CMD))
 		return -EIO;
 	if (command->chanlist_len > (*s)->list_length || command->chanlist_len > MOST_ENTRIES)
 		return -EINVAL;

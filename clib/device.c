@@ -96,8 +96,7 @@ static int start_program(const char *path)
 	int result = text_read(path, &text);
 	if (!result)
 		result = server_start(program_path(), text.bytes, text.length);
-	board_clear();
-	if (!result && question_describe(board_line))
+	if (!result && board_ask())
 		result = report_failure(path, &text);
 	free(text.bytes);
 	return result;
@@ -110,7 +109,6 @@ static int load(const char *path)
 	int result = start_program(path);
 	if (result)
 		return result;
-	board_settle();
 	result = buffer_make_memory();
 	if (result)
 		return result;
@@ -146,7 +144,7 @@ static void choose_defaults(struct file *f)
 	f->read_subdevice = f->write_subdevice = NO_SUBDEVICE;
 	for (int i = device->subdevices - 1; i >= 0; i--) {
 		const struct subdevice *s = &device->subdevice[i];
-		if (s->takes_commands)
+		if (s->flags & SDF_CMD)
 			*(board_is_input(s) ? &f->read_subdevice : &f->write_subdevice) = i;
 	}
 }

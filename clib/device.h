@@ -39,10 +39,8 @@ struct channel {
 };
 
 struct subdevice {
-	/* what the board says */
-	unsigned kind, channels, list_length, buffer;
-	int takes_commands, own_maxdata, own_ranges;
-	unsigned sample_bytes;
+	/* what the board says, with the flags that don't change */
+	unsigned kind, flags, channels, list_length, buffer, sample_bytes;
 	struct channel channel[MOST_CHANNELS];
 	/* what answers have said: who called the command that wasn't ended yet, and who holds the lock */
 	int runner, locker;
@@ -157,9 +155,7 @@ int buffer_take(int file, int number, unsigned most, uint32_t *samples);
 int buffer_owns(int descriptor);
 
 /* board.c */
-void board_clear(void);
-void board_line(char *line);
-void board_settle(void);
+int board_ask(void);
 int board_is_input(const struct subdevice *s);
 int board_is_digital(const struct subdevice *s);
 int board_subdevices(int file, comedi_subdinfo *to);

@@ -78,7 +78,7 @@ static int buffer_size(void *argument)
 	comedi_bufconfig asked;
 	if (copy_in(&asked, argument, sizeof asked))
 		return -EFAULT;
-	if (asked.subdevice >= device->subdevices || !device->subdevice[asked.subdevice].takes_commands)
+	if (asked.subdevice >= device->subdevices || !(device->subdevice[asked.subdevice].flags & SDF_CMD))
 		return -EINVAL;
 	const struct subdevice *s = &device->subdevice[asked.subdevice];
 	unsigned size = s->buffer * s->sample_bytes;
@@ -122,7 +122,7 @@ static int poll_call(int file, unsigned number)
 /* Which subdevice read and write of a file are for. */
 static int choose_subdevice(int file, unsigned number, int reads)
 {
-	if (number >= device->subdevices || !device->subdevice[number].takes_commands)
+	if (number >= device->subdevices || !(device->subdevice[number].flags & SDF_CMD))
 		return -EINVAL;
 	if (board_is_input(&device->subdevice[number]) != reads)
 		return -EINVAL;

@@ -222,7 +222,7 @@ int question_test(const char *command)
 	return ask_loudly(snprintf(line, sizeof line, "test %s", command));
 }
 
-int question_describe(void (*each)(char *line))
+int question_subdevices(void (*each)(char *line))
 {
-	return ask(snprintf(line, sizeof line, "describe"), each);
+	return ask(snprintf(line, sizeof line, "subdevices"), each);
 }

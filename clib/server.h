@@ -29,7 +29,7 @@ int question_peek(int file, int subdevice, unsigned from, unsigned most);
 int question_codes(int file, int subdevice, unsigned most);
 int question_fetch(int file, int subdevice, unsigned wanted, unsigned most);
 int question_test(const char *command);
-int question_describe(void (*each)(char *line));
+int question_subdevices(void (*each)(char *line));
 const char *answer_words(void);
 int answer_numbers(uint64_t *numbers, int most);
 int answer_is(const char *word);

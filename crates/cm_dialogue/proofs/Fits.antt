@@ -14,14 +14,14 @@ use Rattle.cm_signal.specs.declared.bounds.Bounds.{Bounds}
 use Rattle.cm_session.specs.Forms.{number_words, place_of, sub_words}
 use Rattle.cm_session.specs.Limits.{HasLimits, IsLimited}
 use Rattle.cm_session.specs.SessionPart.{line_after, line_words}
-use Rattle.cm_dialogue.specs.Asked.{asked_op, line_of}
+use Rattle.cm_dialogue.specs.Asked.{asked_op, session_line}
 use Rattle.cm_dialogue.specs.declared.asked.Asked.{Asked}
 use Rattle.cm_dialogue.specs.declared.asked.Fetch.{Fetch}
 use Rattle.cm_dialogue.specs.declared.asked.Question.{Question}
 use Rattle.cm_dialogue.specs.declared.asked.Question.TheVariants.{Await, Info, Codes, Peek}
 use Rattle.cm_dialogue.specs.Lines.{QuestionForm, asked_after, asked_by, counted, fetching, most_held, most_taken, next_line, plain, questions, ranged, ranged_words, said_by, timed, worded}
 use Rattle.cm_dialogue.specs.Reading.{IsFit}
-use Rattle.cm_dialogue.specs.declared.said.Said.TheVariants as says
+use Rattle.cm_dialogue.specs.declared.dialogue_line.DialogueLine.TheVariants as says
 use Rattle.cm_dialogue.proofs.Limited.{Each, command_said, line_limited, listed_has, number_most, number_timed, place_timed, sub_timed, then_any, then_has}
 
 -- one of two
@@ -39,7 +39,7 @@ after_has {X} P before time x h = by (nat_le before time) refl
 
 -- the forms of questions, with the limits on what stands after their subdevices
 module _ (before : ℕ) (bounds : Bounds) (time : List ℕ) (words : List (List ℕ)) where
-  asked_fits : (asked : Asked) → IsLimited bounds.horizon (line_of asked) → IfOk (asked_after before asked) (IsFit bounds.horizon before)
+  asked_fits : (asked : Asked) → IsLimited bounds.horizon (session_line asked) → IfOk (asked_after before asked) (IsFit bounds.horizon before)
   asked_fits asked limits = after_has (IsFit bounds.horizon before) before asked.time (says.Question asked) (λ after. (after, limits))
 
   plain-fits : (question : Question) → ((sub : ℕ) → HasLimits (asked_op sub question)) → IfOk (plain question before bounds time words) (IsFit bounds.horizon before)
@@ -99,5 +99,6 @@ pub said_fits : (bounds : Bounds) (before : ℕ) (line : LineText) → IfOk (sai
 said_fits bounds before line =
     if_has _ line.bad (Err BadLine) _ tt
     (if_has _ (begins (codes "describe") line) _ _ (then_any _ (no_words (drop 1 line.words)) _ (λ none. tt))
+    (if_has _ (begins (codes "subdevices") line) _ _ (then_any _ (no_words (drop 1 line.words)) _ (λ none. tt))
     (if_has _ (begins (codes "test") line) _ _ (then_has (HasText 1024) _ (command_of (most_entries bounds.version) (drop 1 line.words)) _ (command_said bounds.version (drop 1 line.words)) (λ cmd text. text))
-    (worded_fits bounds before line line.words)))
+    (worded_fits bounds before line line.words))))

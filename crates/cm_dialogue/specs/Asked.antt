@@ -16,8 +16,8 @@ asked_op sub (Codes n) = ops.Read sub n
 asked_op sub (Peek from n) = ops.Contents sub
 
 -- the line that a question is in other words
-abbrev pub line_of : Asked → SessionLine
-line_of asked = record { time = asked.time; file = asked.file; op = asked_op asked.sub asked.question }
+abbrev pub session_line : Asked → SessionLine
+session_line asked = record { time = asked.time; file = asked.file; op = asked_op asked.sub asked.question }
 
 -- the first question of a fetch: it awaits its samples
 abbrev pub awaits : Fetch → Asked

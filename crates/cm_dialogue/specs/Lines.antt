@@ -17,20 +17,20 @@ use Rattle.cm_dialogue.specs.declared.asked.Asked.{Asked}
 use Rattle.cm_dialogue.specs.declared.asked.Fetch.{Fetch}
 use Rattle.cm_dialogue.specs.declared.asked.Question.{Question}
 use Rattle.cm_dialogue.specs.declared.asked.Question.TheVariants.{Await, Info, Codes, Peek}
-use Rattle.cm_dialogue.specs.declared.said.Said.{Said}
-use Rattle.cm_dialogue.specs.declared.said.Said.TheVariants as says
+use Rattle.cm_dialogue.specs.declared.dialogue_line.DialogueLine.{DialogueLine}
+use Rattle.cm_dialogue.specs.declared.dialogue_line.DialogueLine.TheVariants as says
 
 -- what is asked of a subdevice, by the time of the line before,
 -- its bounds, the word of its own time, and the words after its key
 abbrev pub QuestionForm : Type 0
-QuestionForm = ℕ → Bounds → List ℕ → Form Said
+QuestionForm = ℕ → Bounds → List ℕ → Form DialogueLine
 
 -- what is asked at a time by a file about a subdevice
 abbrev pub asked_by : LineHead → ℕ → Question → Asked
 asked_by head sub question = record { time = head.time; file = head.file; sub = sub; question = question }
 
 -- a question after a line of this time, which it may not be below
-abbrev pub asked_after : ℕ → Asked → Result Said Fault
+abbrev pub asked_after : ℕ → Asked → Result DialogueLine Fault
 asked_after before asked = if nat_le before asked.time then Ok (says.Question asked) else Err Bad
 
 -- `T KEY F SUB`
@@ -66,7 +66,7 @@ ranged make before bounds time words =
     ranged_words bounds time words >>= λ w. asked_after before (asked_by w.0 w.1 (make w.2 w.3))
 
 -- a fetch after a line of this time, which it may not be below
-abbrev pub fetch_after : ℕ → Fetch → Result Said Fault
+abbrev pub fetch_after : ℕ → Fetch → Result DialogueLine Fault
 fetch_after before fetch = if nat_le before fetch.time then Ok (says.Fetch fetch) else Err Bad
 
 -- a fetch: how many samples it awaits, and how many it takes
@@ -83,24 +83,29 @@ questions =
     ∷ (codes "fetch", fetching) ∷ []
 
 -- a line of the session
-abbrev pub next_line : Bounds → ℕ → LineText → Result Said Fault
+abbrev pub next_line : Bounds → ℕ → LineText → Result DialogueLine Fault
 next_line bounds before line = line_after false bounds before line >>= λ next. Ok (says.Session next)
 
 -- a line with a time and a key: a question, or a line of a session
-abbrev pub timed : Bounds → ℕ → LineText → List ℕ → List (List ℕ) → Option QuestionForm → Result Said Fault
+abbrev pub timed : Bounds → ℕ → LineText → List ℕ → List (List ℕ) → Option QuestionForm → Result DialogueLine Fault
 timed bounds before line time words None = next_line bounds before line
 timed bounds before line time words (Some form) = form before bounds time words
 
 -- what the words of a line with a time say
-abbrev pub worded : Bounds → ℕ → LineText → List (List ℕ) → Result Said Fault
+abbrev pub worded : Bounds → ℕ → LineText → List (List ℕ) → Result DialogueLine Fault
 worded bounds before line (time ∷ key ∷ words) = timed bounds before line time words (listed questions key)
 worded bounds before line words = Err BadLine
 
+-- a line of one word
+abbrev pub alone : DialogueLine → LineText → Result DialogueLine Fault
+alone said line = no_words (drop 1 line.words) >>= λ none. Ok said
+
 -- what a line says, after one of this time and within these bounds
-abbrev pub said_by : Bounds → ℕ → LineText → Result Said Fault
+abbrev pub said_by : Bounds → ℕ → LineText → Result DialogueLine Fault
 said_by bounds before line =
     if line.bad then Err BadLine
-    else if begins (codes "describe") line then (no_words (drop 1 line.words) >>= λ none. Ok says.Describe)
+    else if begins (codes "describe") line then alone says.Describe line
+    else if begins (codes "subdevices") line then alone says.Subdevices line
     else if begins (codes "test") line
     then (command_of (most_entries bounds.version) (drop 1 line.words) >>= λ cmd. Ok (says.Test cmd))
     else worded bounds before line line.words

@@ -3,10 +3,10 @@
 
 pub mod asked;
 pub mod client;
+pub mod dialogue_line;
 pub mod first_line;
 pub mod heading;
 pub mod reading;
-pub mod said;
 pub mod script;
 pub mod standard;
 pub mod stop;

@@ -8,7 +8,7 @@ ghost use Rattle.cm_dialogue.specs.Lines as spec;
 ghost use Rattle.cm_dialogue.specs.Reading.{IsFit};
 
 use crate::asked::{Asked, Fetch, Question};
-use crate::said::Said;
+use crate::dialogue_line::DialogueLine;
 use cm_base::faults::{Fault, ReadStop};
 use cm_base::lines::Line;
 use cm_base::parts::{begins, refused};
@@ -25,14 +25,14 @@ use std::alloc::Global;
 const MOST_TAKEN: u32 = 65_536;
 
 /// What a line says, after a line of the time `before` and within these bounds: a line of a session,
-/// a question, a command to test, or that the board is to be described. It refuses a line as
-/// `read_session` does.
+/// a question, a command to test, or that the board is to be described or its subdevices told. It
+/// refuses a line as `read_session` does.
 pub fn read_said(
     alloc: Global,
     bounds: Bounds,
     before: u64,
     line: &Line<'_>,
-) -> Result<Said, ReadStop>
+) -> Result<DialogueLine, ReadStop>
     ensures value { Gives (λ said. said) result (at_line line.now.number (spec.said_by bounds before (line_view line.now))) }
     ensures fit { IfOk result (IsFit bounds.horizon before) }
 {
@@ -41,17 +41,25 @@ pub fn read_said(
     }
     if begins(b"describe", line) {
         at_line(line.number, none(&line.words[1..]))?;
-        Ok(Said::Describe)
+        Ok(DialogueLine::Describe)
+    } else if begins(b"subdevices", line) {
+        at_line(line.number, none(&line.words[1..]))?;
+        Ok(DialogueLine::Subdevices)
     } else if begins(b"test", line) {
         let cmd = read_cmd_up_to(alloc, line, 1, most_entries(bounds.version))?;
-        Ok(Said::Test(BoxedCmd::new(alloc, cmd)?))
+        Ok(DialogueLine::Test(BoxedCmd::new(alloc, cmd)?))
     } else {
         read_words(alloc, bounds, before, line)
     }
 }
 
 // What a line says that has a time and a key.
-fn read_words(alloc: Global, bounds: Bounds, before: u64, line: &Line<'_>) -> Result<Said, ReadStop>
+fn read_words(
+    alloc: Global,
+    bounds: Bounds,
+    before: u64,
+    line: &Line<'_>,
+) -> Result<DialogueLine, ReadStop>
     ensures value { Gives (λ said. said) result (at_line line.now.number (spec.worded bounds before (line_view line.now) (line_view line.now).words)) }
     ensures fit { IfOk result (IsFit bounds.horizon before) }
 {
@@ -77,7 +85,7 @@ fn read_timed(
     line: &Line<'_>,
     key: &[u8],
     words: &[&[u8]],
-) -> Result<Said, ReadStop>
+) -> Result<DialogueLine, ReadStop>
     requires number { start.now.number ≡ line.now.number }
     ensures value { Gives (λ said. said) result (at_line start.now.number (spec.timed start.now.bounds before (line_view line.now) start.now.time.now (map (λ word. word.now) words.now) (listed spec.questions key.now))) }
     ensures fit { IfOk result (IsFit start.now.bounds.horizon before) }
@@ -137,20 +145,30 @@ fn most_held(bounds: Bounds) -> u32
 }
 
 // A line of the session.
-fn read_next(alloc: Global, bounds: Bounds, before: u64, line: &Line<'_>) -> Result<Said, ReadStop>
+fn read_next(
+    alloc: Global,
+    bounds: Bounds,
+    before: u64,
+    line: &Line<'_>,
+) -> Result<DialogueLine, ReadStop>
     ensures value { Gives (λ said. said) result (at_line line.now.number (spec.next_line bounds before (line_view line.now))) }
     ensures fit { IfOk result (IsFit bounds.horizon before) }
 {
     let next = read_line(alloc, bounds, before, false, line)?;
-    Ok(Said::Session(next))
+    Ok(DialogueLine::Session(next))
 }
 
 // A question after a line of the time `before`.
-fn asked_after(before: u64, head: LineHead, sub: u32, question: Question) -> Result<Said, Fault>
+fn asked_after(
+    before: u64,
+    head: LineHead,
+    sub: u32,
+    question: Question,
+) -> Result<DialogueLine, Fault>
     ensures value { result ≡ spec.asked_after before (spec.asked_by head sub question) }
 {
     if before <= head.time {
-        Ok(Said::Question(Asked {
+        Ok(DialogueLine::Question(Asked {
             time: head.time,
             file: head.file,
             sub,
@@ -162,11 +180,17 @@ fn asked_after(before: u64, head: LineHead, sub: u32, question: Question) -> Res
 }
 
 // A fetch after a line of the time `before`.
-fn fetch_after(before: u64, head: LineHead, sub: u32, wanted: u32, n: u32) -> Result<Said, Fault>
+fn fetch_after(
+    before: u64,
+    head: LineHead,
+    sub: u32,
+    wanted: u32,
+    n: u32,
+) -> Result<DialogueLine, Fault>
     ensures { result ≡ spec.fetch_after before (record { time = head.time; file = head.file; sub = sub; wanted = wanted; n = n }) }
 {
     if before <= head.time {
-        Ok(Said::Fetch(Fetch {
+        Ok(DialogueLine::Fetch(Fetch {
             time: head.time,
             file: head.file,
             sub,

@@ -9,7 +9,7 @@ use Rattle.cm_signal.specs.declared.bounds.Bounds.{Bounds}
 use Rattle.cm_serve.specs.Playing.{Play, bounds_at}
 use Rattle.cm_serve.specs.Dialogue.{replied, replied_if, reply, reply_of, unchanged}
 use Rattle.cm_dialogue.specs.Lines.{said_by}
-use Rattle.cm_dialogue.specs.declared.said.Said.{Said}
+use Rattle.cm_dialogue.specs.declared.dialogue_line.DialogueLine.{DialogueLine}
 
 -- the same line with another number
 renumbered-ok : {X : Type 0} (number other : ℕ) (read : Result X Fault) (x : X) → at_line number read ≡ Ok x → at_line other read ≡ Ok x
@@ -34,7 +34,7 @@ line_read p number at bytes line rest bounds latest e h l =
     ∙ ap (λ (b : Bounds). replied_if p (at_line number (said_by b p.latest line))) (sym h)
     ∙ ap (λ (n : ℕ). replied_if p (at_line number (said_by bounds n line))) (sym l)
 
-pub reply-said : (p : Play) (number at : ℕ) (bytes : List ℕ) (line : LineText) (rest : List LineText) (bounds : Bounds) (latest : ℕ) (said : Said) → lines_of bytes ≡ line ∷ rest → bounds ≡ bounds_at p → latest ≡ p.latest →
+pub reply-said : (p : Play) (number at : ℕ) (bytes : List ℕ) (line : LineText) (rest : List LineText) (bounds : Bounds) (latest : ℕ) (said : DialogueLine) → lines_of bytes ≡ line ∷ rest → bounds ≡ bounds_at p → latest ≡ p.latest →
     at_line at (said_by bounds latest line) ≡ Ok said → reply p number bytes ≡ replied p said
 reply-said p number at bytes line rest bounds latest said e h l is =
     line_read p number at bytes line rest bounds latest e h l

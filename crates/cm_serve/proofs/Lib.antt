@@ -1,4 +1,5 @@
 pub mod Answering
+pub mod Numbers
 pub mod Plays
 pub mod Records
 pub mod Replays

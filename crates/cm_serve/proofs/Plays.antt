@@ -8,7 +8,7 @@ use Rattle.cm_session.specs.Limits.{InOrder, IsLimited}
 use Rattle.cm_session.specs.declared.op.SessionLine.{SessionLine}
 use Rattle.cm_signal.specs.Fitting.{FitBoard}
 use Rattle.cm_signal.specs.Signals.{IsSoundSignals}
-use Rattle.cm_dialogue.specs.Asked.{asked_op, line_of}
+use Rattle.cm_dialogue.specs.Asked.{asked_op, session_line}
 use Rattle.cm_serve.specs.Playing.{Play, first_play, played}
 use Rattle.cm_dialogue.specs.declared.asked.Asked.{Asked}
 use Rattle.cm_dialogue.specs.declared.asked.Question.{Question}
@@ -64,7 +64,7 @@ play-after p line is next = record {
 }
 
 -- a question has no command that was tried
-pub untried : (board : BoardText) (asked : Asked) → None ≡ tried_of board (line_of asked).op
+pub untried : (board : BoardText) (asked : Asked) → None ≡ tried_of board (session_line asked).op
 untried board asked = by asked.question
   where
     by : (q : Question) → None ≡ tried_of board (asked_op asked.sub q)

@@ -6,7 +6,7 @@ use Rattle.cm_base.specs.Reading.{at_line}
 use Rattle.cm_base.specs.declared.faults.Fault.{Fault}
 use Rattle.cm_session.specs.Limits.{InOrder}
 use Rattle.cm_session.specs.declared.op.SessionLine.{SessionLine}
-use Rattle.cm_dialogue.specs.Asked.{awaits, line_of, takes}
+use Rattle.cm_dialogue.specs.Asked.{awaits, session_line, takes}
 use Rattle.cm_serve.specs.Asking.{taking_time}
 use Rattle.cm_serve.specs.Playing.{Play, bounds_at, first_play, line_text, played}
 use Rattle.cm_replay.specs.Texts.{texts_from}
@@ -15,8 +15,8 @@ use Rattle.cm_serve.specs.Law.{RecordReplays, answer_of, lines_of_fetch, play_af
 use Rattle.cm_dialogue.specs.Lines.{said_by}
 use Rattle.cm_dialogue.specs.Reading.{IsFit}
 use Rattle.cm_dialogue.specs.declared.asked.Fetch.{Fetch}
-use Rattle.cm_dialogue.specs.declared.said.Said.{Said}
-use Rattle.cm_dialogue.specs.declared.said.Said.TheVariants as says
+use Rattle.cm_dialogue.specs.declared.dialogue_line.DialogueLine.{DialogueLine}
+use Rattle.cm_dialogue.specs.declared.dialogue_line.DialogueLine.TheVariants as says
 use Rattle.cm_dialogue.proofs.Fits.{said_fits}
 
 -- the record of these lines from here on replays
@@ -44,9 +44,9 @@ comes_next p line n lines fit later = record { session = (fit.0, fit.1, later.se
 fetch_next : (p : Play) (fetch : Fetch) (n : ℕ) (lines : List (List ℕ)) → IsFit p.setting.signals.horizon p.latest (says.Fetch fetch) → IsReplayed (fetched p fetch).play n lines →
     IsStep p (fetched p fetch).play (lines_of_fetch p fetch) (texts_from p.setting p.state (lines_of_fetch p fetch)) n lines
 fetch_next p fetch n lines fit later =
-    let first = line_of (awaits fetch) in
+    let first = session_line (awaits fetch) in
     let time = taking_time p.setting fetch p.state in
-    let second = line_of (takes time fetch) in
+    let second = session_line (takes time fetch) in
     let after = played p first in
     let s = p.setting in
     let within : time ≤ s.signals.horizon = omega (arith, fit.1.0) in
@@ -61,16 +61,17 @@ fetch_next p fetch n lines fit later =
     }
 
 -- by what the line says
-said_step : (p : Play) (said : Said) (n : ℕ) (lines : List (List ℕ)) → IsFit p.setting.signals.horizon p.latest said → ((q : Play) → IsReplayed q n lines) →
+said_step : (p : Play) (said : DialogueLine) (n : ℕ) (lines : List (List ℕ)) → IsFit p.setting.signals.horizon p.latest said → ((q : Play) → IsReplayed q n lines) →
     IsStep p (replied p said).play (record_of p (Some said)) (answer_of p (replied p said).text (Some said)) n lines
 said_step p (says.Session line) n lines fit later = comes_next p line n lines fit (later (played p line))
-said_step p (says.Question asked) n lines fit later = comes_next p (line_of asked) n lines fit (later (played p (line_of asked)))
+said_step p (says.Question asked) n lines fit later = comes_next p (session_line asked) n lines fit (later (played p (session_line asked)))
 said_step p (says.Fetch fetch) n lines fit later = fetch_next p fetch n lines fit (later (fetched p fetch).play)
 said_step p (says.Test cmd) n lines fit later = no_record p n lines (later p)
 said_step p says.Describe n lines fit later = no_record p n lines (later p)
+said_step p says.Subdevices n lines fit later = no_record p n lines (later p)
 
 -- where it isn't refused
-read_step : (p : Play) (number : ℕ) (read : Result Said Fault) (n : ℕ) (lines : List (List ℕ)) → IfOk read (IsFit p.setting.signals.horizon p.latest) → ((q : Play) → IsReplayed q n lines) →
+read_step : (p : Play) (number : ℕ) (read : Result DialogueLine Fault) (n : ℕ) (lines : List (List ℕ)) → IfOk read (IsFit p.setting.signals.horizon p.latest) → ((q : Play) → IsReplayed q n lines) →
     IsStep p (replied_if p (at_line number read)).play (record_of p (result_ok read)) (answer_of p (replied_if p (at_line number read)).text (result_ok read)) n lines
 read_step p number (Ok said) n lines fit later = said_step p said n lines fit later
 read_step p number (Err fault) n lines fit later = no_record p n lines (later p)

@@ -22,8 +22,8 @@ use Rattle.cm_dialogue.specs.Ahead.{IsLine}
 use Rattle.cm_serve.specs.Dialogue.{Reply, dialogue, next_number, replied, replied_if, reply, reply_of}
 use Rattle.cm_serve.specs.Law.{AnswersAsReplay, answers}
 use Rattle.cm_dialogue.specs.Lines.{questions, said_by}
-use Rattle.cm_dialogue.specs.declared.said.Said.{Said}
-use Rattle.cm_dialogue.specs.declared.said.Said.TheVariants as says
+use Rattle.cm_dialogue.specs.declared.dialogue_line.DialogueLine.{DialogueLine}
+use Rattle.cm_dialogue.specs.declared.dialogue_line.DialogueLine.TheVariants as says
 use Rattle.cm_dialogue.proofs.FirstLine.{one-counts}
 use Rattle.cm_dialogue.proofs.Limited.{untimed}
 
@@ -57,7 +57,7 @@ opened (Ok x) f y e = (x, refl, e)
 opened (Err fault) f y e = cc
 
 -- what says a line of a session
-abbrev said_as : SessionLine → Result Said Fault
+abbrev said_as : SessionLine → Result DialogueLine Fault
 said_as line = Ok (says.Session line)
 
 -- a good line of a session is said as one
@@ -68,9 +68,10 @@ good_line bounds before number (time ∷ []) next e = cc
 good_line bounds before number (time ∷ key ∷ words) next e =
     let o = opened (keyed (lines_by false) key bounds time words) (λ line. after_time before line) next e in
     let describes = timed_word time key bounds words o.0 (codes "describe") BadNumber refl o.1 in
+    let numbers = timed_word time key bounds words o.0 (codes "subdevices") BadNumber refl o.1 in
     let tests = timed_word time key bounds words o.0 (codes "test") BadNumber refl o.1 in
     let asks = asked_never key bounds time words o.0 o.1 in
-    simp (describes, tests, asks) (ap (λ (r : Result SessionLine Fault). r >>= λ line. said_as line) e)
+    simp (describes, numbers, tests, asks) (ap (λ (r : Result SessionLine Fault). r >>= λ line. said_as line) e)
 
 -- a line of a session is said as one
 said_next : (bounds : Bounds) (before : ℕ) (line : LineText) (next : SessionLine) → line_after false bounds before line ≡ Ok next → said_by bounds before line ≡ Ok (says.Session next)
@@ -110,7 +111,7 @@ one_more p n bytes lines before all (line ∷ []) is one l e later =
     let o = opened (at_line line.number (line_after false bounds (last_time before) line)) (λ x. read_after bounds (before ++ x ∷ []) (flat_map lines_of lines)) all e in
     let x = o.0 in
     let said : said_by bounds p.latest line ≡ Ok (says.Session x) = ap (λ (t : ℕ). said_by bounds t line) l ∙ said_next bounds (last_time before) line x (at_line_ok line.number (line_after false bounds (last_time before) line) x o.1) in
-    let answer : reply p n bytes ≡ replied p (says.Session x) = ap (reply_of p n) is ∙ ap (λ (r : Result Said Fault). replied_if p (at_line n r)) said in
+    let answer : reply p n bytes ≡ replied p (says.Session x) = ap (reply_of p n) is ∙ ap (λ (r : Result DialogueLine Fault). replied_if p (at_line n r)) said in
     let r = later (played p x) (next_number n) (before ++ x ∷ []) (sym (last-after before x)) o.2 in
     record {
       new = x ∷ r.new;

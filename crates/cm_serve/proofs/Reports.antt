@@ -6,7 +6,7 @@ use Rattle.cm_sub.specs.declared.errno.Errno.{Errno}
 use Rattle.cm_signal.specs.Setting.{Setting}
 use Rattle.cm_session.specs.declared.op.SessionLine.{SessionLine}
 use Rattle.cm_text.specs.Outputs.{output_texts}
-use Rattle.cm_dialogue.specs.Asked.{asked_op, line_of}
+use Rattle.cm_dialogue.specs.Asked.{asked_op, session_line}
 use Rattle.cm_serve.specs.Asking.{asked_text, asked_time, report, told_time}
 use Rattle.cm_replay.specs.Forms.{form, is_of_command, line_checks, named_sub}
 use Rattle.cm_replay.specs.Answers.{Answer, Refused}
@@ -41,8 +41,8 @@ asked-acts s line sub (Codes n) state = refl
 asked-acts s line sub (Peek from n) state = refl
 
 -- a place where nothing refuses a question is one for its line
-pub asked-found : (s : Setting) (asked : Asked) (state : State) → None ≡ first_refusal (place_checks s state.files asked.file asked.sub true) → first_refusal (line_checks (line_of asked).op (here s (line_of asked) state)) ≡ None
-asked-found s asked state passed = found s (line_of asked) state asked.sub true (sym (asked-sub asked.sub asked.question)) (sym (asked-commands asked.sub asked.question)) passed
+pub asked-found : (s : Setting) (asked : Asked) (state : State) → None ≡ first_refusal (place_checks s state.files asked.file asked.sub true) → first_refusal (line_checks (session_line asked).op (here s (session_line asked) state)) ≡ None
+asked-found s asked state passed = found s (session_line asked) state asked.sub true (sym (asked-sub asked.sub asked.question)) (sym (asked-commands asked.sub asked.question)) passed
 
 -- what is reported of a question, of a command that is brought to its time
 abbrev pub told : Asked → List Device → Answer → List ℕ
@@ -50,12 +50,12 @@ told asked devices = report asked.question asked.time (device_at devices asked.s
 
 -- what is said of its subdevice is said of what the question's line leads to
 said-acted : {X E : Type 0} (say : ℕ → Option Running → Answer → List ℕ) (s : Setting) (asked : Asked) (state : State) (i : ℕ) (h : Here) (result : Result X E) (files : FilesText) (device : Device) (old new : List ℕ) →
-    h ≡ here s (line_of asked) state → h.index ≡ i → first_refusal (line_checks (line_of asked).op (here s (line_of asked) state)) ≡ None →
-    OnOk result (Tells (say h.time h.device.running) (checked (form (line_of asked).op h) h) files device old new) →
-    OnOk result (LeadsTelling (say asked.time (device_at state.devices asked.sub).running) (act s (line_of asked) (line_of asked).op state) (record { files = files; devices = set state.devices i device }) old new)
+    h ≡ here s (session_line asked) state → h.index ≡ i → first_refusal (line_checks (session_line asked).op (here s (session_line asked) state)) ≡ None →
+    OnOk result (Tells (say h.time h.device.running) (checked (form (session_line asked).op h) h) files device old new) →
+    OnOk result (LeadsTelling (say asked.time (device_at state.devices asked.sub).running) (act s (session_line asked) (session_line asked).op state) (record { files = files; devices = set state.devices i device }) old new)
 said-acted say s asked state i h (Err e) files device old new same index reached tells = tt
 said-acted {E = E} say s asked state i h (Ok x) files device old new same index reached tells =
-    let line = line_of asked in
+    let line = session_line asked in
     let after : State = record { files = files; devices = set state.devices i device } in
     let said : say h.time h.device.running ≡ say asked.time (device_at state.devices asked.sub).running =
     ap (λ (x : Here). say x.time x.device.running) same ∙ ap (λ k. say asked.time (device_at state.devices k).running) (asked-sub asked.sub asked.question) in
@@ -64,17 +64,17 @@ said-acted {E = E} say s asked state i h (Ok x) files device old new same index 
     (subst (λ (say : Answer → List ℕ). LeadsTelling say (act_on line.op (here s line state) state) after old new) said led)
 
 -- so is what is reported
-pub asked-acted : {X E : Type 0} (s : Setting) (asked : Asked) (state : State) (i : ℕ) (h : Here) (result : Result X E) (files : FilesText) (device : Device) (old new : List ℕ) → h ≡ here s (line_of asked) state → h.index ≡ i →
-    first_refusal (line_checks (line_of asked).op (here s (line_of asked) state)) ≡ None → OnOk result (Tells (report asked.question h.time h.device.running) (checked (form (line_of asked).op h) h) files device old new) →
-    OnOk result (LeadsTelling (told asked state.devices) (act s (line_of asked) (line_of asked).op state) (record { files = files; devices = set state.devices i device }) old new)
+pub asked-acted : {X E : Type 0} (s : Setting) (asked : Asked) (state : State) (i : ℕ) (h : Here) (result : Result X E) (files : FilesText) (device : Device) (old new : List ℕ) → h ≡ here s (session_line asked) state → h.index ≡ i →
+    first_refusal (line_checks (session_line asked).op (here s (session_line asked) state)) ≡ None → OnOk result (Tells (report asked.question h.time h.device.running) (checked (form (session_line asked).op h) h) files device old new) →
+    OnOk result (LeadsTelling (told asked state.devices) (act s (session_line asked) (session_line asked).op state) (record { files = files; devices = set state.devices i device }) old new)
 asked-acted s asked state i h result files device old new same index reached tells = said-acted (report asked.question) s asked state i h result files device old new same index reached tells
 
 -- and the time that is told
-pub asked-told : (s : Setting) (asked : Asked) (state : State) (i : ℕ) (h : Here) → h ≡ here s (line_of asked) state → h.index ≡ i → first_refusal (line_checks (line_of asked).op (here s (line_of asked) state)) ≡ None →
-    told_time asked.question h.time h.device.running (checked (form (line_of asked).op h) h).answer
-    ≡ told_time asked.question asked.time (device_at state.devices asked.sub).running (act s (line_of asked) (line_of asked).op state).answer
+pub asked-told : (s : Setting) (asked : Asked) (state : State) (i : ℕ) (h : Here) → h ≡ here s (session_line asked) state → h.index ≡ i → first_refusal (line_checks (session_line asked).op (here s (session_line asked) state)) ≡ None →
+    told_time asked.question h.time h.device.running (checked (form (session_line asked).op h) h).answer
+    ≡ told_time asked.question asked.time (device_at state.devices asked.sub).running (act s (session_line asked) (session_line asked).op state).answer
 asked-told s asked state i h same index reached =
-    let reply = checked (form (line_of asked).op h) h in
+    let reply = checked (form (session_line asked).op h) h in
     let say : ℕ → Option Running → Answer → List ℕ = λ time running answer. told_time asked.question time running answer ∷ [] in
     let ok : Result (Unit {0}) (Unit {0}) = Ok tt in
     let led = said-acted say s asked state i h ok reply.files reply.device [] (say h.time h.device.running reply.answer) same index reached (record { its_files = refl; its_device = refl; reported = refl }) in
@@ -94,9 +94,9 @@ told-refused (Codes n) time running e = refl
 told-refused (Peek from n) time running e = refl
 
 pub asked-refused : {X E : Type 0} (s : Setting) (asked : Asked) (state : State) (e : Errno) (result : Result X E) (old new : List ℕ) → Some e ≡ first_refusal (place_checks s state.files asked.file asked.sub true) →
-    OnOk result (new ≡ old ++ answer_text (Refused e)) → OnOk result (LeadsTelling (told asked state.devices) (act s (line_of asked) (line_of asked).op state) state old new)
+    OnOk result (new ≡ old ++ answer_text (Refused e)) → OnOk result (LeadsTelling (told asked state.devices) (act s (session_line asked) (session_line asked).op state) state old new)
 asked-refused s asked state e result old new refused text =
-    let line = line_of asked in
+    let line = session_line asked in
     let say : Answer → List ℕ = told asked state.devices in
     let same : say (Refused e) ≡ answer_text (Refused e) = report-refused asked.question asked.time (device_at state.devices asked.sub).running e in
     let said = subst (λ (t : List ℕ). OnOk result (new ≡ old ++ t)) (sym same) text in
@@ -104,9 +104,9 @@ asked-refused s asked state e result old new refused text =
     subst (λ (o : Outcome). OnOk result (LeadsTelling say o state old new)) (sym (asked-acts s line asked.sub asked.question state)) led
 
 pub refused-told : (s : Setting) (asked : Asked) (state : State) (e : Errno) → Some e ≡ first_refusal (place_checks s state.files asked.file asked.sub true) →
-    asked.time ≡ told_time asked.question asked.time (device_at state.devices asked.sub).running (act s (line_of asked) (line_of asked).op state).answer
+    asked.time ≡ told_time asked.question asked.time (device_at state.devices asked.sub).running (act s (session_line asked) (session_line asked).op state).answer
 refused-told s asked state e refused =
-    let line = line_of asked in
+    let line = session_line asked in
     let tells : Answer → ℕ = told_time asked.question asked.time (device_at state.devices asked.sub).running in
     let say : Answer → List ℕ = λ answer. tells answer ∷ [] in
     let ok : Result (Unit {0}) (Unit {0}) = Ok tt in
@@ -117,16 +117,16 @@ refused-told s asked state e refused =
 
 -- a question after all commands were brought to its time
 pub asked-state : (s : Setting) (asked : Asked) (state : State) (devices : List Device) (after : State) (before new : List ℕ) → devices ≡ map (brought_device asked.time) state.devices →
-    LeadsTelling (told asked devices) (act s (line_of asked) (line_of asked).op (record { files = state.files; devices = devices })) after before new →
-    after ≡ (step s (line_of asked) state).state
-asked-state s asked state devices after before new brought explained = explained.after ∙ ap (λ (ds : List Device). (act s (line_of asked) (line_of asked).op (record { files = state.files; devices = ds })).state) brought
+    LeadsTelling (told asked devices) (act s (session_line asked) (session_line asked).op (record { files = state.files; devices = devices })) after before new →
+    after ≡ (step s (session_line asked) state).state
+asked-state s asked state devices after before new brought explained = explained.after ∙ ap (λ (ds : List Device). (act s (session_line asked) (session_line asked).op (record { files = state.files; devices = ds })).state) brought
 
 pub asked-said : (s : Setting) (asked : Asked) (state : State) (devices : List Device) (after : State) (old before new : List ℕ) → devices ≡ map (brought_device asked.time) state.devices →
     before ≡ old ++ output_texts (due_from 0 asked.time state.devices) →
-    LeadsTelling (told asked devices) (act s (line_of asked) (line_of asked).op (record { files = state.files; devices = devices })) after before new →
+    LeadsTelling (told asked devices) (act s (session_line asked) (session_line asked).op (record { files = state.files; devices = devices })) after before new →
     new ≡ old ++ asked_text s asked state
 asked-said s asked state devices after old before new brought put explained =
-    let line = line_of asked in
+    let line = session_line asked in
     let outputs = output_texts (due_from 0 asked.time state.devices) in
     let said : List ℕ = report asked.question asked.time (device_at (brought_all asked.time state).devices asked.sub).running (step s line state).answer in
     explained.reported
@@ -134,7 +134,7 @@ asked-said s asked state devices after old before new brought put explained =
     ∙ append_assoc old outputs said
 
 pub asked-timed : (s : Setting) (asked : Asked) (state : State) (devices : List Device) (told : ℕ) → devices ≡ map (brought_device asked.time) state.devices →
-    told ≡ told_time asked.question asked.time (device_at devices asked.sub).running (act s (line_of asked) (line_of asked).op (record { files = state.files; devices = devices })).answer →
+    told ≡ told_time asked.question asked.time (device_at devices asked.sub).running (act s (session_line asked) (session_line asked).op (record { files = state.files; devices = devices })).answer →
     told ≡ asked_time s asked state
 asked-timed s asked state devices told brought is =
-    is ∙ ap (λ (ds : List Device). told_time asked.question asked.time (device_at ds asked.sub).running (act s (line_of asked) (line_of asked).op (record { files = state.files; devices = ds })).answer) brought
+    is ∙ ap (λ (ds : List Device). told_time asked.question asked.time (device_at ds asked.sub).running (act s (session_line asked) (session_line asked).op (record { files = state.files; devices = ds })).answer) brought

@@ -14,7 +14,7 @@ use Rattle.cm_replay.specs.State.{State, device_at}
 use Rattle.cm_replay.specs.Texts.{answer_text, codes_answer}
 use Rattle.cm_running.specs.Texts.{codes_text, count_text}
 use Rattle.cm_text.specs.declared.end.End.{End}
-use Rattle.cm_dialogue.specs.Asked.{awaits, line_of}
+use Rattle.cm_dialogue.specs.Asked.{awaits, session_line}
 use Rattle.cm_dialogue.specs.declared.asked.Asked.{Asked}
 use Rattle.cm_dialogue.specs.declared.asked.Fetch.{Fetch}
 use Rattle.cm_dialogue.specs.declared.asked.Question.{Question}
@@ -46,8 +46,8 @@ asked_about asked state = (device_at (brought_all asked.time state).devices aske
 -- what is written for a question: what was put out by its time, and what is reported
 abbrev pub asked_text : Setting → Asked → State → List ℕ
 asked_text s asked state =
-    output_texts (step s (line_of asked) state).outputs
-    ++ report asked.question asked.time (asked_about asked state) (step s (line_of asked) state).answer
+    output_texts (step s (session_line asked) state).outputs
+    ++ report asked.question asked.time (asked_about asked state) (step s (session_line asked) state).answer
 
 -- the time that a question tells: where an await is answered, that of its answer, and else its own
 abbrev pub told_time : Question → ℕ → Option Running → Answer → ℕ
@@ -57,7 +57,7 @@ told_time question time running answer = time
 -- the time that a question tells, asked in this state
 abbrev pub asked_time : Setting → Asked → State → ℕ
 asked_time s asked state =
-    told_time asked.question asked.time (asked_about asked state) (step s (line_of asked) state).answer
+    told_time asked.question asked.time (asked_about asked state) (step s (session_line asked) state).answer
 
 -- that time is the one that the await tells, and neither before the fetch nor after the horizon
 abbrev pub taking_time : Setting → Fetch → State → ℕ

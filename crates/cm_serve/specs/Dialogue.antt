@@ -4,18 +4,19 @@ use Rattle.cm_base.specs.Lines.{LineText, lines_of}
 use Rattle.cm_base.specs.Reading.{at_line}
 use Rattle.cm_base.specs.declared.faults.Refused.{Refused}
 use Rattle.cm_board_text.specs.Printed.{printed_board}
-use Rattle.cm_dialogue.specs.Asked.{awaits, line_of, takes}
+use Rattle.cm_dialogue.specs.Asked.{awaits, session_line, takes}
 use Rattle.cm_serve.specs.Asking.{asked_text, taking_time}
 use Rattle.cm_text.specs.Declined.{refused_text}
 use Rattle.cm_serve.specs.Playing.{Play, bounds_at, line_text}
 use Rattle.cm_serve.specs.Playing as playing
+use Rattle.cm_serve.specs.Subdevices.{subdevices_text}
 use Rattle.cm_test.specs.Testing.{test_answer}
 use Rattle.cm_dialogue.specs.Lines.{said_by}
 use Rattle.cm_dialogue.specs.Turns.{Turn, Line, Answer}
 use Rattle.cm_dialogue.specs.declared.asked.Asked.{Asked}
 use Rattle.cm_dialogue.specs.declared.asked.Fetch.{Fetch}
-use Rattle.cm_dialogue.specs.declared.said.Said.{Said}
-use Rattle.cm_dialogue.specs.declared.said.Said.TheVariants as says
+use Rattle.cm_dialogue.specs.declared.dialogue_line.DialogueLine.{DialogueLine}
+use Rattle.cm_dialogue.specs.declared.dialogue_line.DialogueLine.TheVariants as says
 
 -- an answer, and how the session stands after it
 pub record Reply : Type 0 where
@@ -28,7 +29,7 @@ unchanged p text = record { text = text; play = p }
 
 -- a question has the effect of its line
 abbrev pub asked_reply : Play → Asked → Reply
-asked_reply p asked = record { text = asked_text p.setting asked p.state; play = playing.played p (line_of asked) }
+asked_reply p asked = record { text = asked_text p.setting asked p.state; play = playing.played p (session_line asked) }
 
 -- a reply, and what is asked after it
 abbrev pub then_asked : Reply → Asked → Reply
@@ -42,15 +43,16 @@ abbrev pub fetched : Play → Fetch → Reply
 fetched p fetch = then_asked (asked_reply p (awaits fetch)) (takes (taking_time p.setting fetch p.state) fetch)
 
 -- the answer to what a line says
-abbrev pub replied : Play → Said → Reply
+abbrev pub replied : Play → DialogueLine → Reply
 replied p (says.Session line) = record { text = line_text p line; play = playing.played p line }
 replied p (says.Question asked) = asked_reply p asked
 replied p (says.Fetch fetch) = fetched p fetch
 replied p (says.Test cmd) = unchanged p (test_answer p.setting.board cmd)
 replied p says.Describe = unchanged p (printed_board p.setting.board ++ codes "ok\n")
+replied p says.Subdevices = unchanged p (subdevices_text p.setting.board)
 
 -- a line that is refused changes nothing
-abbrev pub replied_if : Play → Result Said Refused → Reply
+abbrev pub replied_if : Play → Result DialogueLine Refused → Reply
 replied_if p (Ok said) = replied p said
 replied_if p (Err refused) = unchanged p (refused_text refused)
 

@@ -8,7 +8,7 @@ use Rattle.cm_signal.specs.Setting.{Setting}
 use Rattle.cm_session.specs.Limits.{InOrder}
 use Rattle.cm_session.specs.SessionPart.{session_of}
 use Rattle.cm_session.specs.declared.op.SessionLine.{SessionLine}
-use Rattle.cm_dialogue.specs.Asked.{awaits, line_of, takes}
+use Rattle.cm_dialogue.specs.Asked.{awaits, session_line, takes}
 use Rattle.cm_serve.specs.Asking.{taking_time}
 use Rattle.cm_serve.specs.Playing.{Play, bounds_at, first_play, line_text, played}
 use Rattle.cm_replay.specs.Texts.{replay_text, texts_from}
@@ -17,8 +17,8 @@ use Rattle.cm_serve.specs.Dialogue.{dialogue, next_number, reply}
 use Rattle.cm_dialogue.specs.Lines.{said_by}
 use Rattle.cm_dialogue.specs.Turns.{Turn, Answer, Line}
 use Rattle.cm_dialogue.specs.declared.asked.Fetch.{Fetch}
-use Rattle.cm_dialogue.specs.declared.said.Said.{Said}
-use Rattle.cm_dialogue.specs.declared.said.Said.TheVariants as says
+use Rattle.cm_dialogue.specs.declared.dialogue_line.DialogueLine.{DialogueLine}
+use Rattle.cm_dialogue.specs.declared.dialogue_line.DialogueLine.TheVariants as says
 
 -- the answers, one after another
 abbrev pub answers : List Turn → List ℕ
@@ -34,23 +34,25 @@ AnswersAsReplay =
     → answers (dialogue (first_play s) first lines) ≡ replay_text s all
 
 -- what a client's line says, unless it is refused, empty or a comment
-abbrev pub said_in : Play → List LineText → Option Said
+abbrev pub said_in : Play → List LineText → Option DialogueLine
 said_in p [] = None
 said_in p (line ∷ rest) = result_ok (said_by (bounds_at p) p.latest line)
 
 -- the record of a fetch: the lines that its two questions are in other words
 abbrev pub lines_of_fetch : Play → Fetch → List SessionLine
-lines_of_fetch p fetch = line_of (awaits fetch) ∷ line_of (takes (taking_time p.setting fetch p.state) fetch) ∷ []
+lines_of_fetch p fetch =
+    session_line (awaits fetch) ∷ session_line (takes (taking_time p.setting fetch p.state) fetch) ∷ []
 
 -- the record of a client's line: itself where it is one of the session,
 -- and of a question the line that it is in other words
-abbrev pub record_of : Play → Option Said → List SessionLine
+abbrev pub record_of : Play → Option DialogueLine → List SessionLine
 record_of p None = []
 record_of p (Some (says.Session line)) = line ∷ []
-record_of p (Some (says.Question asked)) = line_of asked ∷ []
+record_of p (Some (says.Question asked)) = session_line asked ∷ []
 record_of p (Some (says.Fetch fetch)) = lines_of_fetch p fetch
 record_of p (Some (says.Test cmd)) = []
 record_of p (Some says.Describe) = []
+record_of p (Some says.Subdevices) = []
 
 -- the record of a dialogue from here on; the first line has this number
 abbrev pub recorded : Play → ℕ → List (List ℕ) → List SessionLine
@@ -70,13 +72,14 @@ played_all p (line ∷ lines) = played_all (played p line) lines
 
 -- the answer to the record of a client's line: its own answer where it is one of the session,
 -- and of a question that to the line in its place
-abbrev pub answer_of : Play → List ℕ → Option Said → List ℕ
+abbrev pub answer_of : Play → List ℕ → Option DialogueLine → List ℕ
 answer_of p text None = []
 answer_of p text (Some (says.Session line)) = text
-answer_of p text (Some (says.Question asked)) = line_text p (line_of asked)
+answer_of p text (Some (says.Question asked)) = line_text p (session_line asked)
 answer_of p text (Some (says.Fetch fetch)) = texts_from p.setting p.state (lines_of_fetch p fetch)
 answer_of p text (Some (says.Test cmd)) = []
 answer_of p text (Some says.Describe) = []
+answer_of p text (Some says.Subdevices) = []
 
 -- those answers, one after another
 abbrev pub recorded_answers : Play → ℕ → List (List ℕ) → List ℕ

@@ -7,3 +7,4 @@ pub mod PlayingView
 pub mod Served
 pub mod Serving
 pub mod Soonest
+pub mod Subdevices

@@ -1,7 +1,7 @@
 // What is reported to a client between the lines of a session.
 ghost use Rattle.std.specs.Prelude.{◌≡◌, ◌<◌, ◌++◌, length, None, IfOk, OnOk};
 ghost use Rattle.std.specs.List.{All};
-ghost use Rattle.cm_dialogue.specs.Asked.{asked_op, line_of};
+ghost use Rattle.cm_dialogue.specs.Asked.{asked_op, session_line};
 ghost use Rattle.cm_serve.specs.Asking.{asked_text, asked_time, info_text, report, told_time};
 ghost use Rattle.cm_running.specs.Awaiting.{await_time};
 ghost use Rattle.cm_running.specs.Reading.{peeked};
@@ -103,9 +103,9 @@ fn ask_on<'a>(
     seats: &mut Vec<Seat<'a>>,
     text: &mut Vec<u8>,
 ) -> Result<u64, NoMemory>
-    requires { CanStep setting.now (line_of asked.now) None (record { files = files.old; devices = seats.old.items }) }
-    ensures text { OnOk result (LeadsTelling (report asked.now.question asked.now.time (device_at seats.old.items asked.now.sub).running) (session.act setting.now (line_of asked.now) (line_of asked.now).op (record { files = files.old; devices = seats.old.items })) (record { files = files.new; devices = seats.new.items }) text.old.items text.new.items) }
-    ensures time { IfOk result (λ told. told ≡ told_time asked.now.question asked.now.time (device_at seats.old.items asked.now.sub).running (session.act setting.now (line_of asked.now) (line_of asked.now).op (record { files = files.old; devices = seats.old.items })).answer) }
+    requires { CanStep setting.now (session_line asked.now) None (record { files = files.old; devices = seats.old.items }) }
+    ensures text { OnOk result (LeadsTelling (report asked.now.question asked.now.time (device_at seats.old.items asked.now.sub).running) (session.act setting.now (session_line asked.now) (session_line asked.now).op (record { files = files.old; devices = seats.old.items })) (record { files = files.new; devices = seats.new.items }) text.old.items text.new.items) }
+    ensures time { IfOk result (λ told. told ≡ told_time asked.now.question asked.now.time (device_at seats.old.items asked.now.sub).running (session.act setting.now (session_line asked.now) (session_line asked.now).op (record { files = files.old; devices = seats.old.items })).answer) }
 {
     let index = asked.sub;
     let at = match At::reach(setting, files, asked.time, asked.file, index, true) {
@@ -136,8 +136,8 @@ pub(crate) fn ask<'a>(
     text: &mut Vec<u8>,
 ) -> Result<u64, NoMemory>
     requires come { All (HasCome asked.now.time) seats.old.items }
-    requires can { CanStep setting.now (line_of asked.now) None (session.brought_all asked.now.time (record { files = files.old; devices = seats.old.items })) }
-    ensures after { OnOk result (record { files = files.new; devices = seats.new.items } ≡ (session.step setting.now (line_of asked.now) (record { files = files.old; devices = seats.old.items })).state) }
+    requires can { CanStep setting.now (session_line asked.now) None (session.brought_all asked.now.time (record { files = files.old; devices = seats.old.items })) }
+    ensures after { OnOk result (record { files = files.new; devices = seats.new.items } ≡ (session.step setting.now (session_line asked.now) (record { files = files.old; devices = seats.old.items })).state) }
     ensures text { OnOk result (text.new.items ≡ text.old.items ++ asked_text setting.now asked.now (record { files = files.old; devices = seats.old.items })) }
     ensures time { IfOk result (λ told. told ≡ asked_time setting.now asked.now (record { files = files.old; devices = seats.old.items })) }
 {

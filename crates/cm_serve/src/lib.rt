@@ -9,3 +9,4 @@ pub mod playing;
 pub mod replying;
 pub mod serving;
 pub mod standing;
+pub mod subdevices;

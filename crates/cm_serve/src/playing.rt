@@ -2,7 +2,7 @@
 ghost use Rattle.std.specs.Prelude.{◌≡◌, ◌≤◌, ◌++◌, IfOk};
 ghost use Rattle.cm_session.specs.Limits.{IsLimited};
 ghost use Rattle.cm_signal.specs.Fitting.{FitBoard};
-ghost use Rattle.cm_dialogue.specs.Asked.{line_of};
+ghost use Rattle.cm_dialogue.specs.Asked.{session_line};
 ghost use Rattle.cm_serve.specs.Asking.{asked_time};
 ghost use Rattle.cm_serve.specs.Dialogue.{asked_reply, fetched};
 ghost use Rattle.cm_serve.specs.Playing.{bounds_at, first_play, line_text, played};
@@ -135,7 +135,7 @@ impl<'a> Playing<'a> {
         text: &mut Vec<u8>,
     ) -> Result<Playing<'a>, NoMemory>
         requires order { self.latest ≤ asked.now.time }
-        requires limits { IsLimited self.setting.signals.horizon (line_of asked.now) }
+        requires limits { IsLimited self.setting.signals.horizon (session_line asked.now) }
         ensures after { IfOk result (λ p. p ≡ (asked_reply self.entry asked.now).play) }
         ensures text { IfOk result (λ _. text.new.items ≡ text.old.items ++ (asked_reply self.entry asked.now).text) }
     {
@@ -170,7 +170,7 @@ impl<'a> Playing<'a> {
         text: &mut Vec<u8>,
     ) -> Result<(Playing<'a>, u64), NoMemory>
         requires order { self.latest ≤ asked.now.time }
-        requires limits { IsLimited self.setting.signals.horizon (line_of asked.now) }
+        requires limits { IsLimited self.setting.signals.horizon (session_line asked.now) }
         ensures after { IfOk result (λ r. r.0 ≡ (asked_reply self.entry asked.now).play) }
         ensures text { IfOk result (λ _. text.new.items ≡ text.old.items ++ (asked_reply self.entry asked.now).text) }
         ensures time { IfOk result (λ r. r.1 ≡ asked_time self.entry.setting asked.now self.entry.state) }

@@ -10,13 +10,14 @@ ghost use Rattle.cm_dialogue.specs.Reading.{IsFit};
 
 use crate::kept::Kept;
 use crate::playing::Playing;
+use crate::subdevices::put_subdevices;
 use cm_base::faults::{Fault, ReadStop, Refused};
 use cm_base::lines::{Line, split_lines};
 use cm_base::transfer::NoMemory;
 use cm_board::board::BoardDesc;
 use cm_board_text::printing::print_board;
+use cm_dialogue::dialogue_line::DialogueLine;
 use cm_dialogue::reading::read_said;
-use cm_dialogue::said::Said;
 use cm_replay::trying::try_line;
 use cm_session::op::SessionLine;
 use cm_test::testing::put_answer;
@@ -69,7 +70,7 @@ fn put_said<'a, R: Wait>(
     alloc: Global,
     kept: &'a Kept,
     playing: Playing<'a>,
-    said: &Said,
+    said: &DialogueLine,
     text: &mut Vec<u8>,
 ) -> Result<Playing<'a>, NoMemory>
     requires { IsFit playing.setting.signals.horizon playing.latest said.now }
@@ -77,15 +78,19 @@ fn put_said<'a, R: Wait>(
     ensures text { IfOk result (λ _. text.new.items ≡ text.old.items ++ (replied playing.entry said.now).text) }
 {
     match said {
-        Said::Session(line) => put_line(rt, alloc, kept, playing, line, text),
-        Said::Question(asked) => playing.ask(alloc, asked, text),
-        Said::Fetch(fetch) => playing.fetch(alloc, fetch, text),
-        Said::Test(cmd) => {
+        DialogueLine::Session(line) => put_line(rt, alloc, kept, playing, line, text),
+        DialogueLine::Question(asked) => playing.ask(alloc, asked, text),
+        DialogueLine::Fetch(fetch) => playing.fetch(alloc, fetch, text),
+        DialogueLine::Test(cmd) => {
             put_answer(alloc, text, playing.board(), cmd.cmd())?;
             Ok(playing)
         }
-        Said::Describe => {
+        DialogueLine::Describe => {
             put_board(alloc, playing.board(), text)?;
+            Ok(playing)
+        }
+        DialogueLine::Subdevices => {
+            put_subdevices(text, playing.board())?;
             Ok(playing)
         }
     }

@@ -3,7 +3,7 @@ use Rattle.cm_base.specs.LineView.{line_view}
 use Rattle.cm_base.proofs.Refusal.{gives_err}
 use Rattle.cm_session.proofs.Then.{then_reads, then_stops}
 use Rattle.cm_session.specs.SessionPart.{line_after}
-use Rattle.cm_dialogue.specs.declared.said.Said.TheVariants as says
+use Rattle.cm_dialogue.specs.declared.dialogue_line.DialogueLine.TheVariants as says
 use Rattle.cm_dialogue.proofs.reading.read_next.Goals as goal
 
 pub returns-in_err-next-clause-value : goal.returns-in_err-next-clause-value

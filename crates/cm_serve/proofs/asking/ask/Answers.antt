@@ -1,13 +1,13 @@
 use Rattle.std.proofs.Common.{List, None, sym, subst}
 use Rattle.std.proofs.lemmas.Result.{IfOk-weaker, on_ok_weaker}
-use Rattle.cm_dialogue.specs.Asked.{line_of}
+use Rattle.cm_dialogue.specs.Asked.{session_line}
 use Rattle.cm_replay.specs.Replies.{CanStep}
 use Rattle.cm_replay.specs.State.{Device, State}
 use Rattle.cm_serve.proofs.Reports.{asked-said, asked-state, asked-timed}
 use Rattle.cm_serve.proofs.asking.ask.Goals as goal
 
 pub ask_on-requires : goal.ask_on-requires
-ask_on-requires c = subst (λ (ds : List Device). CanStep c.args.setting.now (line_of c.args.asked.now) None (record { files = c.args.files.now; devices = ds })) (sym c.in_ok-bring_all.ensures.after) c.requires.can
+ask_on-requires c = subst (λ (ds : List Device). CanStep c.args.setting.now (session_line c.args.asked.now) None (record { files = c.args.files.now; devices = ds })) (sym c.in_ok-bring_all.ensures.after) c.requires.can
 
 pub returns-clause-after : goal.returns-clause-after
 returns-clause-after c =

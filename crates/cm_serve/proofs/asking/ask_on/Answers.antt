@@ -1,7 +1,7 @@
 use Rattle.std.proofs.Common.{◌≡◌, sym, ◌∙◌, subst, None, Result, Ok, IfOk, OnOk}
 use Rattle.std.proofs.lemmas.Result.{IfOk-weaker}
 use Rattle.cm_replay.specs.Forms.{form}
-use Rattle.cm_dialogue.specs.Asked.{asked_op, line_of}
+use Rattle.cm_dialogue.specs.Asked.{asked_op, session_line}
 use Rattle.cm_serve.specs.Asking.{report, told_time}
 use Rattle.cm_replay.specs.Replies.{CanAct, Tells, checked, here_at}
 use Rattle.cm_replay.specs.State.{State}
@@ -20,7 +20,7 @@ report-requires c =
     let named = sym (asked-sub asked.sub asked.question) in
     let passed = asked-found s asked state c.in-Ok.ensures.refusal in
     subst (λ i. CanAct at (asked_op i asked.question) None state.files d) (sym place.index)
-    (can-act s (line_of asked) None state at d c.requires (same-here s (line_of asked) state at d asked.sub named place c.requires.many.places c.index_mut.ensures.value) passed)
+    (can-act s (session_line asked) None state at d c.requires (same-here s (session_line asked) state at d asked.sub named place c.requires.many.places c.index_mut.ensures.value) passed)
 
 pub returns-clause-text : goal.returns-clause-text
 returns-clause-text c =
@@ -36,7 +36,7 @@ returns-clause-text c =
     let told = subst (λ i. OnOk c.report.result (Tells (report asked.question h.time h.device.running) (checked (form (asked_op i asked.question) h) h) c.report.new.files c.report.new.seat old c.report.new.text.items))
     place.index c.report.ensures.text in
     asked-acted s asked state asked.sub h c.report.result c.report.new.files c.report.new.seat old c.report.new.text.items
-    (same-here s (line_of asked) state at d asked.sub named place c.requires.many.places c.index_mut.ensures.value) place.index (asked-found s asked state c.in-Ok.ensures.refusal) told
+    (same-here s (session_line asked) state at d asked.sub named place c.requires.many.places c.index_mut.ensures.value) place.index (asked-found s asked state c.in-Ok.ensures.refusal) told
 
 pub returns-clause-time : goal.returns-clause-time
 returns-clause-time c =
@@ -49,7 +49,7 @@ returns-clause-time c =
     let named = sym (asked-sub asked.sub asked.question) in
     let h = here_at at state.files d in
     let told = subst (λ i. IfOk c.report.result (λ told. told ≡ told_time asked.question h.time h.device.running (checked (form (asked_op i asked.question) h) h).answer)) place.index c.report.ensures.time in
-    let led = asked-told s asked state asked.sub h (same-here s (line_of asked) state at d asked.sub named place c.requires.many.places c.index_mut.ensures.value) place.index (asked-found s asked state c.in-Ok.ensures.refusal) in
+    let led = asked-told s asked state asked.sub h (same-here s (session_line asked) state at d asked.sub named place c.requires.many.places c.index_mut.ensures.value) place.index (asked-found s asked state c.in-Ok.ensures.refusal) in
     IfOk-weaker c.report.result _ _ (λ told is. is ∙ led) told
 
 pub returns-in-Err-clause-text : goal.returns-in-Err-clause-text

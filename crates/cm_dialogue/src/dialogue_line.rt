@@ -5,7 +5,7 @@ use cm_session::op::{BoxedCmd, SessionLine};
 
 /// What a line says.
 #[derive(Drop)]
-pub enum Said {
+pub enum DialogueLine {
     /// A line of a session.
     Session(SessionLine),
     /// A question about a subdevice.
@@ -16,4 +16,6 @@ pub enum Said {
     Test(BoxedCmd),
     /// The board is to be described.
     Describe,
+    /// Its subdevices are to be told in numbers (Comedi: `comedi_subdinfo` and its kin).
+    Subdevices,
 }
