@@ -1,19 +1,46 @@
 // The words with which the program is called.
-ghost use Rattle.std.specs.Prelude.{◌≡◌, ◌≢◌, [], drop, IfOk, IsErrOf, MatchResult, alloc_error};
+ghost use Rattle.std.specs.Prelude.{◌≡◌, ◌≢◌, [], drop, IfErr, IfOk};
 ghost use Rattle.std.specs.IoError.{error_kind};
 ghost use Rattle.std.specs.Vec.Iter.{into_iter_items};
-ghost use Rattle.cm_cli.specs.Asked.{Misses};
+ghost use Rattle.cm_cli.specs.Answers.{end_at};
+ghost use Rattle.cm_cli.specs.Asked.{AnswersAsked, Misses, words_given};
+ghost use Rattle.cm_cli.specs.Commands.{call_of};
 
+use crate::comedi::comedi;
+use crate::status::Status;
+use cm_base::gate::Gate;
+use cm_base::outside::{Sink, Source};
 use std::alloc::{AllocError, Global};
 use std::env::Args;
 use std::io;
+use std::sync::Wait;
+use std::thread::Threads;
 
-/// The words after the program's name, from what the process was given. Where one of them isn't
-/// UTF-8 there are none, since such a word names no command.
-pub fn words_after_name(alloc: Global, given: io::Result<Args>) -> Result<Vec<String>, AllocError>
-    ensures { MatchResult given
-        (λ all. IfOk result (λ words. words.items ≡ drop 1 (into_iter_items all)))
-        (λ error. Misses (error_kind error) result) }
+/// Does as `comedi` by the words that the process was given, of which the first is its name. Where one
+/// of them isn't UTF-8 they name no command, and where there is no memory for them nothing is read or
+/// written.
+pub fn comedi_as_asked<R: Threads + Wait + Sync, S: Source, K: Sink, G: Gate + Sync>(
+    rt: &R,
+    alloc: Global,
+    given: io::Result<Args>,
+    source: &mut S,
+    sink: &mut K,
+    gate: &G,
+) -> Status
+    ensures { AnswersAsked (call_of (words_given given)) result
+        (end_at (S.left source.old) (S.faults source.old)) (end_at (S.left source.new) (S.faults source.new))
+        (end_at (K.text sink.old) (K.faults sink.old)) (end_at (K.text sink.new) (K.faults sink.new)) }
+{
+    match words_after_name(alloc, given) {
+        Ok(words) => comedi(rt, alloc, &words, source, sink, gate),
+        Err(_) => Status::NoMemory,
+    }
+}
+
+// The words after the program's name, and none where they can't be read.
+fn words_after_name(alloc: Global, given: io::Result<Args>) -> Result<Vec<String>, AllocError>
+    ensures words { IfOk result (λ words. words.items ≡ words_given given) }
+    ensures missing { IfErr given (λ error. Misses (error_kind error) result) }
 {
     match given {
         Ok(all) => after_first(alloc, all),
@@ -30,7 +57,8 @@ fn after_first(alloc: Global, all: Args) -> Result<Vec<String>, AllocError>
 
 // What there is in place of words that can't be had.
 fn missing(alloc: Global, kind: io::ErrorKind) -> Result<Vec<String>, AllocError>
-    ensures { Misses kind result }
+    ensures none { IfOk result (λ words. words.items ≡ []) }
+    ensures missing { Misses kind result }
 {
     if kind == io::ErrorKind::OutOfMemory {
         Err(AllocError)

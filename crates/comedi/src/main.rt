@@ -1,32 +1,34 @@
 // The program: the top call over the process's own words, input and output.
 #![tactic(auto)]
 
+ghost use Rattle.std.specs.Prelude.{◌≤◌};
+ghost use Rattle.std.specs.Process.{exit_status};
+
 use cm_base::gate::OpenGate;
 use cm_base::standard::{StdSink, StdSource};
-use cm_cli::asked::words_after_name;
-use cm_cli::comedi::comedi;
-use cm_cli::status::{Status, exit_status};
+use cm_cli::asked::comedi_as_asked;
+use cm_cli::status::exit_status;
 use std::process::ExitCode;
 use std::sync::Wait;
 use std::thread::Threads;
 use std::{env, io};
 
 fn main(rt: HostRuntime) -> ExitCode {
-    ExitCode::from(exit_status(run(&rt, &rt)))
+    run(&rt, &rt)
 }
 
-fn run<R: Threads + Wait + Sync>(rt: &HostRuntime, threads: &R) -> Status {
-    let Ok(words) = words_after_name(rt.alloc(), env::args(rt)) else {
-        return Status::NoMemory;
-    };
+fn run<R: Threads + Wait + Sync>(rt: &HostRuntime, threads: &R) -> ExitCode
+    ensures { exit_status result ≤ 5 }
+{
     let mut source = StdSource::new(rt.reader());
     let mut sink = StdSink::new(io::writer(rt));
-    comedi(
+    let status = comedi_as_asked(
         threads,
         rt.alloc(),
-        &words,
+        env::args(rt),
         &mut source,
         &mut sink,
         &OpenGate,
-    )
+    );
+    ExitCode::from(exit_status(status))
 }
