@@ -3,10 +3,9 @@ ghost use Rattle.std.specs.Prelude.{◌≡◌};
 ghost use Rattle.cm_board.specs.BoardTable.{board_table};
 ghost use Rattle.cm_board.specs.Table.{table_text};
 
-use crate::rows::ROWS;
-use crate::table::{Form, Limits, Rule, Table, Word};
+use crate::table::{Form, Limits, Row, Rule, Table, Word};
 use crate::words::{CONVERTS, FIELD, FOLLOWING, SCAN_BEGINS, SCAN_ENDS, STARTS, STOPS, TIME};
-use crate::{channel_lines, munge};
+use crate::{channel_lines, munge, rows};
 
 /// The bits of a code.
 pub const BITS: usize = 0;
@@ -156,6 +155,36 @@ pub const CHAN_MUNGE_NONE: usize = CHAN_BITS_FORM + 1;
 pub const CHAN_RANGE_FORM: usize = CHAN_MUNGE_NONE + munge::COUNT;
 
 const FORM_COUNT: usize = CHAN_RANGE_FORM + 1;
+
+// In the order in which the lines are printed.
+static ROWS: [Row; ROW_COUNT] = [
+    rows::EACH,
+    rows::MUNGE,
+    rows::RANGES,
+    rows::NEEDED,
+    rows::NEEDED,
+    rows::NEEDED,
+    rows::NEEDED,
+    rows::NEEDED,
+    rows::SCANS,
+    rows::LINES,
+    rows::NEEDED,
+    rows::ONCE,
+    rows::SIXTEEN,
+    rows::SECOND,
+    rows::INPUT,
+    rows::WIDE,
+    rows::WIDE,
+    rows::WIDE,
+    rows::WIDE,
+    rows::WIDE,
+    rows::WIDE,
+    rows::WIDE,
+    rows::WIDE,
+    channel_lines::ONE,
+    channel_lines::ONE,
+    channel_lines::RANGES,
+];
 
 static FORMS: [Form; FORM_COUNT] = [
     Form {

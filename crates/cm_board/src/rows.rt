@@ -1,11 +1,40 @@
-// The rows of the lines of a block, in the order in which they are printed.
+// The kinds of rows: where a line may stand, how often, and what holds without it.
 
-use crate::channel_lines;
-use crate::lines::{LINES_FORM, MUNGE_NONE, ROW_COUNT, SCANS_FORM};
+use crate::lines::{LINES_FORM, MUNGE_NONE, SCANS_FORM};
 use crate::table::{Absent, Place, Row};
 
-// A line that each block with commands needs, once.
-const NEEDED: Row = Row {
+/// A line that each block needs, once.
+pub(crate) const EACH: Row = Row {
+    most: 1,
+    wide: 1,
+    since: 1,
+    place: Place::Any,
+    absent: Absent::Missing,
+    of_channel: false,
+};
+
+/// The munge, which is none where no line says it.
+pub(crate) const MUNGE: Row = Row {
+    most: 1,
+    wide: 1,
+    since: 1,
+    place: Place::Any,
+    absent: Absent::Stands(MUNGE_NONE),
+    of_channel: false,
+};
+
+/// The ranges.
+pub(crate) const RANGES: Row = Row {
+    most: 16,
+    wide: 32,
+    since: 1,
+    place: Place::Any,
+    absent: Absent::Missing,
+    of_channel: false,
+};
+
+/// A line that each block with commands needs, once.
+pub(crate) const NEEDED: Row = Row {
     most: 1,
     wide: 1,
     since: 1,
@@ -14,8 +43,68 @@ const NEEDED: Row = Row {
     of_channel: false,
 };
 
-// A line of the wider texts that a block with commands may have, once.
-const WIDE: Row = Row {
+/// The greatest stop count, a million where no line says it.
+pub(crate) const SCANS: Row = Row {
+    most: 1,
+    wide: 1,
+    since: 1,
+    place: Place::Commands,
+    absent: Absent::Says(SCANS_FORM, 1_000_000),
+    of_channel: false,
+};
+
+/// The number of external lines, none where no line says it.
+pub(crate) const LINES: Row = Row {
+    most: 1,
+    wide: 1,
+    since: 1,
+    place: Place::Commands,
+    absent: Absent::Says(LINES_FORM, 0),
+    of_channel: false,
+};
+
+/// A line that a block with commands may have, once.
+pub(crate) const ONCE: Row = Row {
+    most: 1,
+    wide: 1,
+    since: 1,
+    place: Place::Commands,
+    absent: Absent::Nothing,
+    of_channel: false,
+};
+
+/// A line that a block with commands may have 16 times.
+pub(crate) const SIXTEEN: Row = Row {
+    most: 16,
+    wide: 16,
+    since: 1,
+    place: Place::Commands,
+    absent: Absent::Nothing,
+    of_channel: false,
+};
+
+/// A line of version 2 that a block with commands may have, once.
+pub(crate) const SECOND: Row = Row {
+    most: 1,
+    wide: 1,
+    since: 2,
+    place: Place::Commands,
+    absent: Absent::Nothing,
+    of_channel: false,
+};
+
+/// A line of version 2 that an input with commands may have, once.
+pub(crate) const INPUT: Row = Row {
+    most: 1,
+    wide: 1,
+    since: 2,
+    place: Place::Inputs,
+    absent: Absent::Nothing,
+    of_channel: false,
+};
+
+/// A line of the wider texts that a block with commands may have, once.
+pub(crate) const WIDE: Row = Row {
     most: 1,
     wide: 1,
     since: 3,
@@ -23,108 +112,3 @@ const WIDE: Row = Row {
     absent: Absent::Nothing,
     of_channel: false,
 };
-
-pub(crate) static ROWS: [Row; ROW_COUNT] = [
-    // bits
-    Row {
-        most: 1,
-        wide: 1,
-        since: 1,
-        place: Place::Any,
-        absent: Absent::Missing,
-        of_channel: false,
-    },
-    // munge
-    Row {
-        most: 1,
-        wide: 1,
-        since: 1,
-        place: Place::Any,
-        absent: Absent::Stands(MUNGE_NONE),
-        of_channel: false,
-    },
-    // range
-    Row {
-        most: 16,
-        wide: 32,
-        since: 1,
-        place: Place::Any,
-        absent: Absent::Missing,
-        of_channel: false,
-    },
-    // sources, tick, scan, convert, list
-    NEEDED,
-    NEEDED,
-    NEEDED,
-    NEEDED,
-    NEEDED,
-    // scans
-    Row {
-        most: 1,
-        wide: 1,
-        since: 1,
-        place: Place::Commands,
-        absent: Absent::Says(SCANS_FORM, 1_000_000),
-        of_channel: false,
-    },
-    // lines
-    Row {
-        most: 1,
-        wide: 1,
-        since: 1,
-        place: Place::Commands,
-        absent: Absent::Says(LINES_FORM, 0),
-        of_channel: false,
-    },
-    // buffer
-    NEEDED,
-    // samerange
-    Row {
-        most: 1,
-        wide: 1,
-        since: 1,
-        place: Place::Commands,
-        absent: Absent::Nothing,
-        of_channel: false,
-    },
-    // forbid
-    Row {
-        most: 16,
-        wide: 16,
-        since: 1,
-        place: Place::Commands,
-        absent: Absent::Nothing,
-        of_channel: false,
-    },
-    // invert
-    Row {
-        most: 1,
-        wide: 1,
-        since: 2,
-        place: Place::Commands,
-        absent: Absent::Nothing,
-        of_channel: false,
-    },
-    // fifo
-    Row {
-        most: 1,
-        wide: 1,
-        since: 2,
-        place: Place::Inputs,
-        absent: Absent::Nothing,
-        of_channel: false,
-    },
-    // clock, rounds, halfdown, perchan, scanfits, channels, samearef, samepolarity
-    WIDE,
-    WIDE,
-    WIDE,
-    WIDE,
-    WIDE,
-    WIDE,
-    WIDE,
-    WIDE,
-    // chan C bits, chan C munge, chan C range
-    channel_lines::ONE,
-    channel_lines::ONE,
-    channel_lines::RANGES,
-];
