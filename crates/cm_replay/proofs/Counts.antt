@@ -1,5 +1,5 @@
 -- How many subdevices and claims a session has stays.
-use Rattle.std.proofs.Common.{◌≡◌, ℕ, suc, Bool, List, [], ◌∷◌, ◌++◌, length, refl, ap, ◌∙◌, length-set, Option, Some, None}
+use Rattle.std.proofs.Common.{◌≡◌, ℕ, suc, List, [], ◌∷◌, ◌++◌, length, refl, ap, ◌∙◌, length-set, Option, Some, None}
 use Rattle.std.proofs.lemmas.List.{length-map}
 use Rattle.cm_signal.specs.Setting.{Setting}
 use Rattle.cm_insn.specs.Insn.{time_words}

@@ -1,18 +1,16 @@
 -- What each form of line does is well.
 use Rattle.std.proofs.Common.{◌≡◌, ℕ, ◌<◌, ◌≤◌, Bool, true, false, refl, sym, ap, ◌∙◌, arith, subst, Option, Some, None}
-use Rattle.std.proofs.lemmas.Bool.{eqb-true}
 use Rattle.cm_board.specs.Board.{SubText, is_output}
 use Rattle.cm_cmd.specs.Command.{CmdText}
-use Rattle.cm_insn.specs.Insn.{Done}
 use Rattle.cm_signal.specs.Signals.{SignalsText}
 use Rattle.cm_sub.specs.Checks.{first_refusal}
 use Rattle.cm_sub.specs.declared.errno.Errno.TheVariants.{Inval}
 use Rattle.cm_test.specs.Questions.{tested}
-use Rattle.cm_replay.specs.Answers.{Answer, Ended, Reply}
+use Rattle.cm_replay.specs.Answers.{Ended, Reply}
 use Rattle.cm_replay.specs.Calling.{insn_here}
 use Rattle.cm_replay.specs.Forms.{Form, checks_of, reply_of}
 use Rattle.cm_replay.specs.Law.{History, Keeps, Wiring, no_history}
-use Rattle.cm_replay.specs.Moves.{Act, Cancel, Count, Do, Fill, Instruct, Lock, Look, Map, Mark, Move, Release, Serve, Start, Take, Trigger, Unlock, Write, act_reply, acted, move_checks, move_reply, told, told_idle}
+use Rattle.cm_replay.specs.Moves.{Act, Cancel, Count, Do, Fill, Instruct, Lock, Look, Map, Mark, Move, Release, Serve, Start, Take, Trigger, Unlock, Write, act_reply, acted, move_checks, move_reply, told}
 use Rattle.cm_replay.specs.Reading.{looked, mapped}
 use Rattle.cm_running.specs.Reading.{reported_end}
 use Rattle.cm_running.specs.Running.{Running, Schedule, is_out}
