@@ -1,5 +1,5 @@
 -- What holds of each line of a session that is read: it has its limits, and its time is one that its word says.
-use Rattle.std.proofs.Common.{◌≡◌, ℕ, ◌≤◌, Bool, true, false, List, [], ◌∷◌, ◌++◌, length, Option, Some, None, Result, Ok, Err, refl, sym, ◌∙◌, subst, arith}
+use Rattle.std.proofs.Common.{◌≡◌, ℕ, ◌≤◌, Bool, true, false, List, [], ◌∷◌, ◌++◌, length, Option, Some, None, Result, Ok, Err, refl, sym, ◌∙◌, subst, arith, rules}
 use Rattle.std.specs.Prelude.{◌&&◌, nat_le, IfOk, IfSome, if◌then◌else◌, drop}
 use Rattle.std.specs.Str.{bytes_eq}
 use Rattle.std.proofs.lemmas.Bool.{and_parts, leb-true}
@@ -23,7 +23,6 @@ use Rattle.cm_session.specs.Limits.{HasLimits, IsLimited}
 use Rattle.cm_session.specs.SessionPart.{command_lines, insn_lines, keyed, line_words, lines_by, number_lines}
 use Rattle.cm_session.specs.declared.forms.LineHead.{LineHead}
 use Rattle.cm_session.specs.declared.op.Op.{Op}
-use Rattle.cm_session.specs.declared.op.Op.TheVariants as ops
 use Rattle.cm_session.specs.declared.op.SessionLine.{SessionLine}
 
 -- a fact of each entry of a table
@@ -188,28 +187,13 @@ module _ (P : ℕ → Type 0) (bounds : Bounds) (time : List ℕ) (says : IfOk (
   MakesGood words form = IfOk (form bounds time words) (IsGood P)
 
   insn_lines_good : (words : List (List ℕ)) → Each (MakesGood words) insn_lines
-  insn_lines_good words = (
-    file_good ops.OpenFile words tt,
-    (file_good ops.CloseFile words tt, (sub_good ops.Lock words (λ sub. tt), (sub_good ops.Unlock words (λ sub. tt), (instruction_good words, tt)))),
-  )
+  insn_lines_good words = search (rules, file_good, sub_good, instruction_good)
 
   number_lines_good : (words : List (List ℕ)) → Each (MakesGood words) number_lines
-  number_lines_good words = (
-    number_good 65536 ops.Read words (λ sub n few. few),
-    (
-      number_good 65536 ops.Map words (λ sub n few. few),
-      (number_good _ ops.Look words (λ sub n few. tt), (number_good _ ops.Release words (λ sub n few. tt), (number_good _ ops.Mark words (λ sub n few. tt), tt))),
-    ),
-  )
+  number_lines_good words = search (rules, number_good)
 
   command_lines_good : (words : List (List ℕ)) → Each (MakesGood words) command_lines
-  command_lines_good words = (
-    command_good ops.Cmd words (λ cmd text. text),
-    (
-      sub_good ops.Cancel words (λ sub. tt),
-      (sub_good ops.Contents words (λ sub. tt), (values_good ops.Write words (λ sub vs few. few), (values_good ops.Fill words (λ sub vs few. few), number_lines_good words))),
-    ),
-  )
+  command_lines_good words = search (rules, command_good, sub_good, values_good, number_lines_good)
 
   -- and all
   keyed_good : (key : List ℕ) (words : List (List ℕ)) → IfOk (keyed (lines_by false) key bounds time words) (IsGood P)

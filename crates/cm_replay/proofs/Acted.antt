@@ -11,7 +11,7 @@ use Rattle.cm_signal.specs.Setting.{Setting}
 use Rattle.cm_session.specs.declared.op.Op.{Op}
 use Rattle.cm_session.specs.declared.op.SessionLine.{SessionLine}
 use Rattle.cm_replay.specs.Answers.{Answer, Refused, Reply}
-use Rattle.cm_replay.specs.Forms.{form, is_of_command, kind_checks, line_checks, named_sub}
+use Rattle.cm_replay.specs.Forms.{checks_of, form, is_of_command, kind_checks, line_checks, named_sub, reply_of}
 use Rattle.cm_replay.specs.Ready.{CanMove}
 use Rattle.cm_replay.specs.Replies.{CanAct, CanStep, IsWhole, LeadsTelling, StandsAt, Tells, checked, here_at, place_checks, tried_by, unless_kept}
 use Rattle.cm_replay.specs.Session.{Outcome, act_on, here, unless_refused, with_reply}
@@ -35,8 +35,8 @@ either (Some e) h state reply same there = λ i. record { answer = Refused e; st
 act_on-reached : (op : Op) (h : Here) (state : State) → first_refusal (line_checks op h) ≡ None → h.files ≡ state.files → set state.devices h.index h.device ≡ state.devices →
     act_on op h state ≡ with_reply h.index state (checked (form op h) h)
 act_on-reached op h state reached same there =
-    ap (λ e. unless_refused e state (with_reply h.index state (form op h).reply)) (first-after (line_checks op h) (form op h).checks reached)
-    ∙ either (first_refusal (form op h).checks) h state (form op h).reply same there
+    ap (λ e. unless_refused e state (with_reply h.index state (reply_of (form op h) h))) (first-after (line_checks op h) (checks_of (form op h) h) reached)
+    ∙ either (first_refusal (checks_of (form op h) h)) h state (reply_of (form op h) h) same there
 
 -- a place where nothing refuses is one for the line whose subdevice and kind it is
 pub found : (s : Setting) (line : SessionLine) (state : State) (i : ℕ) (commands : Bool) → i ≡ named_sub line.op → commands ≡ is_of_command line.op → None ≡ first_refusal (place_checks s state.files line.file i commands) →
@@ -55,7 +55,7 @@ refused-there said s line state i commands e r old new named kind refused text =
     let n = here s line state in
     let out : Outcome = record { answer = Refused e; state = state } in
     let failed : first_refusal (line_checks line.op n) ≡ Some e = sym (refused ∙ ap₂ (λ j b. first_refusal (place_checks s state.files line.file j b)) named kind) in
-    let is : act_on line.op n state ≡ out = ap (λ x. unless_refused x state (with_reply n.index state (form line.op n).reply)) (refused-first (line_checks line.op n) (form line.op n).checks e failed) in
+    let is : act_on line.op n state ≡ out = ap (λ x. unless_refused x state (with_reply n.index state (reply_of (form line.op n) n))) (refused-first (line_checks line.op n) (checks_of (form line.op n) n) e failed) in
     on_ok_weaker r (λ told. subst (λ (o : Outcome). LeadsTelling said o state old new) (sym is) (record { after = refl; reported = told })) text
 
 -- what the code finds is what the line sees

@@ -14,7 +14,7 @@ use Rattle.cm_test.specs.ValidList.{is_valid_list}
 use Rattle.cm_session.specs.declared.op.Op.TheVariants as ops
 use Rattle.cm_replay.specs.Answers.{Rejected, Reply, kept}
 use Rattle.cm_replay.specs.Calling.{cmd_reply, start_reply}
-use Rattle.cm_replay.specs.Forms.{form}
+use Rattle.cm_replay.specs.Forms.{checks_of, form}
 use Rattle.cm_replay.specs.Replies.{Replies, checked, tried_on, unless_kept}
 use Rattle.cm_replay.specs.State.{Device, Here, claim_of}
 use Rattle.cm_replay.specs.Texts.{answer_text}
@@ -74,11 +74,11 @@ passes-valid false is = absurd (cc)
 
 -- no check of the line refuses it
 pub called-passes : (h : Here) (cmd : CmdText) → first_refusal (reach_checks h.file h.index h.files ++ use_checks h.file (claim_of h)) ≡ None → true ≡ is_valid_list h.sub cmd.list →
-    first_refusal (form (ops.Cmd cmd) h).checks ≡ None
+    first_refusal (checks_of (form (ops.Cmd cmd) h) h) ≡ None
 called-passes h cmd none valid =
     both-pass (use_checks h.file (claim_of h)) _ (passes-both (reach_checks h.file h.index h.files) (use_checks h.file (claim_of h)) none).1 (passes-valid (is_valid_list h.sub cmd.list) valid)
 
 -- where no check refuses the line, the reply is the form's own
-pub unless-passed : {E : Type 0} (h : Here) (cmd : CmdText) (result : Result (Unit {0}) E) (files : FilesText) (device : Device) (old new : List ℕ) → first_refusal (form (ops.Cmd cmd) h).checks ≡ None →
+pub unless-passed : {E : Type 0} (h : Here) (cmd : CmdText) (result : Result (Unit {0}) E) (files : FilesText) (device : Device) (old new : List ℕ) → first_refusal (checks_of (form (ops.Cmd cmd) h) h) ≡ None →
     OnOk result (Replies (cmd_reply h cmd) files device old new) → OnOk result (Replies (checked (form (ops.Cmd cmd) h) h) files device old new)
 unless-passed h cmd result files device old new none replies = subst (λ (e : Option Errno). OnOk result (Replies (unless_kept e h (cmd_reply h cmd)) files device old new)) (sym none) replies

@@ -1,8 +1,8 @@
 -- How many subdevices and claims a session has stays.
-use Rattle.std.proofs.Common.{◌≡◌, ℕ, suc, Bool, List, [], ◌∷◌, ◌++◌, length, refl, ap, ◌∙◌, length-set, Option, Some, None}
+use Rattle.std.proofs.Common.{◌≡◌, ℕ, suc, List, [], ◌∷◌, ◌++◌, length, refl, ap, ◌∙◌, length-set, Option, Some, None}
 use Rattle.std.proofs.lemmas.List.{length-map}
 use Rattle.cm_signal.specs.Setting.{Setting}
-use Rattle.cm_insn.specs.Insn.{Done, time_words}
+use Rattle.cm_insn.specs.Insn.{time_words}
 use Rattle.cm_sub.specs.Checks.{first_refusal}
 use Rattle.cm_sub.specs.Claims.{claim_without}
 use Rattle.cm_sub.specs.Files.{FilesText, close_checks, open_checks}
@@ -12,8 +12,7 @@ use Rattle.cm_session.specs.declared.op.Op.{Op}
 use Rattle.cm_session.specs.declared.op.Op.TheVariants as ops
 use Rattle.cm_session.specs.declared.op.SessionLine.{SessionLine}
 use Rattle.cm_replay.specs.Answers.{Data, Fine, Refused, Reply}
-use Rattle.cm_replay.specs.Calling.{insn_reply}
-use Rattle.cm_replay.specs.Forms.{form, line_checks}
+use Rattle.cm_replay.specs.Forms.{Form, checks_of, form, line_checks, reply_of}
 use Rattle.cm_replay.specs.Session.{Outcome, act, act_on, brought_all, brought_device, closed_state, here, left_devices, step, unless_refused, with_reply}
 use Rattle.cm_replay.specs.State.{Device, Here, State}
 use Rattle.cm_replay.proofs.Shapes.{form-holds}
@@ -22,19 +21,15 @@ use Rattle.cm_replay.proofs.Shapes.{form-holds}
 abbrev IsLong : Here → Reply → Type 0
 IsLong h reply = length reply.files.claims ≡ length h.files.claims
 
-shown-long : (t : Bool) (h : Here) (done : Option Done) → IsLong h (insn_reply t h done)
-shown-long t h None = refl
-shown-long t h (Some done) = refl
-
 -- the reply of each form has as many claims as the line sees
-form-long : (op : Op) (h : Here) → IsLong h (form op h).reply
-form-long op h = form-holds (IsLong h) op h (record {
+form-long : (f : Form) (h : Here) → IsLong h (reply_of f h)
+form-long f h = form-holds (IsLong h) f h (record {
   nothing = λ answer. refl;
   lock = λ holder. length-set h.files.claims h.index _;
-  more = λ c answer. refl;
+  more = λ act c runs. refl;
   over = λ answer. length-set h.files.claims h.index _;
-  call = λ cmd. length-set h.files.claims h.index _;
-  insn = λ shown code entry given. shown-long shown h _;
+  call = λ cmd passed. length-set h.files.claims h.index _;
+  insn = λ shown done long. refl;
 })
 
 -- what holds of an outcome, and of each refusal, holds of a line
@@ -59,8 +54,8 @@ KeepsCounts state outcome = AreAsMany state outcome.state
 
 on-many : (op : Op) (h : Here) (state : State) → h.files ≡ state.files → KeepsCounts state (act_on op h state)
 on-many op h state same =
-    either-way (KeepsCounts state) (first_refusal (line_checks op h ++ (form op h).checks)) state (with_reply h.index state (form op h).reply)
-    (λ passed. (length-set state.devices h.index _, form-long op h ∙ ap (λ (files : FilesText). length files.claims) same)) (λ error. (refl, refl))
+    either-way (KeepsCounts state) (first_refusal (line_checks op h ++ checks_of (form op h) h)) state (with_reply h.index state (reply_of (form op h) h))
+    (λ passed. (length-set state.devices h.index _, form-long (form op h) h ∙ ap (λ (files : FilesText). length files.claims) same)) (λ error. (refl, refl))
 
 -- what a line does leaves as many
 act-many : (s : Setting) (line : SessionLine) (op : Op) (state : State) → KeepsCounts state (act s line op state)

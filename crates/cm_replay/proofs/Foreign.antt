@@ -1,33 +1,28 @@
 -- A line never changes a command or a lock of another file.
-use Rattle.std.proofs.Common.{ne_eqb, ◌≡◌, ◌≢◌, ℕ, zero, suc, ◌<◌, Bool, true, false, List, [], ◌∷◌, ◌++◌, length, map, get_or, refl, sym, ap, ◌∙◌, inl, inr, subst, Option, Some, None, get_or-set_same, get_or-set_other}
+use Rattle.std.proofs.Common.{ne_eqb, ◌≡◌, ◌≢◌, ℕ, zero, suc, ◌<◌, true, false, List, [], ◌∷◌, ◌++◌, length, map, get_or, refl, sym, ap, ◌∙◌, inl, inr, subst, Option, Some, None, get_or-set_same, get_or-set_other}
 use Rattle.std.specs.Option.{is_some}
-use Rattle.std.specs.Prelude.{not, ◌==◌, if◌then◌else◌}
+use Rattle.std.specs.Prelude.{not, if◌then◌else◌}
 use Rattle.std.proofs.lemmas.Bool.{cases_eq, or_parts}
 use Rattle.cm_signal.specs.Setting.{Setting}
-use Rattle.cm_insn.specs.Insn.{Done}
 use Rattle.cm_sub.specs.Checks.{first_refusal, refuse}
 use Rattle.cm_sub.specs.Claims.{cancel_checks, claim_without, is_other, nobody, other_than, use_checks}
-use Rattle.cm_sub.specs.Files.{FilesText, claim_at, close_checks, open_checks, opened, reach_checks, with_claim}
+use Rattle.cm_sub.specs.Files.{FilesText, claim_at, close_checks, open_checks, opened, reach_checks, with_claim, with_runner}
 use Rattle.cm_sub.specs.declared.claim.Claim.{Claim}
 use Rattle.cm_sub.specs.declared.errno.Errno.{Errno}
-use Rattle.cm_sub.specs.declared.errno.Errno.TheVariants.{Access, Busy, Inval}
-use Rattle.cm_test.specs.Questions.{tested}
+use Rattle.cm_sub.specs.declared.errno.Errno.TheVariants.{Access, Busy}
 use Rattle.cm_session.specs.declared.op.Op.{Op}
 use Rattle.cm_session.specs.declared.op.Op.TheVariants as ops
 use Rattle.cm_session.specs.declared.op.SessionLine.{SessionLine}
-use Rattle.cm_replay.specs.Answers.{Ended, Reply, idle, unless_ended}
-use Rattle.cm_replay.specs.Calling.{insn_reply, trigger_reply}
-use Rattle.cm_replay.specs.Forms.{form, kind_checks, line_checks, reader_checks, writer_checks}
-use Rattle.cm_replay.specs.Reading.{look_reply, map_reply, on_running, read_reply, release_reply}
-use Rattle.cm_running.specs.Reading.{reported_end}
+use Rattle.cm_replay.specs.Answers.{Reply}
+use Rattle.cm_replay.specs.Calling.{insn_here}
+use Rattle.cm_replay.specs.Forms.{Form, checks_of, form, kind_checks, line_checks, reply_of}
+use Rattle.cm_replay.specs.Moves.{Act, Cancel, Count, Do, Fill, Instruct, Lock, Look, Map, Mark, Move, Release, Serve, Start, Take, Trigger, Unlock, Write, act_checks, act_reply, move_checks, move_reply}
 use Rattle.cm_replay.specs.Refusals.{ForeignLaw, IsForeign}
-use Rattle.cm_running.specs.Running.{Running}
 use Rattle.cm_replay.specs.Session.{Outcome, act, act_on, brought_all, closed_state, here, left_by, left_devices, unless_refused, with_reply}
-use Rattle.cm_replay.specs.State.{Device, Here, State, claim_of, device_at, idle_device, is_foreign, is_out_here}
-use Rattle.cm_replay.specs.Writing.{fill_reply, mark_reply, write_reply}
-use Rattle.cm_text.specs.declared.end.End.{End}
+use Rattle.cm_replay.specs.State.{Device, Here, State, claim_of, device_at, idle_device, is_foreign}
 use Rattle.cm_board.specs.Board.{no_sub}
-use Rattle.cm_replay.proofs.Checks.{passes, passes-both, reached-within}
+use Rattle.cm_replay.proofs.Checks.{passes, passes-both, reached-within, reads, writes}
+use Rattle.cm_replay.proofs.Shapes.{calls, does, form-holds, instructs, serves}
 
 -- a check on another file that passed says that there is none
 no_other : (f g : ℕ) (file : Option ℕ) → file ≡ Some g → g ≢ f → is_other f file ≡ false → ⊥
@@ -53,126 +48,82 @@ AreApart h reply = (i : ℕ) → i ≢ h.index → claim_at reply.files i ≡ cl
 apart-claim : (h : Here) (claim : Claim) (i : ℕ) → i ≢ h.index → claim_at (with_claim claim h.index h.files) i ≡ claim_at h.files i
 apart-claim h claim i apart = get_or-set_other h.files.claims h.index i claim nobody apart
 
-apart-ended : (h : Here) (e : Option End) (reply : Reply) → AreApart h reply → AreApart h (unless_ended h e reply)
-apart-ended h None reply a = a
-apart-ended h (Some e) reply a = λ i. apart-claim h _ i
+-- a line changes the claim on its own subdevice alone
+pub form-apart : (f : Form) (h : Here) → AreApart h (reply_of f h)
+form-apart f h = form-holds (AreApart h) f h (record {
+  nothing = λ answer i apart. refl;
+  lock = λ holder i. apart-claim h _ i;
+  more = λ act c runs i apart. refl;
+  over = λ answer i. apart-claim h _ i;
+  call = λ cmd passed i. apart-claim h _ i;
+  insn = λ shown done long i apart. refl;
+})
 
-held-idle : (h : Here) (e : End) → h.index < length h.files.claims → IsHeld h (idle h (Ended e))
-held-idle h e within = ap (λ (c : Claim). c.holder) (get_or-set_same h.files.claims h.index _ nobody within)
+-- who runs a command there is another matter than who holds the lock
+held-run : (h : Here) (runner : Option ℕ) → h.index < length h.files.claims → (claim_at (with_runner runner h.index h.files) h.index).holder ≡ (claim_of h).holder
+held-run h runner within = ap (λ (c : Claim). c.holder) (get_or-set_same h.files.claims h.index _ nobody within)
 
-held-ended : (h : Here) (e : Option End) (reply : Reply) → h.index < length h.files.claims → IsHeld h reply → IsHeld h (unless_ended h e reply)
-held-ended h None reply within k = k
-held-ended h (Some e) reply within k = held-idle h e within
+-- no other file runs a command there where one may use the subdevice, or cancel
+used : (h : Here) (rest : List (Option Errno)) → first_refusal (use_checks h.file (claim_of h) ++ rest) ≡ None → (g : ℕ) → (claim_of h).runner ≡ Some g → g ≢ h.file → ⊥
+used h rest passed g is apart =
+    no_any g (claim_of h).runner is (passes Busy (is_some (claim_of h).runner) rest (passes Access (is_other h.file (claim_of h).holder) (refuse Busy (is_some (claim_of h).runner) ∷ rest) passed).1).0
 
--- a reply that changes files only where an end is reported
-record Stays (h : Here) (reply : Reply) : Type 0 where
-  apart : AreApart h reply
-  held : h.index < length h.files.claims → IsHeld h reply
+cancelled : (h : Here) (rest : List (Option Errno)) → first_refusal (cancel_checks h.file (claim_of h) ++ rest) ≡ None → (g : ℕ) → (claim_of h).runner ≡ Some g → g ≢ h.file → ⊥
+cancelled h rest passed g is apart =
+    no_other h.file g (claim_of h).runner is apart
+    (passes Busy (is_other h.file (claim_of h).runner) rest (passes Access (is_other h.file (claim_of h).holder) (refuse Busy (is_other h.file (claim_of h).runner) ∷ rest) passed).1).0
 
-kept-stays : (h : Here) (reply : Reply) → reply.files ≡ h.files → Stays h reply
-kept-stays h reply same = record {
-  apart = λ i n. ap (λ (f : FilesText). claim_at f i) same;
-  held = λ within. ap (λ (f : FilesText). (claim_at f h.index).holder) same;
-}
+served : (h : Here) → is_foreign h ≡ false → (g : ℕ) → (claim_of h).runner ≡ Some g → g ≢ h.file → ⊥
+served h passed g is apart = no_other h.file g (claim_of h).runner is apart passed
 
-ended-stays : (h : Here) (e : Option End) (reply : Reply) → reply.files ≡ h.files → Stays h (unless_ended h e reply)
-ended-stays h e reply same =
-    let k = kept-stays h reply same in
-    record { apart = apart-ended h e reply k.apart; held = λ within. held-ended h e reply within (k.held within) }
+act-mine : (act : Act) (h : Here) → first_refusal (act_checks act h) ≡ None → (g : ℕ) → (claim_of h).runner ≡ Some g → g ≢ h.file → ⊥
+act-mine (Take shown n) h passed = served h (reads h _ passed).1
+act-mine (Map n) h passed = served h (reads h [] passed).1
+act-mine (Release k) h passed = served h (reads h _ passed).1
+act-mine (Write words) h passed = served h (writes h [] passed).1
+act-mine (Fill words) h passed = served h (writes h [] passed).1
+act-mine (Mark k) h passed = served h (writes h _ passed).1
+act-mine Trigger h passed = cancelled h _ passed
 
-served : (h : Here) (reply : Running → Reply) → ((c : Running) → (reply c).files ≡ h.files) → (c : Option Running) → Stays h (on_running h c reply)
-served h reply same None = kept-stays h _ refl
-served h reply same (Some c) = ended-stays h (reported_end c) (reply c) (same c)
+-- a move that no check refuses meets no command of another file
+move-mine : (move : Move) (h : Here) → first_refusal (move_checks move h) ≡ None → (g : ℕ) → (claim_of h).runner ≡ Some g → g ≢ h.file → ⊥
+move-mine Lock h passed = λ g is apart. no_any g (claim_of h).runner is (or_parts (is_some (claim_of h).runner) (is_some (claim_of h).holder) (passes Busy _ [] passed).0).0
+move-mine Unlock h passed = λ g is apart. no_any g (claim_of h).runner is (passes Busy (is_some (claim_of h).runner) _ passed).0
+move-mine (Start cmd) h passed = used h [] passed
+move-mine Cancel h passed = cancelled h [] passed
+move-mine (Instruct shown code entry given) h passed = used h [] passed
+move-mine (Count k) h passed = served h (passes Access (is_foreign h) [] passed).0
+move-mine (Look i) h passed = served h (reads h _ passed).1
+move-mine (Serve a) h passed = act-mine a h passed
+move-mine (Do a) h passed = act-mine a h passed
 
-looks : (n : ℕ) (h : Here) (c : Option Running) → Stays h (look_reply n h c)
-looks n h None = kept-stays h _ refl
-looks n h (Some c) = kept-stays h _ refl
+abbrev KeepsLock : Here → Reply → Type 0
+KeepsLock h reply = (g : ℕ) → (claim_of h).holder ≡ Some g → g ≢ h.file → h.index < length h.files.claims → (claim_at reply.files h.index).holder ≡ Some g
 
-releases : (n : ℕ) (h : Here) (c : Option Running) → Stays h (release_reply n h c)
-releases n h None = kept-stays h _ refl
-releases n h (Some c) = kept-stays h _ refl
-
-marks : (n : ℕ) (h : Here) (c : Option Running) → Stays h (mark_reply n h c)
-marks n h None = kept-stays h _ refl
-marks n h (Some c) = kept-stays h _ refl
-
-triggers : (h : Here) (c : Option Running) → Stays h (trigger_reply h c)
-triggers h None = kept-stays h _ refl
-triggers h (Some c) = kept-stays h _ refl
-
-instructs : (t : Bool) (h : Here) (done : Option Done) → Stays h (insn_reply t h done)
-instructs t h None = kept-stays h _ refl
-instructs t h (Some done) = kept-stays h _ refl
-
-apart-if : (h : Here) (b : Bool) (x y : Reply) → AreApart h x → AreApart h y → AreApart h (if b then x else y)
-apart-if h true x y ax ay = ax
-apart-if h false x y ax ay = ay
+-- and takes no lock from one
+move-lock : (move : Move) (h : Here) → first_refusal (move_checks move h) ≡ None → KeepsLock h (move_reply move h)
+move-lock Lock h passed g is apart within = absurd (no_any g (claim_of h).holder is (or_parts (is_some (claim_of h).runner) (is_some (claim_of h).holder) (passes Busy _ [] passed).0).1)
+move-lock Unlock h passed g is apart within =
+    absurd (no_other h.file g (claim_of h).holder is apart (passes Access (is_other h.file (claim_of h).holder) [] (passes Busy (is_some (claim_of h).runner) _ passed).1).0)
+move-lock (Start cmd) h passed g is apart within = calls (IsHeld h) h cmd (λ accepted. held-run h _ within) refl ∙ is
+move-lock Cancel h passed g is apart within = held-run h _ within ∙ is
+move-lock (Instruct shown code entry given) h passed g is apart within = instructs (IsHeld h) shown h (insn_here h code entry given) refl (λ d done. refl) ∙ is
+move-lock (Count k) h passed g is apart within = is
+move-lock (Look i) h passed g is apart within = is
+move-lock (Serve a) h passed g is apart within = serves (IsHeld h) h h.device.running (act_reply a h) refl (λ c e runs said. held-run h _ within) (λ c runs. refl) ∙ is
+move-lock (Do a) h passed g is apart within = does (IsHeld h) a h h.device.running (λ none. refl) (λ c runs. refl) ∙ is
 
 -- what a form of line leaves of others: no command of another file is here, and no lock of another file is lost
 pub record IsSafe (h : Here) (reply : Reply) : Type 0 where
   pub apart : AreApart h reply
   pub mine : (g : ℕ) → (claim_of h).runner ≡ Some g → g ≢ h.file → ⊥
-  pub lock : (g : ℕ) → (claim_of h).holder ≡ Some g → g ≢ h.file → h.index < length h.files.claims → (claim_at reply.files h.index).holder ≡ Some g
-
-by_stays : (h : Here) (reply : Reply) → Stays h reply → is_foreign h ≡ false → IsSafe h reply
-by_stays h reply stays passed = record {
-  apart = stays.apart;
-  mine = λ g is apart. no_other h.file g (claim_of h).runner is apart passed;
-  lock = λ g is apart within. stays.held within ∙ is;
-}
-
-by_checks : (h : Here) (reply : Reply) → AreApart h reply → ((g : ℕ) → (claim_of h).runner ≡ Some g → g ≢ h.file → ⊥) → ((g : ℕ) → (claim_of h).holder ≡ Some g → g ≢ h.file → ⊥) → IsSafe h reply
-by_checks h reply apart mine lock = record { apart = apart; mine = mine; lock = λ g is n within. absurd (lock g is n) }
-
-by_use : (h : Here) (reply : Reply) → AreApart h reply → first_refusal (use_checks h.file (claim_of h)) ≡ None → IsSafe h reply
-by_use h reply apart passed =
-    let p = passes Access (is_other h.file (claim_of h).holder) _ passed in
-    by_checks h reply apart (λ g is n. no_any g (claim_of h).runner is (passes Busy (is_some (claim_of h).runner) [] p.1).0) (λ g is n. no_other h.file g (claim_of h).holder is n p.0)
-
-by_cancel : (h : Here) (reply : Reply) → AreApart h reply → first_refusal (cancel_checks h.file (claim_of h)) ≡ None → IsSafe h reply
-by_cancel h reply apart passed =
-    let p = passes Access (is_other h.file (claim_of h).holder) _ passed in
-    by_checks h reply apart (λ g is n. no_other h.file g (claim_of h).runner is n (passes Busy (is_other h.file (claim_of h).runner) [] p.1).0) (λ g is n. no_other h.file g (claim_of h).holder is n p.0)
-
-reader : (h : Here) → first_refusal (reader_checks h) ≡ None → is_foreign h ≡ false
-reader h passed = (passes Access (is_foreign h) [] (passes Inval (is_out_here h) (refuse Access (is_foreign h) ∷ []) passed).1).0
-
-writer : (h : Here) → first_refusal (writer_checks h) ≡ None → is_foreign h ≡ false
-writer h passed = (passes Access (is_foreign h) [] (passes Inval (not (is_out_here h)) (refuse Access (is_foreign h) ∷ []) passed).1).0
-
--- the lines that act on the subdevice that they name
-abbrev pub acts_there : Op → Bool
-acts_there ops.OpenFile = false
-acts_there ops.CloseFile = false
-acts_there (ops.InsnGtod sub) = false
-acts_there op = true
+  pub lock : KeepsLock h reply
 
 -- each form whose checks pass is safe
-pub form-safe : (op : Op) (h : Here) → acts_there op ≡ true → first_refusal (form op h).checks ≡ None → IsSafe h (form op h).reply
-form-safe ops.OpenFile h on passed = absurd (cc)
-form-safe ops.CloseFile h on passed = absurd (cc)
-form-safe (ops.InsnGtod sub) h on passed = absurd (cc)
-form-safe (ops.Lock sub) h on passed =
-    let p = or_parts (is_some (claim_of h).runner) (is_some (claim_of h).holder) (passes Busy _ [] passed).0 in
-    by_checks h _ (λ i. apart-claim h _ i) (λ g is n. no_any g (claim_of h).runner is p.0) (λ g is n. no_any g (claim_of h).holder is p.1)
-form-safe (ops.Unlock sub) h on passed =
-    let p = passes Busy (is_some (claim_of h).runner) _ passed in
-    by_checks h _ (λ i. apart-claim h _ i) (λ g is n. no_any g (claim_of h).runner is p.0) (λ g is n. no_other h.file g (claim_of h).holder is n (passes Access (is_other h.file (claim_of h).holder) [] p.1).0)
-form-safe (ops.Cmd cmd) h on passed = by_use h _ (apart-if h ((tested h.sub cmd).0 == 0) _ _ (λ i. apart-claim h _ i) (λ i n. refl)) (passes-both (use_checks h.file (claim_of h)) _ passed).0
-form-safe (ops.Cancel sub) h on passed = by_cancel h _ (λ i. apart-claim h _ i) passed
-form-safe (ops.Read sub n) h on passed = by_stays h _ (served h (read_reply n h) (λ c. refl) h.device.running) (reader h (passes-both (reader_checks h) _ passed).0)
-form-safe (ops.Map sub n) h on passed = by_stays h _ (served h (map_reply n h) (λ c. refl) h.device.running) (reader h passed)
-form-safe (ops.Look sub i) h on passed = by_stays h _ (looks i h h.device.running) (reader h (passes-both (reader_checks h) _ passed).0)
-form-safe (ops.Release sub k) h on passed = by_stays h _ (releases k h h.device.running) (reader h (passes-both (reader_checks h) _ passed).0)
-form-safe (ops.Contents sub) h on passed = by_stays h _ (kept-stays h _ refl) (passes Access (is_foreign h) [] passed).0
-form-safe (ops.Write sub words) h on passed = by_stays h _ (served h (write_reply words h) (λ c. refl) h.device.running) (writer h (passes-both (writer_checks h) _ passed).0)
-form-safe (ops.Fill sub words) h on passed = by_stays h _ (served h (fill_reply words h) (λ c. refl) h.device.running) (writer h (passes-both (writer_checks h) _ passed).0)
-form-safe (ops.Mark sub k) h on passed = by_stays h _ (marks k h h.device.running) (writer h (passes-both (writer_checks h) _ passed).0)
-form-safe (ops.InsnRead sub entry n) h on passed = by_use h _ (instructs true h _).apart passed
-form-safe (ops.InsnWrite sub entry words) h on passed = by_use h _ (instructs false h _).apart passed
-form-safe (ops.InsnBits sub mask bits) h on passed = by_use h _ (instructs true h _).apart passed
-form-safe (ops.InsnConfig sub entry word) h on passed = by_use h _ (instructs false h _).apart passed
-form-safe (ops.InsnIntTrig sub number) h on passed = by_cancel h _ (triggers h h.device.running).apart (passes-both (cancel_checks h.file (claim_of h)) _ passed).0
+form-safe : (f : Form) (h : Here) → first_refusal (checks_of f h) ≡ None → IsSafe h (reply_of f h)
+form-safe f h passed =
+    let p = passes-both (move_checks f.move h) f.tests passed in
+    record { apart = form-apart f h; mine = move-mine f.move h p.0; lock = move-lock f.move h p.0 }
 
 same : (file i : ℕ) (state : State) → IsForeign file i state state
 same file i state = record { command = λ g is n. (refl, is); lock = λ g is n. is }
@@ -197,17 +148,17 @@ replied h i state reply files within safe = elim (cases_eq i h.index) [
       }
 ]
 
-on_sub : (s : Setting) (line : SessionLine) (op : Op) (state : State) (i : ℕ) → acts_there op ≡ true → IsForeign line.file i state (act_on op (here s line state) state).state
-on_sub s line op state i on = unless line.file i state (with_reply h.index state (form op h).reply) (first_refusal (line_checks op h ++ (form op h).checks)) safe
+on_sub : (s : Setting) (line : SessionLine) (op : Op) (state : State) (i : ℕ) → IsForeign line.file i state (act_on op (here s line state) state).state
+on_sub s line op state i = unless line.file i state (with_reply h.index state (reply_of (form op h) h)) (first_refusal (line_checks op h ++ checks_of (form op h) h)) safe
   where
     h : Here
     h = here s line state
 
-    safe : first_refusal (line_checks op h ++ (form op h).checks) ≡ None → IsForeign line.file i state (with_reply h.index state (form op h).reply).state
+    safe : first_refusal (line_checks op h ++ checks_of (form op h) h) ≡ None → IsForeign line.file i state (with_reply h.index state (reply_of (form op h) h)).state
     safe passed =
-        let p = passes-both (line_checks op h) (form op h).checks passed in
+        let p = passes-both (line_checks op h) (checks_of (form op h) h) passed in
         let reached = passes-both (reach_checks h.file h.index h.files) (kind_checks op h) p.0 in
-        replied h i state (form op h).reply refl (reached-within h.file h.index h.files reached.0) (form-safe op h on p.1)
+        replied h i state (reply_of (form op h) h) refl (reached-within h.file h.index h.files reached.0) (form-safe (form op h) h p.1)
 
 -- a claim after its file, or another one, is closed
 pub claim-closed : (f : ℕ) (claims : List Claim) (i : ℕ) → get_or (map (claim_without f) claims) i nobody ≡ claim_without f (get_or claims i nobody)
@@ -243,7 +194,7 @@ act-foreign : (s : Setting) (line : SessionLine) (op : Op) (state : State) (i : 
 act-foreign s line ops.OpenFile state i = unless line.file i state _ (first_refusal (open_checks line.file state.files)) (λ e. open-foreign line.file i state)
 act-foreign s line ops.CloseFile state i = unless line.file i state _ (first_refusal (close_checks line.file state.files)) (λ e. close-foreign line.file i state)
 act-foreign s line (ops.InsnGtod sub) state i = unless line.file i state _ (first_refusal (close_checks line.file state.files)) (λ e. same line.file i state)
-act-foreign s line op state i = on_sub s line op state i refl
+act-foreign s line op state i = on_sub s line op state i
 
 -- the law on other files
 pub foreign_law : ForeignLaw

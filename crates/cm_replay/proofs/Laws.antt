@@ -167,7 +167,7 @@ pub ended-well : (wiring : Wiring) (time : ℕ) (h : History) (c : Running) (e :
 ended-well wiring time h c e kept drained ended = ((drained, subst (λ o. IsDueIfAny o (served c) (length c.schedule.conversions)) ended kept.0.end), tt)
 
 -- an input reports its end where nothing is left
-pub ended-drained : (c : Running) (e : End) → is_out c.schedule ≡ false → reported_end c ≡ Some e → (c.r ≡ c.w) × (c.end ≡ Some e)
+ended-drained : (c : Running) (e : End) → is_out c.schedule ≡ false → reported_end c ≡ Some e → (c.r ≡ c.w) × (c.end ≡ Some e)
 ended-drained c e inn said = elim (cases_eq c.r c.w) [
   | inl empty ↦ (empty, sym (ap (λ b. if b || nat_eq c.r c.w then c.end else None) inn ∙ ap (λ b. if b then c.end else None) (eq-eqb _ _ empty)) ∙ said)
   | inr some ↦ absurd (no (sym (ap (λ b. if b || nat_eq c.r c.w then c.end else None) inn ∙ ap (λ b. if b then c.end else None) (ne_eqb _ _ some)) ∙ said))
@@ -176,8 +176,15 @@ ended-drained c e inn said = elim (cases_eq c.r c.w) [
     no : (None ≡ Some e) → ⊥
     no h = absurd (cc)
 
-pub ended-out : (c : Running) → is_out c.schedule ≡ true → reported_end c ≡ c.end
+ended-out : (c : Running) → is_out c.schedule ≡ true → reported_end c ≡ c.end
 ended-out c out = ap (λ b. if b || nat_eq c.r c.w then c.end else None) out
+
+-- the end that is reported, if any: of an input where nothing is left
+pub reported-drained : (c : Running) (e : End) → reported_end c ≡ Some e → (is_out c.schedule ≡ false → c.r ≡ c.w) × (c.end ≡ Some e)
+reported-drained c e said = elim (cases_Bool (is_out c.schedule)) [
+  | inl out ↦ (λ inn. absurd (cc), sym (ended-out c out) ∙ said)
+  | inr inn ↦ let d = ended-drained c e inn said in (λ i. d.0, d.1)
+]
 
 remembers-in : (h : History) (c : Running) → is_out c.schedule ≡ false → Remembers (is_out c.schedule) h c → h.gone ≡ c.r
 remembers-in h c e r = subst (λ b. Remembers b h c) e r
@@ -212,14 +219,23 @@ input-on wiring time h after c r ra inn kept order within more gone =
 long-taken : (n : ℕ) (c : Running) → c.w ≤ length c.schedule.conversions → length (take (taking n c) (drop c.r (samples c.schedule))) ≡ taking n c
 long-taken n c all = omega (arith, length-samples c.schedule, length-take (taking n c) (drop c.r (samples c.schedule)), length-drop c.r (samples c.schedule))
 
-pub taken-well : (wiring : Wiring) (n time : ℕ) (h : History) (c : Running) → is_out c.schedule ≡ false → c.ra ≡ c.r → Keeps wiring time h (Some c) → IsWell wiring time h (Some c) (Taken c.schedule.format c.r (taken n c)) (Some (read_on n c))
-taken-well wiring n time h c inn unmapped kept =
+read-keeps : (wiring : Wiring) (n time : ℕ) (h after : History) (c : Running) → is_out c.schedule ≡ false → Keeps wiring time h (Some c) → after.gone ≡ c.r + taking n c → Keeps wiring time after (Some (read_on n c))
+read-keeps wiring n time h after c inn kept gone =
+    let i = input (is_out c.schedule) time c inn kept.0.places in
+    input-on wiring time h after c (c.r + taking n c) (c.r + taking n c) inn kept (omega arith) (omega (arith, i.r_ra, i.ra_w)) (omega arith) gone
+
+pub taken-well : (wiring : Wiring) (n time : ℕ) (h : History) (c : Running) → is_out c.schedule ≡ false → Keeps wiring time h (Some c) → IsWell wiring time h (Some c) (Taken c.schedule.format c.r (taken n c)) (Some (read_on n c))
+taken-well wiring n time h c inn kept =
     let i = input (is_out c.schedule) time c inn kept.0.places in
     let all : c.w ≤ length c.schedule.conversions = omega (arith, i.w_come, arrived-le c.schedule time kept.0.timely) in
     let gone = remembers-in h c inn kept.2 in (
       (sym gone, ap (λ k. take k (drop c.r (samples c.schedule))) (sym (long-taken n c all))),
-      input-on wiring time h (remembered h (Taken c.schedule.format c.r (taken n c))) c (c.r + taking n c) (c.r + taking n c) inn kept (omega arith) (omega (arith, i.r_ra, i.ra_w)) (omega arith) (omega (arith, gone, long-taken n c all)),
+      read-keeps wiring n time h (remembered h (Taken c.schedule.format c.r (taken n c))) c inn kept (omega (arith, gone, long-taken n c all)),
     )
+
+-- or only counted
+pub counted-well : (wiring : Wiring) (n time : ℕ) (h : History) (c : Running) → is_out c.schedule ≡ false → Keeps wiring time h (Some c) → IsWell wiring time h (Some c) (Released (taking n c)) (Some (read_on n c))
+counted-well wiring n time h c inn kept = (tt, read-keeps wiring n time h (record h { gone = h.gone + taking n c }) c inn kept (omega (arith, remembers-in h c inn kept.2)))
 
 pub mapped-well : (wiring : Wiring) (n time : ℕ) (h : History) (c : Running) → is_out c.schedule ≡ false → Keeps wiring time h (Some c) → IsWell wiring time h (Some c) (Mapped (mapping n c)) (Some (map_on n c))
 mapped-well wiring n time h c inn kept =

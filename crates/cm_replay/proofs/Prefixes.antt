@@ -1,44 +1,40 @@
 -- What is marked as read is a prefix of the samples.
 use Rattle.std.proofs.Common.{ne_eqb, ◌≡◌, ℕ, ◌+◌, ◌<◌, Bool, true, false, List, [], ◌∷◌, ◌++◌, length, map, set, take, drop, refl, sym, ap, ◌∙◌, inl, inr, arith, length-take, subst, Option, Some, None}
-use Rattle.std.specs.Prelude.{nat_eq, ◌==◌, if◌then◌else◌}
+use Rattle.std.specs.Prelude.{nat_eq, if◌then◌else◌}
 use Rattle.std.specs.Option.{option_map}
 use Rattle.std.proofs.lemmas.Bool.{cases_eq, cases_Bool, eq-eqb}
 use Rattle.std.proofs.lemmas.List.{take_all}
-use Rattle.cm_base.proofs.Bools.{not_false}
 use Rattle.cm_base.proofs.Pieces.{take_sum}
-use Rattle.cm_cmd.specs.Command.{CmdText}
 use Rattle.cm_signal.specs.Setting.{Setting}
-use Rattle.cm_insn.specs.Insn.{Done, time_words}
+use Rattle.cm_insn.specs.Insn.{time_words}
 use Rattle.cm_sub.specs.Checks.{first_refusal}
-use Rattle.cm_sub.specs.Claims.{cancel_checks}
 use Rattle.cm_sub.specs.Files.{close_checks, closed, open_checks, opened}
 use Rattle.cm_sub.specs.declared.errno.Errno.{Errno}
-use Rattle.cm_sub.specs.declared.errno.Errno.TheVariants.{Again}
-use Rattle.cm_test.specs.Questions.{tested}
 use Rattle.cm_session.specs.Limits.{InOrder}
 use Rattle.cm_session.specs.declared.op.Op.{Op}
 use Rattle.cm_session.specs.declared.op.Op.TheVariants as ops
 use Rattle.cm_session.specs.declared.op.SessionLine.{SessionLine}
-use Rattle.cm_replay.specs.Answers.{Answer, Data, Ended, Fine, Refused, Reply, unless_ended}
-use Rattle.cm_replay.specs.Calling.{cmd_reply, insn_reply, trigger_reply}
+use Rattle.cm_replay.specs.Answers.{Answer, Data, Ended, Fine, Refused, Released, Reply, idle, kept}
+use Rattle.cm_replay.specs.Calling.{insn_here}
 use Rattle.cm_running.specs.Triggering.{trigger_on, waits}
-use Rattle.cm_replay.specs.Forms.{form, line_checks, named_sub}
+use Rattle.cm_replay.specs.Forms.{Form, checks_of, form, line_checks, named_sub, reply_of}
 use Rattle.cm_replay.specs.Job.{setting_of}
 use Rattle.cm_replay.specs.Law.{EndsWell, History, IsDue, IsDueIfAny, IsPrefix, Keeps, PrefixLaw, ReadsPrefixes, Wiring, no_history, reported_after, reported_of, wiring_at}
 use Rattle.cm_running.specs.Running.{Running, brought, is_out, moved_on, put_out, samples, served}
-use Rattle.cm_replay.specs.Reading.{look_reply, map_reply, on_running, read_reply, release_reply}
+use Rattle.cm_replay.specs.Moves.{Act, Cancel, Count, Do, Fill, Instruct, Lock, Look, Map, Mark, Move, Release, Serve, Start, Take, Trigger, Unlock, Write, act_reply, move_checks, move_reply}
+use Rattle.cm_replay.specs.Reading.{looked}
 use Rattle.cm_running.specs.Reading.{reported_end}
 use Rattle.cm_running.specs.Schedules.{triggered}
 use Rattle.cm_replay.specs.Session.{Outcome, act, act_on, brought_all, brought_device, closed_state, here, with_reply}
-use Rattle.cm_replay.specs.State.{Device, Here, State, at_start, claim_of, device_at}
-use Rattle.cm_replay.specs.Writing.{fill_reply, mark_reply, write_reply}
+use Rattle.cm_replay.specs.State.{Device, Here, State, at_start, device_at}
 use Rattle.cm_text.specs.declared.end.End.{End}
 use Rattle.cm_text.specs.declared.end.End.TheVariants as ends
-use Rattle.cm_replay.proofs.Checks.{passes, passes-both}
+use Rattle.cm_replay.proofs.Checks.{Allows, allows, passes-both}
 use Rattle.cm_replay.proofs.Counts.{either-way}
-use Rattle.cm_replay.proofs.Laws.{ended-drained, ended-out, input, moves, moves-in, moves-out, served-in, stays, waits-early}
+use Rattle.cm_replay.proofs.Laws.{input, moves, moves-in, moves-out, reported-drained, served-in, stays, waits-early}
 use Rattle.cm_running.proofs.Samples.{length-samples}
 use Rattle.cm_replay.proofs.SessionLaws.{AllKeep, IsSoundState, all-brought, all-idle, device_at-brought, first-idle, left-at, reached, set-other, set-same, sound-brought, sound-start, sound-stepped, step-well}
+use Rattle.cm_replay.proofs.Shapes.{calls, does, instructs, serves, told-idle}
 
 -- the passing of time marks nothing as read
 prefix-brought : (time : ℕ) (reported : List ℕ) (running : Option Running) → IsPrefix reported running → IsPrefix reported (option_map (brought time) running)
@@ -82,52 +78,18 @@ end-well (ends.Fifo k) reported c prefix empty due = λ inn. (
   omega (arith, length-samples c.schedule, due.1),
 )
 
--- the end that is reported, if any: of an input where nothing is left
-reported-drained : (c : Running) (e : End) → reported_end c ≡ Some e → (is_out c.schedule ≡ false → c.r ≡ c.w) × (c.end ≡ Some e)
-reported-drained c e said = elim (cases_Bool (is_out c.schedule)) [
-  | inl out ↦ (λ inn. absurd (cc), sym (ended-out c out) ∙ said)
-  | inr inn ↦ let d = ended-drained c e inn said in (λ i. d.0, d.1)
-]
-
-or-ended : (wiring : Wiring) (h : Here) (hist : History) (reported : List ℕ) (c : Running) (reply : Reply) → Keeps wiring h.time hist (Some c) → IsPrefix reported (Some c) → ReadsWell reported (Some c) reply → (e : Option End) → reported_end c ≡ e →
-    ReadsWell reported (Some c) (unless_ended h e reply)
-or-ended wiring h hist reported c reply keeps prefix well None said = well
-or-ended wiring h hist reported c reply keeps prefix well (Some e) said =
+-- and an end that is reported is one
+over-prefix : (wiring : Wiring) (h : Here) (hist : History) (reported : List ℕ) → Keeps wiring h.time hist h.device.running → IsPrefix reported h.device.running → (c : Running) (e : End) → h.device.running ≡ Some c → reported_end c ≡ Some e →
+    ReadsWell reported h.device.running (idle h (Ended e))
+over-prefix wiring h hist reported keeps prefix c e runs said =
     let d = reported-drained c e said in
-    (end-well e reported c prefix d.0 (subst (λ o. IsDueIfAny o (served c) (length c.schedule.conversions)) d.1 keeps.0.end), tt)
-
-served-prefix : (wiring : Wiring) (reply : Running → Reply) (h : Here) (hist : History) (reported : List ℕ) (running : Option Running) → ((c : Running) → IsPrefix reported (Some c) → ReadsWell reported (Some c) (reply c)) →
-    Keeps wiring h.time hist running → running ≡ h.device.running → IsPrefix reported running → ReadsWell reported running (on_running h running reply)
-served-prefix wiring reply h hist reported None well keeps same prefix = (tt, subst (IsPrefix reported) same tt)
-served-prefix wiring reply h hist reported (Some c) well keeps same prefix = or-ended wiring h hist reported c (reply c) keeps prefix (well c prefix) (reported_end c) refl
-
-look-prefix : (i : ℕ) (h : Here) (reported : List ℕ) (running : Option Running) → running ≡ h.device.running → IsPrefix reported running → ReadsWell reported running (look_reply i h running)
-look-prefix i h reported None same prefix = (tt, subst (IsPrefix reported) same tt)
-look-prefix i h reported (Some c) same prefix = (tt, subst (IsPrefix reported) same prefix)
-
-release-prefix : (k : ℕ) (h : Here) (reported : List ℕ) (running : Option Running) → running ≡ h.device.running → IsPrefix reported running → ReadsWell reported running (release_reply k h running)
-release-prefix k h reported None same prefix = (tt, subst (IsPrefix reported) same tt)
-release-prefix k h reported (Some c) same prefix = (tt, λ inn. more-prefix reported c k prefix inn)
-
-mark-prefix : (k : ℕ) (h : Here) (reported : List ℕ) (running : Option Running) → running ≡ h.device.running → IsPrefix reported running → ReadsWell reported running (mark_reply k h running)
-mark-prefix k h reported None same prefix = (tt, subst (IsPrefix reported) same tt)
-mark-prefix k h reported (Some c) same prefix = (tt, prefix)
-
-shown-prefix : (shown : Bool) (h : Here) (reported : List ℕ) (done : Option Done) → IsPrefix reported h.device.running → ReadsWell reported h.device.running (insn_reply shown h done)
-shown-prefix shown h reported None prefix = (tt, prefix)
-shown-prefix shown h reported (Some done) prefix = (tt, prefix)
-
-call-prefix : (cmd : CmdText) (h : Here) (reported : List ℕ) → IsPrefix reported h.device.running → ReadsWell reported h.device.running (cmd_reply h cmd)
-call-prefix cmd h reported prefix = elim (cases_Bool ((tested h.sub cmd).0 == 0)) [
-  | inl passed ↦ rw passed (tt, λ inn. refl)
-  | inr failed ↦ rw failed (tt, prefix)
-]
+    let kept : Keeps wiring h.time hist (Some c) = subst (Keeps wiring h.time hist) runs keeps in
+    let due : IsDue e (served c) (length c.schedule.conversions) = subst (λ o. IsDueIfAny o (served c) (length c.schedule.conversions)) d.1 kept.0.end in
+    (subst (EndsWell (Ended e) reported) (sym runs) (end-well e reported c (subst (IsPrefix reported) runs prefix) d.0 due), tt)
 
 -- of a command that waits for its trigger nothing was read, and so it is with each other schedule
-trigger-prefix : (wiring : Wiring) (h : Here) (hist : History) (reported : List ℕ) (running : Option Running) → waits h.time running ≡ true → Keeps wiring h.time hist running → running ≡ h.device.running → IsPrefix reported running →
-    ReadsWell reported running (trigger_reply h running)
-trigger-prefix wiring h hist reported None waiting keeps same prefix = (tt, subst (IsPrefix reported) same tt)
-trigger-prefix wiring h hist reported (Some c) waiting keeps same prefix = (tt, by_end c.end refl)
+trigger-prefix : (wiring : Wiring) (h : Here) (hist : History) (reported : List ℕ) (c : Running) → waits h.time (Some c) ≡ true → Keeps wiring h.time hist (Some c) → IsPrefix reported (Some c) → IsPrefix reported (Some (trigger_on h.time c))
+trigger-prefix wiring h hist reported c waiting keeps prefix = by_end c.end refl
   where
     none_read : is_out c.schedule ≡ false → c.r ≡ 0
     none_read inn =
@@ -145,31 +107,48 @@ trigger-prefix wiring h hist reported (Some c) waiting keeps same prefix = (tt, 
         let is : trigger_on h.time c ≡ c = rw ended refl in
         subst (λ (d : Running). IsPrefix reported (Some d)) (sym is) prefix
 
--- a line that no check refuses reads well
-form-prefix : (wiring : Wiring) (op : Op) (h : Here) (hist : History) (reported : List ℕ) → Keeps wiring h.time hist h.device.running → IsPrefix reported h.device.running → first_refusal (form op h).checks ≡ None → ReadsWell reported h.device.running (form op h).reply
-form-prefix wiring ops.OpenFile h hist reported keeps prefix passed = (tt, prefix)
-form-prefix wiring ops.CloseFile h hist reported keeps prefix passed = (tt, prefix)
-form-prefix wiring (ops.Lock sub) h hist reported keeps prefix passed = (tt, prefix)
-form-prefix wiring (ops.Unlock sub) h hist reported keeps prefix passed = (tt, prefix)
-form-prefix wiring (ops.Cmd cmd) h hist reported keeps prefix passed = call-prefix cmd h reported prefix
-form-prefix wiring (ops.Cancel sub) h hist reported keeps prefix passed = (tt, tt)
-form-prefix wiring (ops.Read sub n) h hist reported keeps prefix passed =
-    served-prefix wiring (read_reply n h) h hist reported h.device.running (λ c before. (tt, λ inn. more-prefix reported c _ before inn)) keeps refl prefix
-form-prefix wiring (ops.Map sub n) h hist reported keeps prefix passed = served-prefix wiring (map_reply n h) h hist reported h.device.running (λ c before. (tt, before)) keeps refl prefix
-form-prefix wiring (ops.Look sub i) h hist reported keeps prefix passed = look-prefix i h reported h.device.running refl prefix
-form-prefix wiring (ops.Release sub k) h hist reported keeps prefix passed = release-prefix k h reported h.device.running refl prefix
-form-prefix wiring (ops.Contents sub) h hist reported keeps prefix passed = (tt, prefix)
-form-prefix wiring (ops.Write sub words) h hist reported keeps prefix passed = served-prefix wiring (write_reply words h) h hist reported h.device.running (λ c before. (tt, before)) keeps refl prefix
-form-prefix wiring (ops.Fill sub words) h hist reported keeps prefix passed = served-prefix wiring (fill_reply words h) h hist reported h.device.running (λ c before. (tt, before)) keeps refl prefix
-form-prefix wiring (ops.Mark sub k) h hist reported keeps prefix passed = mark-prefix k h reported h.device.running refl prefix
-form-prefix wiring (ops.InsnRead sub entry n) h hist reported keeps prefix passed = shown-prefix true h reported _ prefix
-form-prefix wiring (ops.InsnWrite sub entry words) h hist reported keeps prefix passed = shown-prefix false h reported _ prefix
-form-prefix wiring (ops.InsnBits sub mask bits) h hist reported keeps prefix passed = shown-prefix true h reported _ prefix
-form-prefix wiring (ops.InsnConfig sub entry word) h hist reported keeps prefix passed = shown-prefix false h reported _ prefix
-form-prefix wiring (ops.InsnGtod sub) h hist reported keeps prefix passed = (tt, prefix)
-form-prefix wiring (ops.InsnIntTrig sub number) h hist reported keeps prefix passed =
-    let p = passes-both (cancel_checks h.file (claim_of h)) _ passed in
-    trigger-prefix wiring h hist reported h.device.running (not_false _ (passes Again _ _ p.1).0) keeps refl prefix
+-- what an act on a command reads is a prefix
+command-prefix : (act : Act) (wiring : Wiring) (h : Here) (hist : History) (reported : List ℕ) (c : Running) → Keeps wiring h.time hist (Some c) → IsPrefix reported (Some c) → Allows act h (Some c) → ReadsWell reported (Some c) (act_reply act h c)
+command-prefix (Take true n) wiring h hist reported c keeps prefix may = (tt, λ inn. more-prefix reported c _ prefix inn)
+command-prefix (Take false n) wiring h hist reported c keeps prefix may = (tt, λ inn. more-prefix reported c _ prefix inn)
+command-prefix (Map n) wiring h hist reported c keeps prefix may = (tt, prefix)
+command-prefix (Release k) wiring h hist reported c keeps prefix may = (tt, λ inn. more-prefix reported c k prefix inn)
+command-prefix (Write words) wiring h hist reported c keeps prefix may = (tt, prefix)
+command-prefix (Fill words) wiring h hist reported c keeps prefix may = (tt, prefix)
+command-prefix (Mark k) wiring h hist reported c keeps prefix may = (tt, prefix)
+command-prefix Trigger wiring h hist reported c keeps prefix may = (tt, trigger-prefix wiring h hist reported c may keeps prefix)
+
+on-command : (act : Act) (wiring : Wiring) (h : Here) (hist : History) (reported : List ℕ) → Keeps wiring h.time hist h.device.running → IsPrefix reported h.device.running → Allows act h h.device.running → (c : Running) → h.device.running ≡ Some c →
+    ReadsWell reported h.device.running (act_reply act h c)
+on-command act wiring h hist reported keeps prefix may c runs =
+    subst (λ (o : Option Running). ReadsWell reported o (act_reply act h c)) (sym runs)
+    (command-prefix act wiring h hist reported c (subst (Keeps wiring h.time hist) runs keeps) (subst (IsPrefix reported) runs prefix) (subst (Allows act h) runs may))
+
+looked-prefix : (i : ℕ) (reported : List ℕ) (running : Option Running) → IsPrefix reported running → EndsWell (looked i running) reported running × IsPrefix (reported_after reported running (looked i running)) running
+looked-prefix i reported None prefix = (tt, prefix)
+looked-prefix i reported (Some c) prefix = (tt, prefix)
+
+-- a move that no check refuses reads well
+move-prefix : (move : Move) (wiring : Wiring) (h : Here) (hist : History) (reported : List ℕ) → Keeps wiring h.time hist h.device.running → IsPrefix reported h.device.running → first_refusal (move_checks move h) ≡ None →
+    ReadsWell reported h.device.running (move_reply move h)
+move-prefix Lock wiring h hist reported keeps prefix passed = (tt, prefix)
+move-prefix Unlock wiring h hist reported keeps prefix passed = (tt, prefix)
+move-prefix (Start cmd) wiring h hist reported keeps prefix passed = calls (ReadsWell reported h.device.running) h cmd (λ accepted. (tt, λ inn. refl)) (tt, prefix)
+move-prefix Cancel wiring h hist reported keeps prefix passed = (tt, tt)
+move-prefix (Instruct shown code entry given) wiring h hist reported keeps prefix passed = instructs (ReadsWell reported h.device.running) shown h (insn_here h code entry given) (tt, prefix) (λ d done. (tt, prefix))
+move-prefix (Count k) wiring h hist reported keeps prefix passed = (tt, prefix)
+move-prefix (Look i) wiring h hist reported keeps prefix passed = looked-prefix i reported h.device.running prefix
+move-prefix (Serve act) wiring h hist reported keeps prefix passed =
+    serves (ReadsWell reported h.device.running) h h.device.running (act_reply act h) (tt, prefix) (over-prefix wiring h hist reported keeps prefix) (on-command act wiring h hist reported keeps prefix (allows act h passed))
+move-prefix (Do act) wiring h hist reported keeps prefix passed =
+    does (ReadsWell reported h.device.running) act h h.device.running
+    (λ none. told-idle (λ answer. ReadsWell reported h.device.running (kept h answer)) act (tt, prefix)
+    (λ k. (tt, subst (IsPrefix (reported_after reported h.device.running (Released k))) (sym none) tt)) (λ k. (tt, prefix)))
+    (on-command act wiring h hist reported keeps prefix (allows act h passed))
+
+-- and so does a line
+form-prefix : (wiring : Wiring) (f : Form) (h : Here) (hist : History) (reported : List ℕ) → Keeps wiring h.time hist h.device.running → IsPrefix reported h.device.running → first_refusal (checks_of f h) ≡ None → ReadsWell reported h.device.running (reply_of f h)
+form-prefix wiring f h hist reported keeps prefix passed = move-prefix f.move wiring h hist reported keeps prefix (passes-both (move_checks f.move h) f.tests passed).0
 
 -- each command's marked samples are a prefix
 abbrev AllPrefixes : (ℕ → List ℕ) → List Device → Type 0
@@ -229,16 +208,16 @@ replied-prefix sub reported state reply within prefixes well =
 on-prefix : (s : Setting) (line : SessionLine) (op : Op) (histories : ℕ → History) (reported : ℕ → List ℕ) (state : State) → IsSoundState s state → AllKeep s line.time histories state.devices → AllPrefixes reported state.devices →
     ActsWell (named_sub line.op) reported state (act_on op (here s line state) state)
 on-prefix s line op histories reported state sound keep prefixes =
-    either-way (ActsWell (named_sub line.op) reported state) (first_refusal (line_checks op h ++ (form op h).checks)) state (with_reply h.index state (form op h).reply) well (refused-prefix (named_sub line.op) reported state prefixes)
+    either-way (ActsWell (named_sub line.op) reported state) (first_refusal (line_checks op h ++ checks_of (form op h) h)) state (with_reply h.index state (reply_of (form op h) h)) well (refused-prefix (named_sub line.op) reported state prefixes)
   where
     h : Here
     h = here s line state
 
-    well : first_refusal (line_checks op h ++ (form op h).checks) ≡ None → ActsWell (named_sub line.op) reported state (with_reply (named_sub line.op) state (form op h).reply)
+    well : first_refusal (line_checks op h ++ checks_of (form op h) h) ≡ None → ActsWell (named_sub line.op) reported state (with_reply (named_sub line.op) state (reply_of (form op h) h))
     well passed =
         let r = reached s line op state sound passed in
         let sub = named_sub line.op in
-        replied-prefix sub reported state (form op h).reply r.0 prefixes (form-prefix (wiring_at s sub) op h (histories sub) (reported sub) (keep sub) (prefixes sub) r.1)
+        replied-prefix sub reported state (reply_of (form op h) h) r.0 prefixes (form-prefix (wiring_at s sub) (form op h) h (histories sub) (reported sub) (keep sub) (prefixes sub) r.1)
 
 act-prefix : (s : Setting) (line : SessionLine) (op : Op) (histories : ℕ → History) (reported : ℕ → List ℕ) (state : State) → IsSoundState s state → AllKeep s line.time histories state.devices → AllPrefixes reported state.devices →
     ActsWell (named_sub line.op) reported state (act s line op state)

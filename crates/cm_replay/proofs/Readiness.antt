@@ -1,14 +1,14 @@
 -- A session stays ready for each of its lines.
 use Rattle.std.proofs.Common.{◌≡◌, ℕ, ◌<◌, ◌≤◌, Bool, true, false, List, [], ◌∷◌, ◌++◌, length, get_or, map, set, refl, sym, ap, inl, inr, arith, subst, Option, Some, None}
-use Rattle.std.specs.Prelude.{◌==◌, if◌then◌else◌}
+use Rattle.std.specs.Prelude.{if◌then◌else◌}
 use Rattle.std.specs.Option.{option_map}
-use Rattle.std.proofs.lemmas.Bool.{cases_eq, cases_Bool, eqb-true}
+use Rattle.std.proofs.lemmas.Bool.{cases_eq}
 use Rattle.std.proofs.lemmas.List.{get_or_default}
 use Rattle.cm_board.specs.Board.{no_sub}
 use Rattle.cm_cmd.specs.Command.{CmdText}
 use Rattle.cm_signal.specs.Setting.{Setting}
 use Rattle.cm_expand.specs.Plan.{PlanText}
-use Rattle.cm_insn.specs.Insn.{Done, time_words}
+use Rattle.cm_insn.specs.Insn.{time_words}
 use Rattle.cm_signal.specs.Signals.{SignalsText}
 use Rattle.cm_sub.specs.Checks.{first_refusal}
 use Rattle.cm_sub.specs.Files.{close_checks, closed, open_checks, opened}
@@ -17,25 +17,23 @@ use Rattle.cm_session.specs.Limits.{InOrder}
 use Rattle.cm_session.specs.declared.op.Op.{Op}
 use Rattle.cm_session.specs.declared.op.Op.TheVariants as ops
 use Rattle.cm_session.specs.declared.op.SessionLine.{SessionLine}
-use Rattle.cm_replay.specs.Answers.{Data, Fine, Reply, unless_ended}
-use Rattle.cm_replay.specs.Calling.{cmd_reply, insn_reply, trigger_reply}
+use Rattle.cm_replay.specs.Answers.{Data, Fine, Reply}
 use Rattle.cm_running.specs.Triggering.{trigger_on}
-use Rattle.cm_replay.specs.Forms.{form, line_checks, named_sub}
+use Rattle.cm_replay.specs.Forms.{Form, checks_of, form, line_checks, named_sub, reply_of}
 use Rattle.cm_replay.specs.Job.{JobText, setting_of}
 use Rattle.cm_replay.specs.Law.{HasPlaces, History, IsSoundJob, Keeps, Wiring, no_history, wiring_at}
 use Rattle.cm_running.specs.Running.{Running, Schedule, arrived, brought, collected, is_out, moved_on, put_out, served}
-use Rattle.cm_replay.specs.Reading.{look_reply, map_reply, on_running, read_reply, release_reply}
-use Rattle.cm_running.specs.Reading.{reported_end}
+use Rattle.cm_replay.specs.Moves.{Act, Fill, Map, Mark, Release, Take, Trigger, Write, acted}
 use Rattle.cm_replay.specs.Ready.{AllCanMove, CanMove, StaysReady}
 use Rattle.cm_running.specs.Schedules.{triggered}
 use Rattle.cm_replay.specs.Session.{Outcome, act, act_on, brought_all, brought_device, closed_state, here, step, with_reply}
 use Rattle.cm_replay.specs.State.{Device, Here, State, at_start, device_at, idle_device, plan_here}
-use Rattle.cm_replay.specs.Writing.{fill_reply, mark_reply, write_reply}
 use Rattle.cm_text.specs.declared.end.End.{End}
 use Rattle.cm_expand.proofs.Come.{come-later}
 use Rattle.cm_replay.proofs.Counts.{either-way}
 use Rattle.cm_replay.proofs.Laws.{input, moves, output, served-in, served-out, stays}
 use Rattle.cm_replay.proofs.SessionLaws.{AllKeep, IsSoundState, all-brought, all-idle, device_at-brought, first-idle, left-at, reached, set-other, set-same, sound-brought, sound-start, sound-stepped, step-well}
+use Rattle.cm_replay.proofs.Shapes.{form-holds}
 
 -- what holds of a command's plan
 abbrev pub HasPlan : (PlanText → Type 0) → Option Running → Type 0
@@ -58,31 +56,6 @@ plan-brought P time (Some c) p = by_end c.end refl
     by_end None runs = rw (moves time c runs) (plan-moved P time c p)
     by_end (Some e) ended = rw (stays time c e ended) p
 
-plan-ended : (P : PlanText → Type 0) (h : Here) (e : Option End) (reply : Reply) → HasPlan P reply.device.running → HasPlan P (unless_ended h e reply).device.running
-plan-ended P h None reply p = p
-plan-ended P h (Some e) reply p = tt
-
-plan-served : (P : PlanText → Type 0) (h : Here) (reply : Running → Reply) (running : Option Running) → ((c : Running) → P c.schedule.plan → HasPlan P (reply c).device.running) → running ≡ h.device.running → HasPlan P running →
-    HasPlan P (on_running h running reply).device.running
-plan-served P h reply None all same p = subst (HasPlan P) same p
-plan-served P h reply (Some c) all same p = plan-ended P h (reported_end c) (reply c) (all c p)
-
-plan-look : (P : PlanText → Type 0) (i : ℕ) (h : Here) (running : Option Running) → running ≡ h.device.running → HasPlan P running → HasPlan P (look_reply i h running).device.running
-plan-look P i h None same p = subst (HasPlan P) same p
-plan-look P i h (Some c) same p = subst (HasPlan P) same p
-
-plan-release : (P : PlanText → Type 0) (k : ℕ) (h : Here) (running : Option Running) → running ≡ h.device.running → HasPlan P running → HasPlan P (release_reply k h running).device.running
-plan-release P k h None same p = subst (HasPlan P) same p
-plan-release P k h (Some c) same p = p
-
-plan-mark : (P : PlanText → Type 0) (k : ℕ) (h : Here) (running : Option Running) → running ≡ h.device.running → HasPlan P running → HasPlan P (mark_reply k h running).device.running
-plan-mark P k h None same p = subst (HasPlan P) same p
-plan-mark P k h (Some c) same p = p
-
-plan-shown : (P : PlanText → Type 0) (shown : Bool) (h : Here) (done : Option Done) → HasPlan P h.device.running → HasPlan P (insn_reply shown h done).device.running
-plan-shown P shown h None p = p
-plan-shown P shown h (Some done) p = p
-
 -- what holds of a plan holds of it once it is triggered here
 abbrev IsKept : (PlanText → Type 0) → Here → Type 0
 IsKept P h = (p : PlanText) → P p → P (record p { trig = Some h.time })
@@ -91,9 +64,8 @@ IsKept P h = (p : PlanText) → P p → P (record p { trig = Some h.time })
 abbrev IsNew : (PlanText → Type 0) → Here → Type 0
 IsNew P h = (cmd : CmdText) → (tested h.sub cmd).0 ≡ 0 → P (plan_here h cmd)
 
-plan-trigger : (P : PlanText → Type 0) (h : Here) (running : Option Running) → IsKept P h → running ≡ h.device.running → HasPlan P running → HasPlan P (trigger_reply h running).device.running
-plan-trigger P h None kept same p = subst (HasPlan P) same p
-plan-trigger P h (Some c) kept same p = by_end c.end refl
+plan-trigger : (P : PlanText → Type 0) (h : Here) (c : Running) → IsKept P h → P c.schedule.plan → HasPlan P (Some (trigger_on h.time c))
+plan-trigger P h c kept p = by_end c.end refl
   where
     by_end : (e : Option End) → c.end ≡ e → HasPlan P (Some (trigger_on h.time c))
     by_end None runs =
@@ -103,34 +75,26 @@ plan-trigger P h (Some c) kept same p = by_end c.end refl
         let is : trigger_on h.time c ≡ c = rw ended refl in
         subst (λ (d : Running). HasPlan P (Some d)) (sym is) p
 
-plan-call : (P : PlanText → Type 0) (cmd : CmdText) (h : Here) → IsNew P h → HasPlan P h.device.running → HasPlan P (cmd_reply h cmd).device.running
-plan-call P cmd h new p = elim (cases_Bool ((tested h.sub cmd).0 == 0)) [
-  | inl passed ↦ rw passed (new cmd (eqb-true _ _ passed))
-  | inr failed ↦ rw failed p
-]
+-- a trigger is the only act on a plan
+plan-act : (P : PlanText → Type 0) (act : Act) (h : Here) (c : Running) → IsKept P h → P c.schedule.plan → HasPlan P (Some (acted act h.time c))
+plan-act P (Take shown n) h c kept p = p
+plan-act P (Map n) h c kept p = p
+plan-act P (Release k) h c kept p = p
+plan-act P (Write words) h c kept p = p
+plan-act P (Fill words) h c kept p = p
+plan-act P (Mark k) h c kept p = p
+plan-act P Trigger h c kept p = plan-trigger P h c kept p
 
 -- what holds of each new plan, and isn't changed by a trigger, holds after each form of line
-form-plan : (P : PlanText → Type 0) (op : Op) (h : Here) → IsNew P h → IsKept P h → HasPlan P h.device.running → HasPlan P (form op h).reply.device.running
-form-plan P ops.OpenFile h new kept p = p
-form-plan P ops.CloseFile h new kept p = p
-form-plan P (ops.Lock sub) h new kept p = p
-form-plan P (ops.Unlock sub) h new kept p = p
-form-plan P (ops.Cmd cmd) h new kept p = plan-call P cmd h new p
-form-plan P (ops.Cancel sub) h new kept p = tt
-form-plan P (ops.Read sub n) h new kept p = plan-served P h (read_reply n h) h.device.running (λ c q. q) refl p
-form-plan P (ops.Map sub n) h new kept p = plan-served P h (map_reply n h) h.device.running (λ c q. q) refl p
-form-plan P (ops.Look sub i) h new kept p = plan-look P i h h.device.running refl p
-form-plan P (ops.Release sub k) h new kept p = plan-release P k h h.device.running refl p
-form-plan P (ops.Contents sub) h new kept p = p
-form-plan P (ops.Write sub words) h new kept p = plan-served P h (write_reply words h) h.device.running (λ c q. q) refl p
-form-plan P (ops.Fill sub words) h new kept p = plan-served P h (fill_reply words h) h.device.running (λ c q. q) refl p
-form-plan P (ops.Mark sub k) h new kept p = plan-mark P k h h.device.running refl p
-form-plan P (ops.InsnRead sub entry n) h new kept p = plan-shown P true h _ p
-form-plan P (ops.InsnWrite sub entry words) h new kept p = plan-shown P false h _ p
-form-plan P (ops.InsnBits sub mask bits) h new kept p = plan-shown P true h _ p
-form-plan P (ops.InsnConfig sub entry word) h new kept p = plan-shown P false h _ p
-form-plan P (ops.InsnGtod sub) h new kept p = p
-form-plan P (ops.InsnIntTrig sub number) h new kept p = plan-trigger P h h.device.running kept refl p
+form-plan : (P : PlanText → Type 0) (f : Form) (h : Here) → IsNew P h → IsKept P h → HasPlan P h.device.running → HasPlan P (reply_of f h).device.running
+form-plan P f h new kept p = form-holds (λ (reply : Reply). HasPlan P reply.device.running) f h (record {
+  nothing = λ answer. p;
+  lock = λ holder. p;
+  more = λ act c runs. plan-act P act h c kept (subst (HasPlan P) runs p);
+  over = λ answer. tt;
+  call = λ cmd passed. new cmd passed;
+  insn = λ shown done long. p;
+})
 
 -- what holds of the plans of all subdevices, by their numbers
 abbrev pub AllPlans : (ℕ → PlanText → Type 0) → List Device → Type 0
@@ -152,8 +116,8 @@ plans-on : (P : ℕ → PlanText → Type 0) (s : Setting) (line : SessionLine) 
     AllPlans P state.devices → LeavesPlans P (act_on op (here s line state) state)
 plans-on P s line op state sound new kept all =
     let h = here s line state in
-    either-way (LeavesPlans P) (first_refusal (line_checks op h ++ (form op h).checks)) state (with_reply h.index state (form op h).reply)
-    (λ passed. plans-set P state.devices (named_sub line.op) (form op h).reply.device (reached s line op state sound passed).0 all (form-plan (P (named_sub line.op)) op h new kept (all (named_sub line.op))))
+    either-way (LeavesPlans P) (first_refusal (line_checks op h ++ checks_of (form op h) h)) state (with_reply h.index state (reply_of (form op h) h))
+    (λ passed. plans-set P state.devices (named_sub line.op) (reply_of (form op h) h).device (reached s line op state sound passed).0 all (form-plan (P (named_sub line.op)) (form op h) h new kept (all (named_sub line.op))))
     (λ error. all)
 
 -- what holds of each new plan, and isn't changed by a trigger, holds after each line

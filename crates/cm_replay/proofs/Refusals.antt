@@ -1,28 +1,24 @@
 -- A line that is refused leaves the state.
-use Rattle.std.proofs.Common.{◌≡◌, ℕ, Bool, true, false, ◌++◌, set, refl, ap, ◌∙◌, Option, Some, None}
-use Rattle.std.specs.Prelude.{if◌then◌else◌, ◌==◌}
+use Rattle.std.proofs.Common.{◌≡◌, ℕ, true, false, ◌++◌, set, refl, ap, ◌∙◌, Option, Some, None}
 use Rattle.std.proofs.lemmas.List.{set-get_or}
-use Rattle.cm_cmd.specs.Command.{CmdText}
 use Rattle.cm_signal.specs.Setting.{Setting}
-use Rattle.cm_insn.specs.Insn.{Done, time_words}
+use Rattle.cm_insn.specs.Insn.{time_words}
 use Rattle.cm_sub.specs.Checks.{first_refusal}
 use Rattle.cm_sub.specs.Files.{FilesText, close_checks, open_checks, opened, with_runner}
 use Rattle.cm_sub.specs.declared.errno.Errno.{Errno}
-use Rattle.cm_test.specs.Questions.{tested}
 use Rattle.cm_session.specs.declared.op.Op.{Op}
 use Rattle.cm_session.specs.declared.op.Op.TheVariants as ops
 use Rattle.cm_session.specs.declared.op.SessionLine.{SessionLine}
-use Rattle.cm_replay.specs.Answers.{Answer, Data, Ended, Fine, Refused, Rejected, Reply, kept, unless_ended}
-use Rattle.cm_replay.specs.Calling.{insn_reply, trigger_reply}
-use Rattle.cm_replay.specs.Forms.{form, line_checks, named_sub}
-use Rattle.cm_replay.specs.Reading.{look_reply, map_reply, on_running, read_reply, release_reply}
-use Rattle.cm_running.specs.Reading.{reported_end}
+use Rattle.cm_replay.specs.Answers.{Answer, Data, Ended, Fine, Refused, Rejected, Reply, kept}
+use Rattle.cm_replay.specs.Calling.{insn_here}
+use Rattle.cm_replay.specs.Forms.{checks_of, form, line_checks, named_sub, reply_of}
+use Rattle.cm_replay.specs.Moves.{Act, Cancel, Count, Do, Fill, Instruct, Lock, Look, Map, Mark, Move, Release, Serve, Start, Take, Trigger, Unlock, Write, act_reply, move_reply}
+use Rattle.cm_replay.specs.Reading.{looked}
 use Rattle.cm_replay.specs.Refusals.{Leaves, RefusalLaw}
 use Rattle.cm_running.specs.Running.{Running}
 use Rattle.cm_replay.specs.Session.{Outcome, act, act_on, brought_all, closed_state, here, unless_refused, with_reply}
 use Rattle.cm_replay.specs.State.{Device, Here, State, device_at}
-use Rattle.cm_replay.specs.Writing.{fill_reply, mark_reply, write_reply}
-use Rattle.cm_text.specs.declared.end.End.{End}
+use Rattle.cm_replay.proofs.Shapes.{calls, does, instructs, serves, told-idle}
 
 -- an answer that refuses comes with nothing changed, and one that reports an end with an idle subdevice
 abbrev KeptIf : Answer → Here → FilesText → Device → Type 0
@@ -34,60 +30,31 @@ KeptIf other h files device = Unit {0}
 abbrev IsKept : Here → Reply → Type 0
 IsKept h reply = KeptIf reply.answer h reply.files reply.device
 
-ended : (h : Here) (e : Option End) (reply : Reply) → IsKept h reply → IsKept h (unless_ended h e reply)
-ended h None reply k = k
-ended h (Some e) reply k = (refl, refl)
+act-kept : (act : Act) (h : Here) (c : Running) → IsKept h (act_reply act h c)
+act-kept (Take true n) h c = tt
+act-kept (Take false n) h c = tt
+act-kept (Map n) h c = tt
+act-kept (Release k) h c = tt
+act-kept (Write words) h c = tt
+act-kept (Fill words) h c = tt
+act-kept (Mark k) h c = tt
+act-kept Trigger h c = tt
 
-rejected : (h : Here) (test : Bool) (reply : Reply) (step : ℕ) (cmd : CmdText) → IsKept h reply → IsKept h (if test then reply else kept h (Rejected step cmd))
-rejected h true reply step cmd k = k
-rejected h false reply step cmd k = (refl, refl)
+looked-kept : (i : ℕ) (h : Here) (running : Option Running) → IsKept h (kept h (looked i running))
+looked-kept i h None = tt
+looked-kept i h (Some c) = tt
 
-instructs : (t : Bool) (h : Here) (done : Option Done) → IsKept h (insn_reply t h done)
-instructs t h None = (refl, refl)
-instructs t h (Some done) = tt
-
-served : (h : Here) (reply : Running → Reply) → ((c : Running) → IsKept h (reply c)) → (c : Option Running) → IsKept h (on_running h c reply)
-served h reply all None = tt
-served h reply all (Some c) = ended h (reported_end c) (reply c) (all c)
-
-looks : (i : ℕ) (h : Here) (c : Option Running) → IsKept h (look_reply i h c)
-looks i h None = tt
-looks i h (Some c) = tt
-
-releases : (k : ℕ) (h : Here) (c : Option Running) → IsKept h (release_reply k h c)
-releases k h None = tt
-releases k h (Some c) = tt
-
-marks : (k : ℕ) (h : Here) (c : Option Running) → IsKept h (mark_reply k h c)
-marks k h None = tt
-marks k h (Some c) = tt
-
-triggers : (h : Here) (c : Option Running) → IsKept h (trigger_reply h c)
-triggers h None = tt
-triggers h (Some c) = tt
-
--- the reply of each form
-form-kept : (op : Op) (h : Here) → IsKept h (form op h).reply
-form-kept ops.OpenFile h = tt
-form-kept ops.CloseFile h = tt
-form-kept (ops.Lock sub) h = tt
-form-kept (ops.Unlock sub) h = tt
-form-kept (ops.Cmd cmd) h = rejected h ((tested h.sub cmd).0 == 0) _ (tested h.sub cmd).0 (tested h.sub cmd).1 tt
-form-kept (ops.Cancel sub) h = tt
-form-kept (ops.Read sub n) h = served h (read_reply n h) (λ c. tt) h.device.running
-form-kept (ops.Map sub n) h = served h (map_reply n h) (λ c. tt) h.device.running
-form-kept (ops.Look sub i) h = looks i h h.device.running
-form-kept (ops.Release sub k) h = releases k h h.device.running
-form-kept (ops.Contents sub) h = tt
-form-kept (ops.Write sub words) h = served h (write_reply words h) (λ c. tt) h.device.running
-form-kept (ops.Fill sub words) h = served h (fill_reply words h) (λ c. tt) h.device.running
-form-kept (ops.Mark sub k) h = marks k h h.device.running
-form-kept (ops.InsnRead sub entry n) h = instructs true h _
-form-kept (ops.InsnWrite sub entry words) h = instructs false h _
-form-kept (ops.InsnBits sub mask bits) h = instructs true h _
-form-kept (ops.InsnConfig sub entry word) h = instructs false h _
-form-kept (ops.InsnGtod sub) h = tt
-form-kept (ops.InsnIntTrig sub number) h = triggers h h.device.running
+-- the reply to each move
+move-kept : (move : Move) (h : Here) → IsKept h (move_reply move h)
+move-kept Lock h = tt
+move-kept Unlock h = tt
+move-kept (Start cmd) h = calls (IsKept h) h cmd (λ passed. tt) (refl, refl)
+move-kept Cancel h = tt
+move-kept (Instruct shown code entry given) h = instructs (IsKept h) shown h (insn_here h code entry given) (refl, refl) (λ d done. tt)
+move-kept (Count k) h = tt
+move-kept (Look i) h = looked-kept i h h.device.running
+move-kept (Serve act) h = serves (IsKept h) h h.device.running (act_reply act h) tt (λ c e runs said. (refl, refl)) (λ c runs. act-kept act h c)
+move-kept (Do act) h = does (IsKept h) act h h.device.running (λ none. told-idle (λ answer. IsKept h (kept h answer)) act tt (λ k. tt) (λ k. tt)) (λ c runs. act-kept act h c)
 
 -- what is kept is put back where it was
 put_back : (a : Answer) (h : Here) (state : State) (files : FilesText) (device : Device) → h.files ≡ state.files → set state.devices h.index h.device ≡ state.devices → h.device ≡ device_at state.devices h.index → KeptIf a h files device →
@@ -106,8 +73,8 @@ unless sub (Some e) state t l = refl
 
 on-leaves : (op : Op) (h : Here) (state : State) → h.files ≡ state.files → set state.devices h.index h.device ≡ state.devices → h.device ≡ device_at state.devices h.index → Leaves h.index state (act_on op h state).answer (act_on op h state).state
 on-leaves op h state same there its =
-    unless h.index (first_refusal (line_checks op h ++ (form op h).checks)) state (with_reply h.index state (form op h).reply)
-    (put_back (form op h).reply.answer h state (form op h).reply.files (form op h).reply.device same there its (form-kept op h))
+    unless h.index (first_refusal (line_checks op h ++ checks_of (form op h) h)) state (with_reply h.index state (reply_of (form op h) h))
+    (put_back (reply_of (form op h) h).answer h state (reply_of (form op h) h).files (reply_of (form op h) h).device same there its (move-kept (form op h).move h))
 
 act-leaves : (s : Setting) (line : SessionLine) (op : Op) (state : State) → Leaves (named_sub line.op) state (act s line op state).answer (act s line op state).state
 act-leaves s line ops.OpenFile state = unless (named_sub line.op) (first_refusal (open_checks line.file state.files)) state (record { answer = Fine; state = record state { files = opened line.file state.files } }) tt

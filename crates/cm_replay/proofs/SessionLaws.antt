@@ -20,7 +20,7 @@ use Rattle.cm_session.specs.declared.op.Op.{Op}
 use Rattle.cm_session.specs.declared.op.Op.TheVariants as ops
 use Rattle.cm_session.specs.declared.op.SessionLine.{SessionLine}
 use Rattle.cm_replay.specs.Answers.{Answer, Data, Fine, Refused, Reply}
-use Rattle.cm_replay.specs.Forms.{form, line_checks, named_sub}
+use Rattle.cm_replay.specs.Forms.{checks_of, form, line_checks, named_sub, reply_of}
 use Rattle.cm_replay.specs.Job.{setting_of}
 use Rattle.cm_replay.specs.Law.{Continues, GoesWell, History, Keeps, SessionLaw, no_history, remembered, remembered_at, wiring_at}
 use Rattle.cm_running.specs.Running.{Running}
@@ -94,11 +94,11 @@ pub set-other : (P : Option Running → Type 0) (devices : List Device) (sub i :
 set-other P devices sub i d apart p = rw (get_or-set_other devices sub i d (idle_device no_sub) apart) p
 
 -- a line that no check refuses names a subdevice that is there
-pub reached : (s : Setting) (line : SessionLine) (op : Op) (state : State) → IsSoundState s state → first_refusal (line_checks op (here s line state) ++ (form op (here s line state)).checks) ≡ None →
-    (named_sub line.op < length state.devices) × (first_refusal (form op (here s line state)).checks ≡ None)
+pub reached : (s : Setting) (line : SessionLine) (op : Op) (state : State) → IsSoundState s state → first_refusal (line_checks op (here s line state) ++ checks_of (form op (here s line state)) (here s line state)) ≡ None →
+    (named_sub line.op < length state.devices) × (first_refusal (checks_of (form op (here s line state)) (here s line state)) ≡ None)
 reached s line op state sound passed =
     let h = here s line state in
-    let p = passes-both (line_checks op h) (form op h).checks passed in
+    let p = passes-both (line_checks op h) (checks_of (form op h) h) passed in
     let within = le-false _ _ (passes NoDev (nat_le (length h.files.claims) h.index) _ (passes Inval (not (is_open h.files h.file)) _ p.0).1).0 in
     (omega (arith, within, sound.claims), p.1)
 
@@ -150,17 +150,17 @@ replied-well s time sub histories state reply within keep continues after = reco
 on-well : (s : Setting) (line : SessionLine) (op : Op) (histories : ℕ → History) (state : State) → IsSoundState s state → line.time ≤ s.signals.horizon → AllKeep s line.time histories state.devices →
     StepsWell s line.time (named_sub line.op) histories state (act_on op (here s line state) state)
 on-well s line op histories state sound by keep =
-    either-way (StepsWell s line.time (named_sub line.op) histories state) (first_refusal (line_checks op h ++ (form op h).checks)) state (with_reply h.index state (form op h).reply) well
+    either-way (StepsWell s line.time (named_sub line.op) histories state) (first_refusal (line_checks op h ++ checks_of (form op h) h)) state (with_reply h.index state (reply_of (form op h) h)) well
     (refused-well s line.time (named_sub line.op) histories state keep)
   where
     h : Here
     h = here s line state
 
-    well : first_refusal (line_checks op h ++ (form op h).checks) ≡ None → StepsWell s line.time (named_sub line.op) histories state (with_reply (named_sub line.op) state (form op h).reply)
+    well : first_refusal (line_checks op h ++ checks_of (form op h) h) ≡ None → StepsWell s line.time (named_sub line.op) histories state (with_reply (named_sub line.op) state (reply_of (form op h) h))
     well passed =
         let r = reached s line op state sound passed in
-        let w = form-well op h (histories (named_sub line.op)) (plannable s line state sound.subs sound.signals by (omega (arith, r.0, sound.many))) by (keep (named_sub line.op)) r.1 in
-        replied-well s line.time (named_sub line.op) histories state (form op h).reply r.0 keep w.0 w.1
+        let w = form-well (form op h) h (histories (named_sub line.op)) (plannable s line state sound.subs sound.signals by (omega (arith, r.0, sound.many))) by (keep (named_sub line.op)) r.1 in
+        replied-well s line.time (named_sub line.op) histories state (reply_of (form op h) h) r.0 keep w.0 w.1
 
 -- what a line does, once all commands are brought to its time, is well
 pub act-well : (s : Setting) (line : SessionLine) (op : Op) (histories : ℕ → History) (state : State) → IsSoundState s state → line.time ≤ s.signals.horizon → AllKeep s line.time histories state.devices →

@@ -1,79 +1,87 @@
--- The few ways in which a line of any form replies.
-use Rattle.std.proofs.Common.{ℕ, Bool, true, false, List, [], ◌∷◌, replicate, Option, Some, None}
+-- The few ways in which a line replies, whatever its move is.
+use Rattle.std.proofs.Common.{◌≡◌, ℕ, Bool, true, false, length, refl, subst, Option, Some, None}
 use Rattle.std.specs.Prelude.{◌==◌, if◌then◌else◌}
+use Rattle.std.proofs.lemmas.Bool.{eqb-true}
 use Rattle.cm_cmd.specs.Command.{CmdText}
-use Rattle.cm_insn.specs.declared.insn.InsnCode.{InsnCode}
-use Rattle.cm_insn.specs.declared.insn.InsnCode.TheVariants as codes
+use Rattle.cm_insn.specs.Insn.{Done, state_after}
+use Rattle.cm_insn.proofs.Channels.{as_long}
 use Rattle.cm_sub.specs.Files.{with_holder}
+use Rattle.cm_sub.specs.declared.errno.Errno.TheVariants.{Inval}
 use Rattle.cm_test.specs.Questions.{tested}
-use Rattle.cm_session.specs.declared.op.Op.{Op}
-use Rattle.cm_session.specs.declared.op.Op.TheVariants as ops
-use Rattle.cm_replay.specs.Answers.{Answer, Ended, Fine, Reply, claimed, goes_on, idle, kept, unless_ended}
-use Rattle.cm_replay.specs.Calling.{insn_here, insn_reply, start_reply, trigger_reply}
-use Rattle.cm_replay.specs.Forms.{form}
-use Rattle.cm_replay.specs.Reading.{look_reply, map_reply, on_running, read_reply, release_reply}
+use Rattle.cm_replay.specs.Answers.{Answer, Ended, Fine, Idle, Marked, Refused, Rejected, Released, Reply, claimed, idle, kept, unless_ended}
+use Rattle.cm_replay.specs.Calling.{cmd_reply, done_reply, insn_here, insn_reply, start_reply}
+use Rattle.cm_replay.specs.Forms.{Form, reply_of}
+use Rattle.cm_replay.specs.Moves.{Act, Cancel, Count, Do, Fill, Instruct, Lock, Look, Map, Mark, Move, Release, Serve, Start, Take, Trigger, Unlock, Write, act_reply, do_reply, move_reply, told_idle}
+use Rattle.cm_replay.specs.Reading.{on_running}
 use Rattle.cm_running.specs.Reading.{reported_end}
 use Rattle.cm_running.specs.Running.{Running}
 use Rattle.cm_replay.specs.State.{Here}
-use Rattle.cm_replay.specs.Writing.{fill_reply, mark_reply, write_reply}
 use Rattle.cm_text.specs.declared.end.End.{End}
 
--- what holds of each of these ways
+either : (P : Reply → Type 0) (b : Bool) (x y : Reply) → (b ≡ true → P x) → P y → P (if b then x else y)
+either P true x y px py = px refl
+either P false x y px py = py
+
+-- a command that is called starts where it passes its test
+pub calls : (P : Reply → Type 0) (h : Here) (cmd : CmdText) → ((tested h.sub cmd).0 ≡ 0 → P (start_reply h cmd)) → P (kept h (Rejected (tested h.sub cmd).0 (tested h.sub cmd).1)) → P (cmd_reply h cmd)
+calls P h cmd starts fails = either P ((tested h.sub cmd).0 == 0) (start_reply h cmd) (kept h (Rejected (tested h.sub cmd).0 (tested h.sub cmd).1)) (λ e. starts (eqb-true _ _ e)) fails
+
+-- an instruction is done or refused
+pub instructs : (P : Reply → Type 0) (shown : Bool) (h : Here) (done : Option Done) → P (kept h (Refused Inval)) → ((d : Done) → done ≡ Some d → P (done_reply shown h d)) → P (insn_reply shown h done)
+instructs P shown h None refused does = refused
+instructs P shown h (Some d) refused does = does d refl
+
+-- what runs on is served, and of what doesn't the end is reported
+pub serves : (P : Reply → Type 0) (h : Here) (running : Option Running) (reply : Running → Reply) → P (kept h Idle) → ((c : Running) (e : End) → running ≡ Some c → reported_end c ≡ Some e → P (idle h (Ended e))) →
+    ((c : Running) → running ≡ Some c → P (reply c)) → P (on_running h running reply)
+serves P h None reply nothing over on = nothing
+serves P h (Some c) reply nothing over on = by (reported_end c) refl
+  where
+    by : (e : Option End) → reported_end c ≡ e → P (unless_ended h e (reply c))
+    by None said = on c refl
+    by (Some e) said = over c e refl said
+
+-- an act on what runs, if anything does
+pub does : (P : Reply → Type 0) (act : Act) (h : Here) (running : Option Running) → (running ≡ None → P (kept h (told_idle act))) → ((c : Running) → running ≡ Some c → P (act_reply act h c)) → P (do_reply act h running)
+does P act h None nothing on = nothing refl
+does P act h (Some c) nothing on = on c refl
+
+-- what an act answers where nothing runs
+pub told-idle : (P : Answer → Type 0) (act : Act) → P Idle → ((k : ℕ) → P (Released k)) → ((k : ℕ) → P (Marked k)) → P (told_idle act)
+told-idle P (Take shown n) idly released marked = idly
+told-idle P (Map n) idly released marked = idly
+told-idle P (Release k) idly released marked = released k
+told-idle P (Write words) idly released marked = idly
+told-idle P (Fill words) idly released marked = idly
+told-idle P (Mark k) idly released marked = marked k
+told-idle P Trigger idly released marked = idly
+
+-- what holds of each way, where no answer counts
 pub record Holds (P : Reply → Type 0) (h : Here) : Type 0 where
   pub nothing : (answer : Answer) → P (kept h answer)
   pub lock : (holder : Option ℕ) → P (claimed h (with_holder holder h.index h.files) Fine)
-  pub more : (c : Running) (answer : Answer) → P (goes_on h c answer)
+  pub more : (act : Act) (c : Running) → h.device.running ≡ Some c → P (act_reply act h c)
   pub over : (answer : Answer) → P (idle h answer)
-  pub call : (cmd : CmdText) → P (start_reply h cmd)
-  pub insn : (shown : Bool) (code : InsnCode) (entry : ℕ) (given : List ℕ) → P (insn_reply shown h (insn_here h code entry given))
+  pub call : (cmd : CmdText) → (tested h.sub cmd).0 ≡ 0 → P (start_reply h cmd)
+  pub insn : (shown : Bool) (done : Done) → length done.state.values ≡ length h.device.state.values → P (done_reply shown h done)
 
-ended : (P : Reply → Type 0) (h : Here) (e : Option End) (reply : Reply) → Holds P h → P reply → P (unless_ended h e reply)
-ended P h None reply holds p = p
-ended P h (Some e) reply holds p = holds.over (Ended e)
+-- holds of the reply to each move
+move-holds : (P : Reply → Type 0) (move : Move) (h : Here) → Holds P h → P (move_reply move h)
+move-holds P Lock h holds = holds.lock _
+move-holds P Unlock h holds = holds.lock _
+move-holds P (Start cmd) h holds = calls P h cmd (holds.call cmd) (holds.nothing _)
+move-holds P Cancel h holds = holds.over _
+move-holds P (Instruct shown code entry given) h holds =
+    instructs P shown h (insn_here h code entry given) (holds.nothing _) (λ d done. holds.insn shown d (long d (insn_here h code entry given) done
+    (as_long (record { sub = h.sub; index = h.index; signals = h.signals; time = h.time }) h.device.state code entry given).values))
+  where
+    long : (d : Done) (done : Option Done) → done ≡ Some d → length (state_after done h.device.state).values ≡ length h.device.state.values → length d.state.values ≡ length h.device.state.values
+    long d done is same = subst (λ (o : Option Done). length (state_after o h.device.state).values ≡ length h.device.state.values) is same
+move-holds P (Count k) h holds = holds.nothing _
+move-holds P (Look i) h holds = holds.nothing _
+move-holds P (Serve act) h holds = serves P h h.device.running (act_reply act h) (holds.nothing _) (λ c e runs said. holds.over _) (holds.more act)
+move-holds P (Do act) h holds = does P act h h.device.running (λ none. holds.nothing _) (holds.more act)
 
-either : (P : Reply → Type 0) (b : Bool) (x y : Reply) → P x → P y → P (if b then x else y)
-either P true x y px py = px
-either P false x y px py = py
-
-served : (P : Reply → Type 0) (h : Here) (reply : Running → Reply) (c : Option Running) → Holds P h → ((c : Running) → P (reply c)) → P (on_running h c reply)
-served P h reply None holds all = holds.nothing _
-served P h reply (Some c) holds all = ended P h (reported_end c) (reply c) holds (all c)
-
-look-holds : (P : Reply → Type 0) (n : ℕ) (h : Here) (c : Option Running) → Holds P h → P (look_reply n h c)
-look-holds P n h None holds = holds.nothing _
-look-holds P n h (Some c) holds = holds.nothing _
-
-release-holds : (P : Reply → Type 0) (n : ℕ) (h : Here) (c : Option Running) → Holds P h → P (release_reply n h c)
-release-holds P n h None holds = holds.nothing _
-release-holds P n h (Some c) holds = holds.more _ _
-
-mark-holds : (P : Reply → Type 0) (n : ℕ) (h : Here) (c : Option Running) → Holds P h → P (mark_reply n h c)
-mark-holds P n h None holds = holds.nothing _
-mark-holds P n h (Some c) holds = holds.more _ _
-
-trigger-holds : (P : Reply → Type 0) (h : Here) (c : Option Running) → Holds P h → P (trigger_reply h c)
-trigger-holds P h None holds = holds.nothing _
-trigger-holds P h (Some c) holds = holds.more _ _
-
--- what holds of each way in which a line can reply holds of the reply of each form
-pub form-holds : (P : Reply → Type 0) (op : Op) (h : Here) → Holds P h → P (form op h).reply
-form-holds P ops.OpenFile h holds = holds.nothing _
-form-holds P ops.CloseFile h holds = holds.nothing _
-form-holds P (ops.Lock sub) h holds = holds.lock _
-form-holds P (ops.Unlock sub) h holds = holds.lock _
-form-holds P (ops.Cmd cmd) h holds = either P ((tested h.sub cmd).0 == 0) _ _ (holds.call cmd) (holds.nothing _)
-form-holds P (ops.Cancel sub) h holds = holds.over _
-form-holds P (ops.Read sub n) h holds = served P h (read_reply n h) h.device.running holds (λ c. holds.more _ _)
-form-holds P (ops.Map sub n) h holds = served P h (map_reply n h) h.device.running holds (λ c. holds.more _ _)
-form-holds P (ops.Look sub i) h holds = look-holds P i h h.device.running holds
-form-holds P (ops.Release sub k) h holds = release-holds P k h h.device.running holds
-form-holds P (ops.Contents sub) h holds = holds.nothing _
-form-holds P (ops.Write sub words) h holds = served P h (write_reply words h) h.device.running holds (λ c. holds.more _ _)
-form-holds P (ops.Fill sub words) h holds = served P h (fill_reply words h) h.device.running holds (λ c. holds.more _ _)
-form-holds P (ops.Mark sub k) h holds = mark-holds P k h h.device.running holds
-form-holds P (ops.InsnRead sub entry n) h holds = holds.insn true codes.Read entry (replicate n 0)
-form-holds P (ops.InsnWrite sub entry words) h holds = holds.insn false codes.Write entry words
-form-holds P (ops.InsnBits sub mask bits) h holds = holds.insn true codes.Bits 0 (mask ∷ bits ∷ [])
-form-holds P (ops.InsnConfig sub entry word) h holds = holds.insn false codes.Config entry (word ∷ [])
-form-holds P (ops.InsnGtod sub) h holds = holds.nothing _
-form-holds P (ops.InsnIntTrig sub number) h holds = trigger-holds P h h.device.running holds
+-- and of each form
+pub form-holds : (P : Reply → Type 0) (f : Form) (h : Here) → Holds P h → P (reply_of f h)
+form-holds P f h holds = move-holds P f.move h holds

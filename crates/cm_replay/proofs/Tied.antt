@@ -1,96 +1,47 @@
 -- A subdevice is busy exactly where a command is there.
 use Rattle.std.proofs.Common.{◌≡◌, ℕ, zero, suc, ◌<◌, Bool, true, false, List, [], ◌∷◌, ◌++◌, length, map, get_or, set, refl, sym, ap, ◌∙◌, inl, inr, arith, Option, Some, None, get_or-set_same, get_or-set_other}
-use Rattle.std.specs.Prelude.{◌==◌, if◌then◌else◌}
+use Rattle.std.specs.Prelude.{if◌then◌else◌}
 use Rattle.std.specs.Option.{is_some, option_map}
 use Rattle.std.proofs.lemmas.Bool.{cases_eq}
 use Rattle.std.proofs.lemmas.List.{length-map}
 use Rattle.cm_board.specs.Board.{no_sub}
 use Rattle.cm_signal.specs.Setting.{Setting}
-use Rattle.cm_insn.specs.Insn.{Done}
 use Rattle.cm_sub.specs.Checks.{first_refusal}
 use Rattle.cm_sub.specs.Claims.{claim_without, nobody}
-use Rattle.cm_sub.specs.Files.{FilesText, claim_at, close_checks, open_checks, reach_checks}
+use Rattle.cm_sub.specs.Files.{FilesText, claim_at, close_checks, open_checks, reach_checks, with_claim}
 use Rattle.cm_sub.specs.declared.claim.Claim.{Claim}
 use Rattle.cm_sub.specs.declared.errno.Errno.{Errno}
-use Rattle.cm_test.specs.Questions.{tested}
 use Rattle.cm_session.specs.declared.op.Op.{Op}
 use Rattle.cm_session.specs.declared.op.Op.TheVariants as ops
 use Rattle.cm_session.specs.declared.op.SessionLine.{SessionLine}
-use Rattle.cm_replay.specs.Answers.{Answer, Ended, Fine, Reply, idle, unless_ended}
-use Rattle.cm_replay.specs.Calling.{insn_reply, trigger_reply}
-use Rattle.cm_replay.specs.Forms.{form, kind_checks, line_checks}
-use Rattle.cm_replay.specs.Reading.{look_reply, map_reply, on_running, read_reply, release_reply}
-use Rattle.cm_running.specs.Reading.{reported_end}
+use Rattle.cm_replay.specs.Answers.{Reply}
+use Rattle.cm_replay.specs.Forms.{Form, checks_of, form, kind_checks, line_checks, reply_of}
 use Rattle.cm_replay.specs.Refusals.{IsTied, TiedLaw}
 use Rattle.cm_running.specs.Running.{Running, brought}
 use Rattle.cm_replay.specs.Session.{Outcome, act, act_on, brought_all, brought_device, closed_state, here, left_devices, unless_refused, with_reply}
 use Rattle.cm_replay.specs.State.{Device, Here, State, claim_of, device_at, idle_device}
-use Rattle.cm_replay.specs.Writing.{fill_reply, mark_reply, write_reply}
-use Rattle.cm_text.specs.declared.end.End.{End}
-use Rattle.cm_replay.proofs.Foreign.{AreApart, acts_there, claim-closed, form-safe}
+use Rattle.cm_replay.proofs.Foreign.{AreApart, claim-closed, form-apart}
 use Rattle.cm_replay.proofs.Checks.{passes-both, reached-within}
 use Rattle.cm_replay.proofs.SessionLaws.{device_at-brought}
+use Rattle.cm_replay.proofs.Shapes.{form-holds}
 
 -- a reply leaves its subdevice tied
 abbrev AreTied : Here → Reply → Type 0
 AreTied h reply = is_some (claim_at reply.files h.index).runner ≡ is_some reply.device.running
 
-idle-tied : (h : Here) (a : Answer) → h.index < length h.files.claims → AreTied h (idle h a)
-idle-tied h a within = ap (λ (c : Claim). is_some c.runner) (get_or-set_same h.files.claims h.index _ nobody within)
+-- where a claim is set, and a command with it
+set-tied : (h : Here) (claim : Claim) → h.index < length h.files.claims → is_some (claim_at (with_claim claim h.index h.files) h.index).runner ≡ is_some claim.runner
+set-tied h claim within = ap (λ (c : Claim). is_some c.runner) (get_or-set_same h.files.claims h.index claim nobody within)
 
-ended-tied : (h : Here) (e : Option End) (reply : Reply) → h.index < length h.files.claims → AreTied h reply → AreTied h (unless_ended h e reply)
-ended-tied h None reply within t = t
-ended-tied h (Some e) reply within t = idle-tied h (Ended e) within
-
-if-tied : (h : Here) (b : Bool) (x y : Reply) → AreTied h x → AreTied h y → AreTied h (if b then x else y)
-if-tied h true x y tx ty = tx
-if-tied h false x y tx ty = ty
-
-instructs : (t : Bool) (h : Here) (done : Option Done) → is_some (claim_of h).runner ≡ is_some h.device.running → AreTied h (insn_reply t h done)
-instructs t h None tied = tied
-instructs t h (Some done) tied = tied
-
--- a command that goes on was there
-served : (h : Here) (reply : Running → Reply) → ((c : Running) → is_some (claim_of h).runner ≡ true → AreTied h (reply c)) → (r : Option Running) → r ≡ h.device.running → h.index < length h.files.claims →
-    is_some (claim_of h).runner ≡ is_some h.device.running → AreTied h (on_running h r reply)
-served h reply on None same within tied = tied
-served h reply on (Some c) same within tied = ended-tied h (reported_end c) (reply c) within (on c (tied ∙ sym (ap is_some same)))
-
-looks : (n : ℕ) (h : Here) (r : Option Running) → is_some (claim_of h).runner ≡ is_some h.device.running → AreTied h (look_reply n h r)
-looks n h None tied = tied
-looks n h (Some c) tied = tied
-
-releases : (n : ℕ) (h : Here) (r : Option Running) → r ≡ h.device.running → is_some (claim_of h).runner ≡ is_some h.device.running → AreTied h (release_reply n h r)
-releases n h None same tied = tied
-releases n h (Some c) same tied = tied ∙ sym (ap is_some same)
-
-marks : (n : ℕ) (h : Here) (r : Option Running) → r ≡ h.device.running → is_some (claim_of h).runner ≡ is_some h.device.running → AreTied h (mark_reply n h r)
-marks n h None same tied = tied
-marks n h (Some c) same tied = tied ∙ sym (ap is_some same)
-
-triggers : (h : Here) (r : Option Running) → r ≡ h.device.running → is_some (claim_of h).runner ≡ is_some h.device.running → AreTied h (trigger_reply h r)
-triggers h None same tied = tied
-triggers h (Some c) same tied = tied ∙ sym (ap is_some same)
-
-form-tied : (op : Op) (h : Here) → h.index < length h.files.claims → is_some (claim_of h).runner ≡ is_some h.device.running → AreTied h (form op h).reply
-form-tied (ops.Lock sub) h within tied = ap (λ (c : Claim). is_some c.runner) (get_or-set_same h.files.claims h.index _ nobody within) ∙ tied
-form-tied (ops.Unlock sub) h within tied = ap (λ (c : Claim). is_some c.runner) (get_or-set_same h.files.claims h.index _ nobody within) ∙ tied
-form-tied (ops.Cmd cmd) h within tied = if-tied h ((tested h.sub cmd).0 == 0) _ _ (ap (λ (c : Claim). is_some c.runner) (get_or-set_same h.files.claims h.index _ nobody within)) tied
-form-tied (ops.Cancel sub) h within tied = idle-tied h Fine within
-form-tied (ops.Read sub n) h within tied = served h (read_reply n h) (λ c t. t) h.device.running refl within tied
-form-tied (ops.Map sub n) h within tied = served h (map_reply n h) (λ c t. t) h.device.running refl within tied
-form-tied (ops.Look sub i) h within tied = looks i h h.device.running tied
-form-tied (ops.Release sub k) h within tied = releases k h h.device.running refl tied
-form-tied (ops.Contents sub) h within tied = tied
-form-tied (ops.Write sub words) h within tied = served h (write_reply words h) (λ c t. t) h.device.running refl within tied
-form-tied (ops.Fill sub words) h within tied = served h (fill_reply words h) (λ c t. t) h.device.running refl within tied
-form-tied (ops.Mark sub k) h within tied = marks k h h.device.running refl tied
-form-tied (ops.InsnRead sub entry n) h within tied = instructs true h _ tied
-form-tied (ops.InsnWrite sub entry words) h within tied = instructs false h _ tied
-form-tied (ops.InsnBits sub mask bits) h within tied = instructs true h _ tied
-form-tied (ops.InsnConfig sub entry word) h within tied = instructs false h _ tied
-form-tied (ops.InsnIntTrig sub number) h within tied = triggers h h.device.running refl tied
-form-tied op h within tied = tied
+form-tied : (f : Form) (h : Here) → h.index < length h.files.claims → is_some (claim_of h).runner ≡ is_some h.device.running → AreTied h (reply_of f h)
+form-tied f h within tied = form-holds (AreTied h) f h (record {
+  nothing = λ answer. tied;
+  lock = λ holder. set-tied h _ within ∙ tied;
+  more = λ act c runs. tied ∙ ap is_some runs;
+  over = λ answer. set-tied h _ within;
+  call = λ cmd passed. set-tied h _ within;
+  insn = λ shown done long. tied;
+})
 
 unless : (state : State) (t : Outcome) (e : Option Errno) → IsTied state → (e ≡ None → IsTied t.state) → IsTied (unless_refused e state t).state
 unless state t None tied new = new refl
@@ -111,18 +62,18 @@ replied h state reply same within tied apart mine i = elim (cases_eq i h.index) 
       ap (λ (c : Claim). is_some c.runner) claim ∙ tied i ∙ sym (ap (λ (d : Device). is_some d.running) device)
 ]
 
-on_sub : (s : Setting) (line : SessionLine) (op : Op) (state : State) → acts_there op ≡ true → length state.files.claims ≡ length state.devices → IsTied state → IsTied (act_on op (here s line state) state).state
-on_sub s line op state on many tied = unless state (with_reply h.index state (form op h).reply) (first_refusal (line_checks op h ++ (form op h).checks)) tied new
+on_sub : (s : Setting) (line : SessionLine) (op : Op) (state : State) → length state.files.claims ≡ length state.devices → IsTied state → IsTied (act_on op (here s line state) state).state
+on_sub s line op state many tied = unless state (with_reply h.index state (reply_of (form op h) h)) (first_refusal (line_checks op h ++ checks_of (form op h) h)) tied new
   where
     h : Here
     h = here s line state
 
-    new : first_refusal (line_checks op h ++ (form op h).checks) ≡ None → IsTied (with_reply h.index state (form op h).reply).state
+    new : first_refusal (line_checks op h ++ checks_of (form op h) h) ≡ None → IsTied (with_reply h.index state (reply_of (form op h) h)).state
     new passed =
-        let p = passes-both (line_checks op h) (form op h).checks passed in
+        let p = passes-both (line_checks op h) (checks_of (form op h) h) passed in
         let reached = passes-both (reach_checks h.file h.index h.files) (kind_checks op h) p.0 in
         let within = reached-within h.file h.index h.files reached.0 in
-        replied h state (form op h).reply refl (omega (arith, within, many)) tied (form-safe op h on p.1).apart (form-tied op h within (tied h.index))
+        replied h state (reply_of (form op h) h) refl (omega (arith, within, many)) tied (form-apart (form op h) h) (form-tied (form op h) h within (tied h.index))
 
 -- a command goes on exactly where its file still has the subdevice
 left-tied : (b : Bool) (f : Option ℕ) (d : Device) → is_some f ≡ is_some d.running →
@@ -146,7 +97,7 @@ act-tied : (s : Setting) (line : SessionLine) (op : Op) (state : State) → leng
 act-tied s line ops.OpenFile state many tied = unless state _ (first_refusal (open_checks line.file state.files)) tied (λ e. tied)
 act-tied s line ops.CloseFile state many tied = unless state _ (first_refusal (close_checks line.file state.files)) tied (λ e. close-tied line.file state many tied)
 act-tied s line (ops.InsnGtod sub) state many tied = unless state _ (first_refusal (close_checks line.file state.files)) tied (λ e. tied)
-act-tied s line op state many tied = on_sub s line op state refl many tied
+act-tied s line op state many tied = on_sub s line op state many tied
 
 -- the passing of time neither starts nor drops a command
 some-brought : (time : ℕ) (r : Option Running) → is_some (option_map (brought time) r) ≡ is_some r

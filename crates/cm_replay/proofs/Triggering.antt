@@ -10,8 +10,8 @@ use Rattle.cm_session.specs.declared.op.Op.TheVariants as ops
 use Rattle.cm_running.specs.Running.{Running}
 use Rattle.cm_running.specs.Texts.{count_text}
 use Rattle.cm_running.specs.Triggering.{takes_number, trigger_on, waits}
-use Rattle.cm_replay.specs.Calling.{trigger_reply}
 use Rattle.cm_replay.specs.Forms.{form}
+use Rattle.cm_replay.specs.Moves.{Trigger, do_reply}
 use Rattle.cm_replay.specs.Replies.{Replies, checked}
 use Rattle.cm_replay.specs.State.{Device, Here, claim_of}
 use Rattle.cm_replay.proofs.Forming.{both-pass, line-done}
@@ -33,4 +33,4 @@ pub trigger-replies : {T E : Type 0} (h : Here) (index number : ℕ) (c : Runnin
 trigger-replies h index number c device r old new runs passed waiting takes given text =
     let last = last-pass (waits h.time h.device.running) (takes_number number h.device.running) (ap (waits h.time) runs ∙ waiting) (ap (takes_number number) runs ∙ takes) in
     line-done (form (ops.InsnIntTrig index number) h) h r h.files device old new (sym (both-pass (cancel_checks h.file (claim_of h)) _ passed last))
-    (on_ok_weaker r (λ said. subst (λ (o : Option Running). Replies (trigger_reply h o) h.files device old new) (sym runs) (record { its_files = refl; its_device = given; reported = said ∙ ap (λ answer. old ++ answer) one })) text)
+    (on_ok_weaker r (λ said. subst (λ (o : Option Running). Replies (do_reply Trigger h o) h.files device old new) (sym runs) (record { its_files = refl; its_device = given; reported = said ∙ ap (λ answer. old ++ answer) one })) text)

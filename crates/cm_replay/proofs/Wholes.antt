@@ -1,13 +1,11 @@
 -- Each subdevice keeps a value of each of its channels.
-use Rattle.std.proofs.Common.{◌≡◌, ℕ, zero, suc, Bool, true, false, List, [], ◌∷◌, ◌++◌, length, map, get_or, set, refl, ap, ◌∙◌, Option, Some, None}
+use Rattle.std.proofs.Common.{◌≡◌, ℕ, zero, suc, Bool, true, false, List, [], ◌∷◌, ◌++◌, length, map, get_or, set, refl, ap, ◌∙◌, None}
 use Rattle.std.specs.Prelude.{if◌then◌else◌}
 use Rattle.std.specs.Option.{is_some}
 use Rattle.std.proofs.lemmas.List.{length-replicate}
 use Rattle.cm_board.specs.Board.{BoardText, SubText, no_sub}
 use Rattle.cm_signal.specs.Setting.{Setting}
-use Rattle.cm_insn.specs.Insn.{Done, state_after, time_words}
-use Rattle.cm_insn.specs.declared.insn.InsnCode.{InsnCode}
-use Rattle.cm_insn.proofs.Channels.{as_long}
+use Rattle.cm_insn.specs.Insn.{time_words}
 use Rattle.cm_sub.specs.Checks.{first_refusal}
 use Rattle.cm_sub.specs.Files.{close_checks, closed, open_checks, opened}
 use Rattle.cm_sub.specs.declared.claim.Claim.{Claim}
@@ -15,8 +13,7 @@ use Rattle.cm_session.specs.declared.op.Op.{Op}
 use Rattle.cm_session.specs.declared.op.Op.TheVariants as ops
 use Rattle.cm_session.specs.declared.op.SessionLine.{SessionLine}
 use Rattle.cm_replay.specs.Answers.{Data, Fine, Reply}
-use Rattle.cm_replay.specs.Calling.{insn_here, insn_reply}
-use Rattle.cm_replay.specs.Forms.{form, line_checks}
+use Rattle.cm_replay.specs.Forms.{Form, checks_of, form, line_checks, reply_of}
 use Rattle.cm_replay.specs.Replies.{AreWhole}
 use Rattle.cm_replay.specs.Session.{Outcome, act, act_on, brought_all, brought_device, closed_state, here, left_devices, step, with_reply}
 use Rattle.cm_replay.specs.State.{Device, Here, State, at_start, device_at, idle_device}
@@ -32,24 +29,15 @@ width d = length d.state.values
 abbrev IsWide : Here → Reply → Type 0
 IsWide h reply = width reply.device ≡ width h.device
 
--- an instruction leaves as many
-shown-wide : (t : Bool) (h : Here) (done : Option Done) → length (state_after done h.device.state).values ≡ width h.device → IsWide h (insn_reply t h done)
-shown-wide t h None long = refl
-shown-wide t h (Some done) long = long
-
-insn-wide : (t : Bool) (h : Here) (code : InsnCode) (entry : ℕ) (given : List ℕ) → IsWide h (insn_reply t h (insn_here h code entry given))
-insn-wide t h code entry given =
-    shown-wide t h (insn_here h code entry given) (as_long (record { sub = h.sub; index = h.index; signals = h.signals; time = h.time }) h.device.state code entry given).values
-
 -- the reply of each form leaves as many values as the line sees
-form-wide : (op : Op) (h : Here) → IsWide h (form op h).reply
-form-wide op h = form-holds (IsWide h) op h (record {
+form-wide : (f : Form) (h : Here) → IsWide h (reply_of f h)
+form-wide f h = form-holds (IsWide h) f h (record {
   nothing = λ answer. refl;
   lock = λ holder. refl;
-  more = λ c answer. refl;
+  more = λ act c runs. refl;
   over = λ answer. refl;
-  call = λ cmd. refl;
-  insn = λ shown code entry given. insn-wide shown h code entry given;
+  call = λ cmd passed. refl;
+  insn = λ shown done long. long;
 })
 
 -- each subdevice keeps as many values as before
@@ -81,8 +69,8 @@ LeavesWide state outcome = AreWide state.devices outcome.state.devices
 
 wide-on : (op : Op) (h : Here) (state : State) → h.device ≡ device_at state.devices h.index → LeavesWide state (act_on op h state)
 wide-on op h state same =
-    either-way (LeavesWide state) (first_refusal (line_checks op h ++ (form op h).checks)) state (with_reply h.index state (form op h).reply)
-    (λ passed. wide-set state.devices h.index (form op h).reply.device (form-wide op h ∙ ap width same)) (λ error i. refl)
+    either-way (LeavesWide state) (first_refusal (line_checks op h ++ checks_of (form op h) h)) state (with_reply h.index state (reply_of (form op h) h))
+    (λ passed. wide-set state.devices h.index (reply_of (form op h) h).device (form-wide (form op h) h ∙ ap width same)) (λ error i. refl)
 
 wide-acted : (s : Setting) (line : SessionLine) (op : Op) (state : State) → LeavesWide state (act s line op state)
 wide-acted s line ops.OpenFile state =

@@ -1,109 +1,65 @@
--- Each form of line that names a subdevice: its checks in their order, and its reply where none of them refuses.
-use Rattle.std.specs.Prelude.{ℕ, Bool, true, false, not, ◌&&◌, ◌||◌, nat_eq, nat_le, nat_lt, List, [], ◌∷◌, ◌++◌}
-use Rattle.std.specs.Prelude.{replicate, Option, Some, None}
+-- Each form of line that names a subdevice: its move, and its own tests.
+use Rattle.std.specs.Prelude.{ℕ, Bool, true, false, not, ◌&&◌, ◌||◌, nat_eq, List, [], ◌∷◌, ◌++◌, replicate, Option}
 use Rattle.cm_board.specs.Board.{SubText, is_unused, takes_commands}
 use Rattle.cm_insn.specs.declared.insn.InsnCode.TheVariants as codes
 use Rattle.cm_sub.specs.Checks.{refuse}
-use Rattle.cm_sub.specs.Claims.{cancel_checks, lock_checks, unlock_checks, use_checks}
-use Rattle.cm_sub.specs.Files.{reach_checks, with_holder}
+use Rattle.cm_sub.specs.Files.{reach_checks}
 use Rattle.cm_sub.specs.declared.errno.Errno.{Errno}
-use Rattle.cm_sub.specs.declared.errno.Errno.TheVariants.{Access, Again, Inval, Io}
+use Rattle.cm_sub.specs.declared.errno.Errno.TheVariants.{Inval, Io}
 use Rattle.cm_test.specs.ValidList.{is_valid_list}
 use Rattle.cm_session.specs.declared.op.Op.{Op}
 use Rattle.cm_session.specs.declared.op.Op.TheVariants as ops
-use Rattle.cm_replay.specs.Answers.{Fine, Reply, claimed, idle, kept}
-use Rattle.cm_replay.specs.Calling.{cmd_reply, insn_here, insn_reply, trigger_reply}
-use Rattle.cm_running.specs.Triggering.{takes_number, waits}
-use Rattle.cm_replay.specs.Reading.{contents_reply, look_reply, map_reply, mapped, on_running, read_reply}
-use Rattle.cm_replay.specs.Reading.{release_reply}
-use Rattle.cm_replay.specs.State.{Here, claim_of, is_foreign, is_out_here}
-use Rattle.cm_replay.specs.Writing.{fill_reply, fit, mark_reply, unmarked, write_reply}
+use Rattle.cm_running.specs.Reading.{contents}
+use Rattle.cm_running.specs.Triggering.{takes_number}
+use Rattle.cm_replay.specs.Answers.{Reply}
+use Rattle.cm_replay.specs.Moves.{Move, Cancel, Count, Do, Fill, Instruct, Lock, Look, Map, Mark, Release, Serve}
+use Rattle.cm_replay.specs.Moves.{Start, Take, Trigger, Unlock, Write, move_checks, move_reply}
+use Rattle.cm_replay.specs.State.{Here}
+use Rattle.cm_replay.specs.Writing.{fit, unmarked}
 
--- the checks of a line, and its reply
+-- a line's move, and its own tests after the checks of that move
 pub record Form : Type 0 where
-  pub checks : List (Option Errno)
-  pub reply : Reply
+  pub move : Move
+  pub tests : List (Option Errno)
 
--- to read from a buffer: of an input, and with no other file's command
-abbrev pub reader_checks : Here → List (Option Errno)
-reader_checks h = refuse Inval (is_out_here h) ∷ refuse Access (is_foreign h) ∷ []
+-- a move alone
+abbrev pub plain : Move → Form
+plain move = record { move = move; tests = [] }
 
--- to write into a buffer: of an output, and with no other file's command
-abbrev pub writer_checks : Here → List (Option Errno)
-writer_checks h = refuse Inval (not (is_out_here h)) ∷ refuse Access (is_foreign h) ∷ []
+-- all checks of a form in their order
+abbrev pub checks_of : Form → Here → List (Option Errno)
+checks_of f h = move_checks f.move h ++ f.tests
 
--- the forms
+-- its reply where none of them refuses
+abbrev pub reply_of : Form → Here → Reply
+reply_of f h = move_reply f.move h
+
+-- the forms; a line that names no subdevice has none of its own
 abbrev pub form : Op → Here → Form
-form (ops.Lock sub) h = record {
-  checks = lock_checks (claim_of h);
-  reply = claimed h (with_holder (Some h.file) h.index h.files) Fine;
-}
-form (ops.Unlock sub) h = record {
-  checks = unlock_checks h.file (claim_of h);
-  reply = claimed h (with_holder None h.index h.files) Fine;
-}
-form (ops.Cmd cmd) h = record {
-  checks = use_checks h.file (claim_of h) ++ refuse Inval (not (is_valid_list h.sub cmd.list)) ∷ [];
-  reply = cmd_reply h cmd;
-}
-form (ops.Cancel sub) h = record { checks = cancel_checks h.file (claim_of h); reply = idle h Fine }
-form (ops.Read sub n) h = record {
-  checks = reader_checks h ++ refuse Inval (not (nat_eq (mapped h.device.running) 0)) ∷ [];
-  reply = on_running h h.device.running (read_reply n h);
-}
-form (ops.Map sub n) h = record { checks = reader_checks h; reply = on_running h h.device.running (map_reply n h) }
-form (ops.Look sub i) h = record {
-  checks = reader_checks h ++ refuse Inval (nat_le (mapped h.device.running) i) ∷ [];
-  reply = look_reply i h h.device.running;
-}
-form (ops.Release sub k) h = record {
-  checks = reader_checks h ++ refuse Inval (nat_lt (mapped h.device.running) k) ∷ [];
-  reply = release_reply k h h.device.running;
-}
-form (ops.Contents sub) h = record {
-  checks = refuse Access (is_foreign h) ∷ [];
-  reply = contents_reply h h.device.running;
-}
+form (ops.Lock sub) h = plain Lock
+form (ops.Unlock sub) h = plain Unlock
+form (ops.Cmd cmd) h = record { move = Start cmd; tests = refuse Inval (not (is_valid_list h.sub cmd.list)) ∷ [] }
+form (ops.Cancel sub) h = plain Cancel
+form (ops.Read sub n) h = plain (Serve (Take true n))
+form (ops.Map sub n) h = plain (Serve (Map n))
+form (ops.Look sub i) h = plain (Look i)
+form (ops.Release sub k) h = plain (Do (Release k))
+form (ops.Contents sub) h = plain (Count (contents h.device.running))
 form (ops.Write sub words) h = record {
-  checks =
-      writer_checks h
-      ++ refuse Inval (not (nat_eq (unmarked h.device.running) 0))
-      ∷ refuse Inval (not (fit h words)) ∷ [];
-  reply = on_running h h.device.running (write_reply words h);
+  move = Serve (Write words);
+  tests = refuse Inval (not (nat_eq (unmarked h.device.running) 0)) ∷ refuse Inval (not (fit h words)) ∷ [];
 }
-form (ops.Fill sub words) h = record {
-  checks = writer_checks h ++ refuse Inval (not (fit h words)) ∷ [];
-  reply = on_running h h.device.running (fill_reply words h);
-}
-form (ops.Mark sub k) h = record {
-  checks = writer_checks h ++ refuse Inval (nat_lt (unmarked h.device.running) k) ∷ [];
-  reply = mark_reply k h h.device.running;
-}
-form (ops.InsnRead sub entry n) h = record {
-  checks = use_checks h.file (claim_of h);
-  reply = insn_reply true h (insn_here h codes.Read entry (replicate n 0));
-}
-form (ops.InsnWrite sub entry words) h = record {
-  checks = use_checks h.file (claim_of h);
-  reply = insn_reply false h (insn_here h codes.Write entry words);
-}
-form (ops.InsnBits sub mask bits) h = record {
-  checks = use_checks h.file (claim_of h);
-  reply = insn_reply true h (insn_here h codes.Bits 0 (mask ∷ bits ∷ []));
-}
-form (ops.InsnConfig sub entry word) h = record {
-  checks = use_checks h.file (claim_of h);
-  reply = insn_reply false h (insn_here h codes.Config entry (word ∷ []));
-}
+form (ops.Fill sub words) h = record { move = Serve (Fill words); tests = refuse Inval (not (fit h words)) ∷ [] }
+form (ops.Mark sub k) h = plain (Do (Mark k))
+form (ops.InsnRead sub entry n) h = plain (Instruct true codes.Read entry (replicate n 0))
+form (ops.InsnWrite sub entry words) h = plain (Instruct false codes.Write entry words)
+form (ops.InsnBits sub mask bits) h = plain (Instruct true codes.Bits 0 (mask ∷ bits ∷ []))
+form (ops.InsnConfig sub entry word) h = plain (Instruct false codes.Config entry (word ∷ []))
 form (ops.InsnIntTrig sub number) h = record {
-  checks = cancel_checks h.file (claim_of h)
-      ++ refuse Again (not (waits h.time h.device.running))
-      ∷ refuse Inval (not (takes_number number h.device.running)) ∷ [];
-  reply = trigger_reply h h.device.running;
+  move = Do Trigger;
+  tests = refuse Inval (not (takes_number number h.device.running)) ∷ [];
 }
-form ops.OpenFile h = record { checks = []; reply = kept h Fine }
-form ops.CloseFile h = record { checks = []; reply = kept h Fine }
-form (ops.InsnGtod sub) h = record { checks = []; reply = kept h Fine }
+form other h = plain (Count 0)
 
 -- the subdevice that a line names
 abbrev pub named_sub : Op → ℕ

@@ -4,6 +4,7 @@ pub mod Forms
 pub mod Job
 pub mod JobView
 pub mod Law
+pub mod Moves
 pub mod Reading
 pub mod Ready
 pub mod Refusals

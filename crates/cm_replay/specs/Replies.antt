@@ -15,15 +15,14 @@ use Rattle.cm_sub.specs.declared.errno.Errno.{Errno}
 use Rattle.cm_sub.specs.declared.errno.Errno.TheVariants.{Io}
 use Rattle.cm_test.specs.Questions.{tested}
 use Rattle.cm_insn.specs.declared.insn.Instr.{Instr}
-use Rattle.cm_sub.specs.Claims.{use_checks}
-use Rattle.cm_replay.specs.Calling.{insn_here, insn_reply}
 use Rattle.cm_replay.specs.Answers.{Answer, Refused, Reply, kept}
-use Rattle.cm_replay.specs.Forms.{Form, is_unfit, kind_checks, named_sub}
+use Rattle.cm_replay.specs.Forms.{Form, checks_of, is_unfit, kind_checks, named_sub, plain, reply_of}
 use Rattle.cm_replay.specs.Law.{IsSoundJob, Wiring}
+use Rattle.cm_replay.specs.Moves.{Instruct}
 use Rattle.cm_running.specs.Running.{Running, arrived, served}
 use Rattle.cm_replay.specs.Ready.{AllCanMove, CanMove}
 use Rattle.cm_replay.specs.Session.{Outcome, Step}
-use Rattle.cm_replay.specs.State.{Device, Here, State, claim_of, device_at, idle_device}
+use Rattle.cm_replay.specs.State.{Device, Here, State, device_at, idle_device}
 use Rattle.cm_replay.specs.Texts.{answer_text, step_text}
 use Rattle.cm_replay.specs.declared.at.At.{At}
 
@@ -75,7 +74,7 @@ unless_kept (Some error) h reply = kept h (Refused error)
 
 -- what a form comes to: its reply, or the refusal of the first of its checks that refuses
 abbrev pub checked : Form → Here → Reply
-checked f h = unless_kept (first_refusal f.checks) h f.reply
+checked f h = unless_kept (first_refusal (checks_of f h)) h (reply_of f h)
 
 -- all that was served of a command has come by a time
 abbrev pub CanCome : ℕ → Option Running → Type 0
@@ -91,11 +90,8 @@ abbrev pub IsWhole : SubText → Device → Type 0
 IsWhole sub device = length device.state.values ≡ sub.channels
 
 -- the form of an instruction, whose data words are shown or not
-abbrev pub insn_form : Bool → Instr → List ℕ → Here → Form
-insn_form shown what words h = record {
-  checks = use_checks h.file (claim_of h);
-  reply = insn_reply shown h (insn_here h what.code what.entry words);
-}
+abbrev pub insn_form : Bool → Instr → List ℕ → Form
+insn_form shown what words = plain (Instruct shown what.code what.entry words)
 
 -- the files and the subdevices are those of an outcome, and what is said for its answer is appended to the text
 pub record LeadsTelling (said : Answer → List ℕ) (meant : Outcome) (state : State) (old new : List ℕ) : Type 0 where

@@ -13,7 +13,7 @@ use Rattle.cm_session.specs.declared.op.Op.TheVariants as ops
 use Rattle.cm_session.specs.declared.op.SessionLine.{SessionLine}
 use Rattle.cm_text.specs.Outputs.{Output}
 use Rattle.cm_replay.specs.Answers.{Answer, Data, Fine, Refused, Reply}
-use Rattle.cm_replay.specs.Forms.{form, line_checks, named_sub}
+use Rattle.cm_replay.specs.Forms.{checks_of, form, line_checks, named_sub, reply_of}
 use Rattle.cm_running.specs.Running.{Running, brought, due}
 use Rattle.cm_replay.specs.State.{Device, Here, State, device_at}
 
@@ -49,8 +49,8 @@ with_reply i state reply = record {
 -- a line that names a subdevice
 abbrev pub act_on : Op → Here → State → Outcome
 act_on op h state =
-    unless_refused (first_refusal (line_checks op h ++ (form op h).checks)) state
-    (with_reply h.index state (form op h).reply)
+    unless_refused (first_refusal (line_checks op h ++ checks_of (form op h) h)) state
+    (with_reply h.index state (reply_of (form op h) h))
 
 -- a command goes on where its file still has the subdevice
 abbrev pub left_by : Claim → Device → Device

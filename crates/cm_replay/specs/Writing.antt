@@ -1,11 +1,9 @@
--- What the lines do that write into a command's buffer, each where no check refuses it.
+-- What the lines that write see of a command's buffer.
 use Rattle.std.specs.Prelude.{ℕ, suc, ◌-◌, Bool, true, ◌&&◌, nat_le, List, [], ◌∷◌, Option, Some, None}
 use Rattle.cm_board.specs.Board.{SubText, maxdata_of}
 use Rattle.cm_cmd.specs.Entry.{chan}
 use Rattle.cm_expand.specs.Rule.{entry_at}
 use Rattle.cm_running.specs.Running.{Running}
-use Rattle.cm_running.specs.Writing.{fill_on, mark_on, taken_in, write_on}
-use Rattle.cm_replay.specs.Answers.{Filled, Marked, Reply, Written, goes_on, kept}
 use Rattle.cm_replay.specs.State.{Here}
 
 -- how many words are filled and not marked
@@ -31,16 +29,3 @@ all_fit most place (word ∷ words) = nat_le word (most place) && all_fit most (
 -- the words of a line are ones of their places' channels
 abbrev pub fit : Here → List ℕ → Bool
 fit h words = all_fit (most_at h.sub h.device.running) (next_place h.device.running) words
-
--- `fill`: the first words, as far as there is room
-abbrev pub fill_reply : List ℕ → Here → Running → Reply
-fill_reply words h c = goes_on h (fill_on (taken_in words c) c) (Filled (taken_in words c))
-
--- `write`: the same, and they are marked
-abbrev pub write_reply : List ℕ → Here → Running → Reply
-write_reply words h c = goes_on h (write_on (taken_in words c) c) (Written (taken_in words c))
-
--- `mark`: the first `k` words that aren't marked
-abbrev pub mark_reply : ℕ → Here → Option Running → Reply
-mark_reply k h None = kept h (Marked k)
-mark_reply k h (Some c) = goes_on h (mark_on k c) (Marked k)

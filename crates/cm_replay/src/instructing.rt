@@ -34,7 +34,7 @@ fn instruct(
     requires few { length words.old ≤ 64 }
     requires whole { IsWhole at.now.sub.now seat.old }
     requires time { at.now.time ≤ at.now.signals.now.horizon }
-    ensures { OnOk result (Replies (checked (insn_form shown what.now words.old (here_at at.now files.now seat.old)) (here_at at.now files.now seat.old)) files.now seat.new text.old.items text.new.items) }
+    ensures { OnOk result (Replies (checked (insn_form shown what.now words.old) (here_at at.now files.now seat.old)) files.now seat.new text.old.items text.new.items) }
 {
     if let Err(error) = files.may_use(at.file, at.index) {
         return put_refused(text, error);
