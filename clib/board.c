@@ -6,6 +6,7 @@
 #include "device.h"
 #include "server.h"
 #include <errno.h>
+#include <inttypes.h>
 #include <stdio.h>
 #include <stdlib.h>
 #include <string.h>
@@ -28,8 +29,7 @@ static void start_subdevice(const long *numbers)
 	s->list_length = numbers[3];
 	s->buffer = numbers[4];
 	s->sample_bytes = s->flags & SDF_LSAMPL ? sizeof(lsampl_t) : sizeof(sampl_t);
-	s->runner = s->locker = NO_FILE;
-	scans_begin(s, 1);
+	scans_begin(s, 1, 0);
 }
 
 /* One of its channels: its greatest code, and three numbers for each range. */
@@ -61,14 +61,14 @@ static void read_line(char *line)
 	set_channel(&s->channel[s->channels - missing--], numbers, count / 3);
 }
 
-/* Asks for the board's subdevices, and its name. */
+/* Asks for the board's subdevices, its name, and the last time of its signals. */
 int board_ask(void)
 {
 	memset(device->subdevice, 0, sizeof device->subdevice);
 	device->subdevices = missing = 0;
-	int result = question_subdevices(read_line);
-	if (!result)
-		snprintf(device->name, sizeof device->name, "%s", answer_words());
+	int result = question_untimed("subdevices", "", read_line);
+	if (!result && sscanf(answer_words(), "%63s %" SCNu64, device->name, &device->horizon) != 2)
+		return -EIO;
 	return result;
 }
 
@@ -82,18 +82,42 @@ int board_is_digital(const struct subdevice *s)
 	return s->kind == COMEDI_SUBD_DI || s->kind == COMEDI_SUBD_DO || s->kind == COMEDI_SUBD_DIO;
 }
 
-/* Who has the subdevice, by what answers said, and whether its command still runs. */
-static unsigned present_flags(int file, int number)
+/* Who has a subdevice: the file that holds its lock, and the one that called its command, until its end is reported. */
+struct claim {
+	int holder, runner;
+};
+
+/* Asks for the claims on all subdevices. Where there is no answer nobody has any. */
+static void ask_claims(struct claim *claims)
 {
-	const struct subdevice *s = &device->subdevice[number];
+	int result = question_untimed("claims", "", NULL);
+	const char *at = answer_words();
+	for (unsigned i = 0; i < device->subdevices; i++) {
+		claims[i].holder = result ? NO_FILE : strtol(at, (char **)&at, 10);
+		claims[i].runner = result ? NO_FILE : strtol(at, (char **)&at, 10);
+	}
+}
+
+int board_runner(unsigned number)
+{
+	struct claim claims[MOST_SUBDEVICES];
+	if (number >= device->subdevices)
+		return NO_FILE;
+	ask_claims(claims);
+	return claims[number].runner;
+}
+
+/* Who has the subdevice, and whether its command still runs. */
+static unsigned present_flags(int file, int number, const struct claim *c)
+{
 	unsigned flags = 0;
 	struct counts counts;
-	if (s->locker != NO_FILE)
-		flags |= SDF_LOCKED | (s->locker == file ? SDF_LOCK_OWNER : 0);
-	if (s->runner == NO_FILE)
+	if (c->holder != NO_FILE)
+		flags |= SDF_LOCKED | (c->holder == file ? SDF_LOCK_OWNER : 0);
+	if (c->runner == NO_FILE)
 		return flags;
-	flags |= SDF_BUSY | (s->runner == file ? SDF_BUSY_OWNER : 0);
-	if (!scans_count(s->runner, number, &counts) && answer_says(" runs"))
+	flags |= SDF_BUSY | (c->runner == file ? SDF_BUSY_OWNER : 0);
+	if (!scans_count(c->runner, number, &counts) && answer_says(" runs"))
 		flags |= SDF_RUNNING;
 	return flags;
 }
@@ -101,12 +125,14 @@ static unsigned present_flags(int file, int number)
 int board_subdevices(int file, comedi_subdinfo *to)
 {
 	comedi_subdinfo all[MOST_SUBDEVICES];
+	struct claim claims[MOST_SUBDEVICES];
 	memset(all, 0, sizeof all);
+	ask_claims(claims);
 	for (unsigned i = 0; i < device->subdevices; i++) {
 		const struct subdevice *s = &device->subdevice[i];
 		all[i].type = s->kind;
 		all[i].n_chan = s->channels;
-		all[i].subd_flags = s->flags | present_flags(file, i);
+		all[i].subd_flags = s->flags | present_flags(file, i, &claims[i]);
 		all[i].timer_type = 5;	/* nanoseconds */
 		all[i].len_chanlist = s->list_length;
 		all[i].maxdata = s->flags & SDF_MAXDATA ? 0 : s->channel[0].maxdata;

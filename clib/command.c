@@ -1,5 +1,5 @@
 /*
- * Commands: a comedi_cmd as the text of a command, and back.
+ * Commands: a comedi_cmd as the text of a command, and the numbers that its test leaves.
  */
 #define _GNU_SOURCE
 #include "device.h"
@@ -7,84 +7,48 @@
 #include "server.h"
 #include <errno.h>
 #include <stdio.h>
-#include <stdlib.h>
 #include <string.h>
 
 #define SOURCES 9
-#define TRIGGERS 5
+/* the sources and the argument of each of five triggers */
+#define TRIGGER_NUMBERS 10
 
 static const char *const source_names[SOURCES] = { "none", "now", "follow", "time", "timer", "count", "ext", "int", "other" };
-static const char *const reference_names[] = { "ground", "common", "diff", "other" };
-
-struct trigger {
-	unsigned sources, argument;
-};
 
 /* room for the longest command: 1,024 entries */
 static char text[1 << 15];
 static unsigned list[MOST_ENTRIES];
 
-static struct trigger *triggers_of(comedi_cmd *command)
+static unsigned *triggers_of(comedi_cmd *command)
 {
 	_Static_assert(offsetof(comedi_cmd, stop_arg) == offsetof(comedi_cmd, start_src) + 9 * sizeof(unsigned), "five triggers in a row");
-	return (struct trigger *)&command->start_src;
+	return &command->start_src;
 }
 
 /* Sources without a name of their own are written as `other`, which no board has either. */
-static int put_trigger(char *at, struct trigger trigger)
+static int put_trigger(char *at, unsigned sources, unsigned argument)
 {
 	int length = 0;
-	if (trigger.sources >> SOURCES)
-		trigger.sources |= TRIG_OTHER;
+	if (sources >> SOURCES)
+		sources |= TRIG_OTHER;
 	for (int i = 0; i < SOURCES; i++)
-		if (trigger.sources >> i & 1)
+		if (sources >> i & 1)
 			length += sprintf(at + length, "%s%s", length ? "|" : "", source_names[i]);
 	if (!length)
 		length = sprintf(at, "invalid");
-	return length + sprintf(at + length, ":%u ", trigger.argument);
+	return length + sprintf(at + length, ":%u ", argument);
 }
 
-/* The command as text. Flags of an entry, which a list can't have, are left out, as a driver that has none does. */
+/* The command as text. */
 static void put_command(comedi_cmd *command, const unsigned *entries)
 {
 	int length = sprintf(text, "%u %u ", command->subdev, command->flags);
-	for (int i = 0; i < TRIGGERS; i++)
-		length += put_trigger(text + length, triggers_of(command)[i]);
+	for (const unsigned *next = triggers_of(command), *end = next + TRIGGER_NUMBERS; next < end; next += 2)
+		length += put_trigger(text + length, next[0], next[1]);
 	if (!command->chanlist_len)
 		sprintf(text + length, "-");
 	for (unsigned i = 0; i < command->chanlist_len; i++)
-		length += sprintf(text + length, "%s%u/%u/%s", i ? "," : "", CR_CHAN(entries[i]), CR_RANGE(entries[i]), reference_names[CR_AREF(entries[i])]);
-}
-
-static unsigned read_sources(const char *at, const char *end)
-{
-	unsigned sources = 0;
-	while (at < end) {
-		size_t length = strcspn(at, "|:");
-		for (int i = 0; i < SOURCES; i++)
-			if (strlen(source_names[i]) == length && !strncmp(at, source_names[i], length))
-				sources |= 1u << i;
-		at += length + 1;
-	}
-	return sources;
-}
-
-/* The command of an answer, `STEP SUB FLAGS START .. LIST`. Answers its step. */
-static int read_command(const char *words, comedi_cmd *command)
-{
-	char *at;
-	int step = strtol(words, &at, 10);
-	strtoul(at, &at, 10);
-	command->flags = strtoul(at, &at, 10);
-	for (int i = 0; i < TRIGGERS; i++) {
-		at += strspn(at, " ");
-		char *colon = strchr(at, ':');
-		if (!colon)
-			return -EIO;
-		triggers_of(command)[i].sources = read_sources(at, colon);
-		triggers_of(command)[i].argument = strtoul(colon + 1, &at, 10);
-	}
-	return step;
+		length += sprintf(text + length, "%s%s", i ? "," : "", entry_text(entries[i]));
 }
 
 /* __comedi_get_user_cmd: the subdevice of a command, and the length of its list. The direction is put into its flags. */
@@ -109,14 +73,19 @@ static int take_list(const struct subdevice *s, const comedi_cmd *command)
 	return kernel_refuses_entries(s, list, command->chanlist_len) ? -EINVAL : 0;
 }
 
-/* Asks for the test of a command, and puts the command that comes back in its place. Answers the step. */
+/* Asks for the test of a command, and gives it the triggers that this leaves. Answers the step. */
 static int ask_test(comedi_cmd *command)
 {
+	uint64_t numbers[1 + TRIGGER_NUMBERS];
 	put_command(command, list);
-	int result = question_test(text);
+	int result = question_untimed("cmdtest", text, NULL);
 	if (result)
 		return result;
-	return read_command(answer_words(), command);
+	if (answer_numbers(numbers, 1 + TRIGGER_NUMBERS) != 1 + TRIGGER_NUMBERS)
+		return -EIO;
+	for (int i = 0; i < TRIGGER_NUMBERS; i++)
+		triggers_of(command)[i] = numbers[1 + i];
+	return numbers[0];
 }
 
 int command_test(comedi_cmd *command)
@@ -171,14 +140,10 @@ int command_call(int file, comedi_cmd *command)
 		return call_bogus(file, command);
 	put_command(command, list);
 	result = line_of_session("cmd %d %s", file, text);
-	if (result == -EAGAIN)
-		read_command(answer_words(), command);
-	if (result == -EINVAL)
+	if (result == -EAGAIN || result == -EINVAL)
 		ask_test(command);
 	if (!result) {
-		s->runner = file;
-		s->command_flags = command->flags;
-		scans_begin(s, command->chanlist_len);
+		scans_begin(s, command->chanlist_len, device->wake == WAKE_SCAN || command->flags & CMDF_WAKE_EOS);
 		s->filled = 0;
 	}
 	return kernel_result(CALL_COMMAND, result);

@@ -192,13 +192,6 @@ int device_open(const char *path)
 static void close_file(int file)
 {
 	line_of_session("close %d", file);
-	for (unsigned i = 0; i < device->subdevices; i++) {
-		struct subdevice *s = &device->subdevice[i];
-		if (s->runner == file)
-			s->runner = NO_FILE;
-		if (s->locker == file)
-			s->locker = NO_FILE;
-	}
 	device->file[file].is_open = 0;
 }
 

@@ -21,8 +21,6 @@
 #define MOST_RANGES 32
 #define MOST_FILES 16
 #define MOST_ENTRIES 1024
-/* how many samples a question waits for on any board */
-#define MOST_AWAITED 65536
 /* how many samples a line asks for at once, and how many values a line of a write has */
 #define SAMPLES_OF_A_LINE 4096
 #define VALUES_OF_A_LINE 1024
@@ -42,12 +40,9 @@ struct subdevice {
 	/* what the board says, with the flags that don't change */
 	unsigned kind, flags, channels, list_length, buffer, sample_bytes;
 	struct channel channel[MOST_CHANNELS];
-	/* what answers have said: who called the command that wasn't ended yet, and who holds the lock */
-	int runner, locker;
-	unsigned command_flags;
 	/* what is handed over at once, in entries of the list and in the client's samples: a scan of a digital subdevice, and
-	 * else one entry, which is one sample; and how many samples a scan has */
-	unsigned unit_entries, unit_samples, scan_samples;
+	 * else one entry, which is one sample; and how many samples a scan has where the end of each wakes a read, or 0 */
+	unsigned unit_entries, unit_samples, waking_samples;
 	/* samples on their way: an input's that the session has given and the client not taken, or an output's that the client
 	 * has given and the session not taken. They are a part of such a piece, or what the client couldn't take */
 	unsigned rests;
@@ -133,7 +128,7 @@ int stream_next_samples(int file, uint64_t *time);
 struct counts {
 	uint64_t read, written, room;
 };
-void scans_begin(struct subdevice *s, unsigned entries);
+void scans_begin(struct subdevice *s, unsigned entries, int each_wakes);
 unsigned scans_capacity(const struct subdevice *s);
 unsigned scans_of_line(const struct subdevice *s, unsigned values);
 int scans_count(int file, int number, struct counts *counts);
@@ -156,6 +151,7 @@ int buffer_owns(int descriptor);
 
 /* board.c */
 int board_ask(void);
+int board_runner(unsigned number);
 int board_is_input(const struct subdevice *s);
 int board_is_digital(const struct subdevice *s);
 int board_subdevices(int file, comedi_subdinfo *to);

@@ -15,16 +15,6 @@
 #define MOST_INSTRUCTIONS 65536
 #define BITS_OF_A_WORD 32
 
-static char entry_text[64];
-
-/* An entry of a list as text. */
-static const char *entry_of(unsigned specification)
-{
-	static const char *const references[] = { "ground", "common", "diff", "other" };
-	snprintf(entry_text, sizeof entry_text, "%u/%u/%s", CR_CHAN(specification), CR_RANGE(specification), references[CR_AREF(specification)]);
-	return entry_text;
-}
-
 /* A subdevice that a line can name. There are 16 at most, so all above 255 are as little there as 255. */
 static unsigned number_of(const comedi_insn *instruction)
 {
@@ -34,7 +24,7 @@ static unsigned number_of(const comedi_insn *instruction)
 static int read_line(int file, unsigned number, unsigned specification, unsigned count, unsigned *data)
 {
 	uint64_t numbers[1 + READINGS_OF_A_LINE];
-	int result = line_of_session("insn %d %u read %s %u", file, number, entry_of(specification), count);
+	int result = line_of_session("insn %d %u read %s %u", file, number, entry_text(specification), count);
 	if (result)
 		return result;
 	if (answer_numbers(numbers, 1 + count) != 1 + (int)count)
@@ -47,7 +37,7 @@ static int read_line(int file, unsigned number, unsigned specification, unsigned
 static int write_line(int file, unsigned number, unsigned specification, unsigned count, const unsigned *data)
 {
 	char start[128];
-	snprintf(start, sizeof start, "insn %d %u write %s", file, number, entry_of(specification));
+	snprintf(start, sizeof start, "insn %d %u write %s", file, number, entry_text(specification));
 	return line_of_values(start, data, count);
 }
 
@@ -144,7 +134,7 @@ static int do_config(int file, const comedi_insn *instruction, unsigned *data)
 	if (instruction->n == 2 && data[0] == INSN_CONFIG_DIO_QUERY)
 		return query_direction(file, instruction, data);
 	unsigned what = instruction->n == 1 ? data[0] : UINT32_MAX;
-	int result = line_of_session("insn %d %u config %s %u", file, number_of(instruction), entry_of(instruction->chanspec), what);
+	int result = line_of_session("insn %d %u config %s %u", file, number_of(instruction), entry_text(instruction->chanspec), what);
 	return result ? result : 1;
 }
 
@@ -177,7 +167,7 @@ static int do_trigger(int file, const comedi_insn *instruction, const unsigned *
 	if (instruction->n != 1)
 		return -EINVAL;
 	unsigned number = number_of(instruction);
-	int runner = number < device->subdevices ? device->subdevice[number].runner : NO_FILE;
+	int runner = board_runner(number);
 	int result = line_of_session("insn %d %u inttrig %u", runner == NO_FILE ? file : runner, number, data[0]);
 	return result ? kernel_result(CALL_TRIGGER, result) : 1;
 }

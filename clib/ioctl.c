@@ -91,8 +91,6 @@ static int buffer_size(void *argument)
 static int lock_call(int file, unsigned number, int locks)
 {
 	int result = line_of_session("%s %d %u", locks ? "lock" : "unlock", file, number);
-	if (!result)
-		device->subdevice[number].locker = locks ? file : NO_FILE;
 	return kernel_result(locks ? CALL_LOCK : CALL_UNLOCK, result);
 }
 
@@ -101,9 +99,7 @@ static int cancel_call(int file, unsigned number)
 {
 	int result = line_of_session("cancel %d %u", file, number);
 	if (result == -EACCES)
-		return device->subdevice[number].runner == NO_FILE ? 0 : -EBUSY;
-	if (!result)
-		device->subdevice[number].runner = NO_FILE;
+		return board_runner(number) == NO_FILE ? 0 : -EBUSY;
 	return kernel_result(CALL_CANCEL, result);
 }
 
@@ -127,7 +123,7 @@ static int choose_subdevice(int file, unsigned number, int reads)
 	if (board_is_input(&device->subdevice[number]) != reads)
 		return -EINVAL;
 	int *chosen = reads ? &device->file[file].read_subdevice : &device->file[file].write_subdevice;
-	if (*chosen != (int)number && *chosen != NO_SUBDEVICE && device->subdevice[*chosen].runner == file)
+	if (*chosen != (int)number && *chosen != NO_SUBDEVICE && board_runner(*chosen) == file)
 		return -EBUSY;
 	*chosen = number;
 	return 0;

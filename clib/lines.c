@@ -13,6 +13,15 @@
 /* room for the longest line: 1,024 values of ten digits */
 static char line[1 << 15];
 
+/* An entry of a list as text. Flags, which it can't have, are left out, as a driver that has none does. */
+const char *entry_text(unsigned entry)
+{
+	static const char *const references[] = { "ground", "common", "diff", "other" };
+	static char text[64];
+	snprintf(text, sizeof text, "%u/%u/%s", CR_CHAN(entry), CR_RANGE(entry), references[CR_AREF(entry)]);
+	return text;
+}
+
 static void note_output(char *text)
 {
 	record_note("%s", text);
@@ -38,8 +47,7 @@ int answer_is(const char *word)
 
 int answer_says(const char *word)
 {
-	const char *found = strstr(server_answer(), word);
-	return found != NULL;
+	return strstr(server_answer(), word) != NULL;
 }
 
 int answer_numbers(uint64_t *numbers, int most)
@@ -217,12 +225,9 @@ int question_fetch(int file, int subdevice, unsigned wanted, unsigned most)
 	return server_hear(note_output) ? -EIO : note_codes(file, subdevice, answer_error());
 }
 
-int question_test(const char *command)
+/* A question that has no time, and changes nothing. It stands in no record. */
+int question_untimed(const char *key, const char *words, void (*each)(char *line))
 {
-	return ask_loudly(snprintf(line, sizeof line, "test %s", command));
-}
-
-int question_subdevices(void (*each)(char *line))
-{
-	return ask(snprintf(line, sizeof line, "subdevices"), each);
+	int length = snprintf(line, sizeof line, "%s %s", key, words);
+	return each ? ask(length, each) : ask_loudly(length);
 }

@@ -13,13 +13,13 @@
 
 #define BITS_OF(s) (8 * (s)->sample_bytes)
 
-/* A command has begun. */
-void scans_begin(struct subdevice *s, unsigned entries)
+/* A command has begun. Each of its scans may wake a read. */
+void scans_begin(struct subdevice *s, unsigned entries, int each_wakes)
 {
 	int packed = board_is_digital(s);
 	s->unit_entries = packed ? entries : 1;
 	s->unit_samples = packed ? (entries + BITS_OF(s) - 1) / BITS_OF(s) : 1;
-	s->scan_samples = entries / s->unit_entries * s->unit_samples;
+	s->waking_samples = each_wakes ? entries / s->unit_entries * s->unit_samples : 0;
 	s->rests = 0;
 }
 
@@ -81,12 +81,9 @@ static int ask_entries(int file, int number, uint64_t entries[2])
 	return result;
 }
 
-/* A question counts up to as many entries as the largest buffer of the board's version holds, which is this, or more where
- * this buffer is larger. */
 static int await_entries(int file, int number, uint64_t entries, uint64_t *time)
 {
-	unsigned buffer = device->subdevice[number].buffer, most = buffer > MOST_AWAITED ? buffer : MOST_AWAITED;
-	int result = question_await(file, number, entries < most ? entries : most);
+	int result = question_await(file, number, entries);
 	if (!result && answer_numbers(time, 1) != 1)
 		return -EIO;
 	return result;
@@ -135,11 +132,10 @@ int scans_await(int file, int number, uint64_t count, uint64_t *time)
 }
 
 /* An answer that ends a command: what the client gets for it. */
-static int reported_end(struct subdevice *s, int result)
+static int reported_end(int result)
 {
 	if (result == -EPIPE || (!result && (answer_is("done") || answer_is("dry")))) {
 		record_note("%llu end: %s", (unsigned long long)device->now, server_answer());
-		s->runner = NO_FILE;
 		if (!result && answer_is("dry"))
 			time_say_end();
 		return result ? result : END_REPORTED;
@@ -148,9 +144,9 @@ static int reported_end(struct subdevice *s, int result)
 }
 
 /* What a line that moves samples was answered: 0 where there is a count, or as scans_take. */
-static int moved(struct subdevice *s, enum call call, int result)
+static int moved(enum call call, int result)
 {
-	int end = reported_end(s, result);
+	int end = reported_end(result);
 	if (end)
 		return end;
 	if (result)
@@ -161,10 +157,10 @@ static int moved(struct subdevice *s, enum call call, int result)
 /* Reads what is there of so many entries, once `wanted` are. Answers the number of samples, or as scans_take. */
 static int read_when(int file, int number, unsigned wanted, unsigned entries, uint32_t *samples)
 {
-	struct subdevice *s = &device->subdevice[number];
+	const struct subdevice *s = &device->subdevice[number];
 	uint64_t numbers[1 + SAMPLES_OF_A_LINE];
 	int asked = wanted ? question_fetch(file, number, wanted, entries) : question_codes(file, number, entries);
-	int result = moved(s, CALL_READ, asked);
+	int result = moved(CALL_READ, asked);
 	if (result)
 		return result;
 	int count = answer_numbers(numbers, 1 + SAMPLES_OF_A_LINE) - 1;
@@ -259,7 +255,7 @@ static int write_entries(int file, int number, const uint32_t *values, unsigned 
 	char start[64];
 	uint64_t stored;
 	snprintf(start, sizeof start, "write %d %d", file, number);
-	int result = moved(&device->subdevice[number], CALL_WRITE, line_of_values(start, values, count));
+	int result = moved(CALL_WRITE, line_of_values(start, values, count));
 	if (result)
 		return result;
 	return answer_numbers(&stored, 1) == 1 ? (int)stored : -EIO;

@@ -74,12 +74,12 @@ static int wanted_samples(int file, int number, uint64_t asked, unsigned *wanted
 	uint64_t half = half_of_buffer(s), want = asked;
 	if (device->wake == WAKE_SAMPLE)
 		want = 1;
-	else if (device->wake == WAKE_SCAN || s->command_flags & CMDF_WAKE_EOS) {
+	else if (s->waking_samples) {
 		struct counts counts;
 		int result = scans_count(file, number, &counts);
 		if (result)
 			return kernel_result(CALL_READ, result);
-		want = s->scan_samples - counts.read % s->scan_samples;
+		want = s->waking_samples - counts.read % s->waking_samples;
 	}
 	want = want > asked ? asked : want;
 	*wanted = want > half ? half : want;

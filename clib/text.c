@@ -16,11 +16,9 @@
 
 /* the longest text that the program takes */
 #define MOST_BYTES (1 << 20)
-/* the longest horizon, and that of wider texts; and the signals part of a board that has none, with each */
-#define LONGEST_HORIZON 1000000000000
-#define WIDE_HORIZON 1000000000000000
-#define SILENCE(horizon) SILENCE_TO(horizon)
-#define SILENCE_TO(horizon) "signals " #horizon "\nsession\n"
+/* the signals part of a board that has none, with the longest horizon, and the same of a wider text */
+#define SILENCE "signals 1000000000000\nsession\n"
+#define WIDE_SILENCE "signals 1000000000000000\nsession\n"
 /* how much of a line that is refused is shown */
 #define MOST_SHOWN 200
 
@@ -32,17 +30,14 @@ static int starts_with_word(const char *line, const char *word)
 }
 
 /* Looks for the lines `signals` and `session`, and keeps the text up to where it is complete or has to be completed.
- * Notes the horizon. Answers what is to be put at the end. */
+ * Answers what is to be put at the end. */
 static const char *cut(struct text *text)
 {
 	int has_signals = 0, has_session = 0, is_wide = 0;
 	char *line = text->bytes, *end = text->bytes + text->length;
 	for (text->lines = 0; line < end && !has_session; text->lines++) {
 		char *feed = memchr(line, '\n', end - line);
-		if (starts_with_word(line, "signals")) {
-			has_signals = 1;
-			device->horizon = strtoull(strstr(line, "signals") + 7, NULL, 10);
-		}
+		has_signals |= starts_with_word(line, "signals");
 		is_wide |= starts_with_word(line, "zendrouz");
 		has_session = starts_with_word(line, "session");
 		if (has_session && !has_signals)
@@ -52,8 +47,7 @@ static const char *cut(struct text *text)
 	text->length = line - text->bytes;
 	if (has_signals)
 		return has_session ? "" : "session\n";
-	device->horizon = is_wide ? WIDE_HORIZON : LONGEST_HORIZON;
-	return is_wide ? SILENCE(WIDE_HORIZON) : SILENCE(LONGEST_HORIZON);
+	return is_wide ? WIDE_SILENCE : SILENCE;
 }
 
 /* Puts the end of a text after what was kept of it. */

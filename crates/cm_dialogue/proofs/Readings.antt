@@ -10,7 +10,7 @@ use Rattle.cm_base.specs.declared.faults.Refused.{Refused}
 use Rattle.cm_base.proofs.Each.{stops-along}
 use Rattle.cm_signal.specs.declared.bounds.Bounds.{Bounds}
 use Rattle.cm_dialogue.specs.declared.asked.Question.TheVariants.{Await, Info, Codes, Peek}
-use Rattle.cm_dialogue.specs.Lines.{QuestionForm, counted, fetching, most_held, most_taken, next_line, plain, questions, ranged, timed}
+use Rattle.cm_dialogue.specs.Lines.{QuestionForm, counted, fetching, most_counted, most_taken, next_line, plain, questions, ranged, timed}
 
 -- what a reader gives is what another text says that says the same
 pub gives-along : {X Y : Type 0} (view : X → Y) (r : Result X ReadStop) (a b : Result Y Refused) → a ≡ b → Gives view r b → Gives view r a
@@ -25,7 +25,7 @@ not_here key word form rest e = ap (λ (b : Bool). cond b (Some form) rest) (sym
 pub asks_nothing : (key : List ℕ) → false ≡ bytes_eq key (codes "await") → false ≡ bytes_eq key (codes "info") → false ≡ bytes_eq key (codes "codes") → false ≡ bytes_eq key (codes "peek") →
     false ≡ bytes_eq key (codes "fetch") → listed questions key ≡ None
 asks_nothing key a b c d e =
-    not_here key (codes "await") (counted most_held Await) (listed ((codes "info", plain Info) ∷ (codes "codes", counted most_taken Codes) ∷ (codes "peek", ranged Peek) ∷ (codes "fetch", fetching) ∷ []) key) a
+    not_here key (codes "await") (counted most_counted Await) (listed ((codes "info", plain Info) ∷ (codes "codes", counted most_taken Codes) ∷ (codes "peek", ranged Peek) ∷ (codes "fetch", fetching) ∷ []) key) a
     ∙ not_here key (codes "info") (plain Info) (listed ((codes "codes", counted most_taken Codes) ∷ (codes "peek", ranged Peek) ∷ (codes "fetch", fetching) ∷ []) key) b
     ∙ not_here key (codes "codes") (counted most_taken Codes) (listed ((codes "peek", ranged Peek) ∷ (codes "fetch", fetching) ∷ []) key) c
     ∙ not_here key (codes "peek") (ranged Peek) (listed ((codes "fetch", fetching) ∷ []) key) d

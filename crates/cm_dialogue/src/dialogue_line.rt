@@ -12,10 +12,21 @@ pub enum DialogueLine {
     Question(Asked),
     /// An await and the codes after it.
     Fetch(Fetch),
-    /// A command to test (Comedi: `comedi_command_test`).
+    /// What has no time, and changes nothing.
+    Untimed(Untimed),
+}
+
+/// A question that has no time, and changes nothing.
+#[derive(Drop)]
+pub enum Untimed {
+    /// The test of a command as text (Comedi: `comedi_command_test`).
     Test(BoxedCmd),
-    /// The board is to be described.
+    /// The test of a command in numbers (Comedi: `COMEDI_CMDTEST`).
+    CmdTest(BoxedCmd),
+    /// The board as text.
     Describe,
-    /// Its subdevices are to be told in numbers (Comedi: `comedi_subdinfo` and its kin).
+    /// Its subdevices in numbers (Comedi: `comedi_subdinfo` and its kin).
     Subdevices,
+    /// Who has each subdevice (Comedi: `lock` and `busy` of `struct comedi_subdevice`).
+    Claims,
 }

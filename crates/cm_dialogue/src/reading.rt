@@ -4,16 +4,17 @@ ghost use Rattle.cm_base.specs.LineView.{line_view};
 ghost use Rattle.cm_base.specs.ReadStop.{Gives};
 ghost use Rattle.cm_base.specs.Reading.{at_line};
 ghost use Rattle.cm_base.specs.Words.{listed};
+ghost use Rattle.cm_cmd.specs.PrintedReads.{HasText};
 ghost use Rattle.cm_dialogue.specs.Lines as spec;
 ghost use Rattle.cm_dialogue.specs.Reading.{IsFit};
 
 use crate::asked::{Asked, Fetch, Question};
-use crate::dialogue_line::DialogueLine;
+use crate::dialogue_line::{DialogueLine, Untimed};
 use cm_base::faults::{Fault, ReadStop};
 use cm_base::lines::Line;
 use cm_base::parts::{begins, refused};
 use cm_base::words::{at_line, four, none, number_in};
-use cm_board::versions::{is_wide, most_entries};
+use cm_board::versions::most_entries;
 use cm_cmd::reading::read_cmd_up_to;
 use cm_session::forms::{LineHead, Start, number_words, place, sub_words};
 use cm_session::op::BoxedCmd;
@@ -24,9 +25,8 @@ use std::alloc::Global;
 // The most samples that a question takes.
 const MOST_TAKEN: u32 = 65_536;
 
-/// What a line says, after a line of the time `before` and within these bounds: a line of a session,
-/// a question, a command to test, or that the board is to be described or its subdevices told. It
-/// refuses a line as `read_session` does.
+/// What a line says, after a line of the time `before` and within these bounds: a line of a session, or
+/// a question. It refuses a line as `read_session` does.
 pub fn read_said(
     alloc: Global,
     bounds: Bounds,
@@ -41,16 +41,31 @@ pub fn read_said(
     }
     if begins(b"describe", line) {
         at_line(line.number, none(&line.words[1..]))?;
-        Ok(DialogueLine::Describe)
+        Ok(DialogueLine::Untimed(Untimed::Describe))
     } else if begins(b"subdevices", line) {
         at_line(line.number, none(&line.words[1..]))?;
-        Ok(DialogueLine::Subdevices)
+        Ok(DialogueLine::Untimed(Untimed::Subdevices))
+    } else if begins(b"claims", line) {
+        at_line(line.number, none(&line.words[1..]))?;
+        Ok(DialogueLine::Untimed(Untimed::Claims))
     } else if begins(b"test", line) {
-        let cmd = read_cmd_up_to(alloc, line, 1, most_entries(bounds.version))?;
-        Ok(DialogueLine::Test(BoxedCmd::new(alloc, cmd)?))
+        let cmd = read_tested(alloc, bounds, line)?;
+        Ok(DialogueLine::Untimed(Untimed::Test(cmd)))
+    } else if begins(b"cmdtest", line) {
+        let cmd = read_tested(alloc, bounds, line)?;
+        Ok(DialogueLine::Untimed(Untimed::CmdTest(cmd)))
     } else {
         read_words(alloc, bounds, before, line)
     }
+}
+
+// The command that is to be tested: the words after the first one.
+fn read_tested(alloc: Global, bounds: Bounds, line: &Line<'_>) -> Result<BoxedCmd, ReadStop>
+    ensures value { Gives (λ cmd. cmd) result (at_line line.now.number (spec.tested_command bounds (line_view line.now))) }
+    ensures text { IfOk result (HasText 1024) }
+{
+    let cmd = read_cmd_up_to(alloc, line, 1, most_entries(bounds.version))?;
+    Ok(BoxedCmd::new(alloc, cmd)?)
 }
 
 // What a line says that has a time and a key.
@@ -91,8 +106,7 @@ fn read_timed(
     ensures fit { IfOk result (IsFit start.now.bounds.horizon before) }
 {
     if key == b"await".as_slice() {
-        let most = most_held(start.bounds);
-        let (head, sub, n) = at_line(start.number, number_words(start, words, most))?;
+        let (head, sub, n) = at_line(start.number, number_words(start, words, u32::MAX))?;
         at_line(
             start.number,
             asked_after(before, head, sub, Question::Await { n }),
@@ -128,20 +142,9 @@ fn ranged_words(start: &Start<'_>, words: &[&[u8]]) -> Result<(LineHead, u32, u3
 {
     let (file, sub, from, n) = four(words)?;
     let (head, sub) = place(start, file, sub)?;
-    let from = number_in(from, 0, most_held(start.bounds))?;
+    let from = number_in(from, 0, u32::MAX)?;
     let n = number_in(n, 0, MOST_TAKEN)?;
     Ok((head, sub, from, n))
-}
-
-// Up to how many samples a question counts: as many as a buffer may hold.
-fn most_held(bounds: Bounds) -> u32
-    ensures { result ≡ spec.most_held bounds }
-{
-    if is_wide(bounds.version) {
-        1_048_576
-    } else {
-        65_536
-    }
 }
 
 // A line of the session.

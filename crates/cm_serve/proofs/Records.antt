@@ -66,9 +66,7 @@ said_step : (p : Play) (said : DialogueLine) (n : ℕ) (lines : List (List ℕ))
 said_step p (says.Session line) n lines fit later = comes_next p line n lines fit (later (played p line))
 said_step p (says.Question asked) n lines fit later = comes_next p (session_line asked) n lines fit (later (played p (session_line asked)))
 said_step p (says.Fetch fetch) n lines fit later = fetch_next p fetch n lines fit (later (fetched p fetch).play)
-said_step p (says.Test cmd) n lines fit later = no_record p n lines (later p)
-said_step p says.Describe n lines fit later = no_record p n lines (later p)
-said_step p says.Subdevices n lines fit later = no_record p n lines (later p)
+said_step p (says.Untimed asked) n lines fit later = no_record p n lines (later p)
 
 -- where it isn't refused
 read_step : (p : Play) (number : ℕ) (read : Result DialogueLine Fault) (n : ℕ) (lines : List (List ℕ)) → IfOk read (IsFit p.setting.signals.horizon p.latest) → ((q : Play) → IsReplayed q n lines) →

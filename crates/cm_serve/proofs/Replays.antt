@@ -69,9 +69,11 @@ good_line bounds before number (time ∷ key ∷ words) next e =
     let o = opened (keyed (lines_by false) key bounds time words) (λ line. after_time before line) next e in
     let describes = timed_word time key bounds words o.0 (codes "describe") BadNumber refl o.1 in
     let numbers = timed_word time key bounds words o.0 (codes "subdevices") BadNumber refl o.1 in
+    let claims = timed_word time key bounds words o.0 (codes "claims") BadNumber refl o.1 in
     let tests = timed_word time key bounds words o.0 (codes "test") BadNumber refl o.1 in
+    let cmdtests = timed_word time key bounds words o.0 (codes "cmdtest") BadNumber refl o.1 in
     let asks = asked_never key bounds time words o.0 o.1 in
-    simp (describes, numbers, tests, asks) (ap (λ (r : Result SessionLine Fault). r >>= λ line. said_as line) e)
+    simp (describes, numbers, claims, tests, cmdtests, asks) (ap (λ (r : Result SessionLine Fault). r >>= λ line. said_as line) e)
 
 -- a line of a session is said as one
 said_next : (bounds : Bounds) (before : ℕ) (line : LineText) (next : SessionLine) → line_after false bounds before line ≡ Ok next → said_by bounds before line ≡ Ok (says.Session next)

@@ -1,16 +1,14 @@
 -- What is answered to the lines of a dialogue.
-use Rattle.std.specs.Prelude.{ℕ, ◌+◌, min, List, [], ◌∷◌, ◌++◌, codes, Result, Ok, Err}
+use Rattle.std.specs.Prelude.{ℕ, ◌+◌, min, List, [], ◌∷◌, ◌++◌, Result, Ok, Err}
 use Rattle.cm_base.specs.Lines.{LineText, lines_of}
 use Rattle.cm_base.specs.Reading.{at_line}
 use Rattle.cm_base.specs.declared.faults.Refused.{Refused}
-use Rattle.cm_board_text.specs.Printed.{printed_board}
 use Rattle.cm_dialogue.specs.Asked.{awaits, session_line, takes}
 use Rattle.cm_serve.specs.Asking.{asked_text, taking_time}
 use Rattle.cm_text.specs.Declined.{refused_text}
 use Rattle.cm_serve.specs.Playing.{Play, bounds_at, line_text}
 use Rattle.cm_serve.specs.Playing as playing
-use Rattle.cm_serve.specs.Subdevices.{subdevices_text}
-use Rattle.cm_test.specs.Testing.{test_answer}
+use Rattle.cm_serve.specs.Untimed.{told}
 use Rattle.cm_dialogue.specs.Lines.{said_by}
 use Rattle.cm_dialogue.specs.Turns.{Turn, Line, Answer}
 use Rattle.cm_dialogue.specs.declared.asked.Asked.{Asked}
@@ -47,9 +45,7 @@ abbrev pub replied : Play → DialogueLine → Reply
 replied p (says.Session line) = record { text = line_text p line; play = playing.played p line }
 replied p (says.Question asked) = asked_reply p asked
 replied p (says.Fetch fetch) = fetched p fetch
-replied p (says.Test cmd) = unchanged p (test_answer p.setting.board cmd)
-replied p says.Describe = unchanged p (printed_board p.setting.board ++ codes "ok\n")
-replied p says.Subdevices = unchanged p (subdevices_text p.setting.board)
+replied p (says.Untimed asked) = unchanged p (told p asked)
 
 -- a line that is refused changes nothing
 abbrev pub replied_if : Play → Result DialogueLine Refused → Reply

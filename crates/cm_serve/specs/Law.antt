@@ -43,16 +43,14 @@ abbrev pub lines_of_fetch : Play → Fetch → List SessionLine
 lines_of_fetch p fetch =
     session_line (awaits fetch) ∷ session_line (takes (taking_time p.setting fetch p.state) fetch) ∷ []
 
--- the record of a client's line: itself where it is one of the session,
--- and of a question the line that it is in other words
+-- the record of a client's line: itself where it is one of the session, of a question with a time the line
+-- that it is in other words, and of one without a time nothing
 abbrev pub record_of : Play → Option DialogueLine → List SessionLine
 record_of p None = []
 record_of p (Some (says.Session line)) = line ∷ []
 record_of p (Some (says.Question asked)) = session_line asked ∷ []
 record_of p (Some (says.Fetch fetch)) = lines_of_fetch p fetch
-record_of p (Some (says.Test cmd)) = []
-record_of p (Some says.Describe) = []
-record_of p (Some says.Subdevices) = []
+record_of p (Some (says.Untimed asked)) = []
 
 -- the record of a dialogue from here on; the first line has this number
 abbrev pub recorded : Play → ℕ → List (List ℕ) → List SessionLine
@@ -77,9 +75,7 @@ answer_of p text None = []
 answer_of p text (Some (says.Session line)) = text
 answer_of p text (Some (says.Question asked)) = line_text p (session_line asked)
 answer_of p text (Some (says.Fetch fetch)) = texts_from p.setting p.state (lines_of_fetch p fetch)
-answer_of p text (Some (says.Test cmd)) = []
-answer_of p text (Some says.Describe) = []
-answer_of p text (Some says.Subdevices) = []
+answer_of p text (Some (says.Untimed asked)) = []
 
 -- those answers, one after another
 abbrev pub recorded_answers : Play → ℕ → List (List ℕ) → List ℕ

@@ -1,4 +1,6 @@
 pub mod Asking
+pub mod Claimed
+pub mod CmdTest
 pub mod Conversing
 pub mod Dialogue
 pub mod Law
@@ -8,3 +10,4 @@ pub mod Served
 pub mod Serving
 pub mod Soonest
 pub mod Subdevices
+pub mod Untimed

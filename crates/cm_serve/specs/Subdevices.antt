@@ -4,7 +4,7 @@ use Rattle.std.specs.Prelude.{length, map, codes, if◌then◌else◌}
 use Rattle.std.specs.Fmt.{decimal, signed_decimal}
 use Rattle.std.specs.List.{concat, list_any, range_with_len}
 use Rattle.std.specs.Option.{is_some}
-use Rattle.cm_board.specs.Board.{BoardText, ChanText, SubText, is_output, maxdata_of, range_count, range_of}
+use Rattle.cm_board.specs.Board.{BoardText, ChanText, SubText, is_output, is_unused, maxdata_of, range_count, range_of}
 use Rattle.cm_board.specs.Board.{takes_commands}
 use Rattle.cm_board.specs.declared.board.Kind.{Kind}
 use Rattle.cm_board.specs.declared.board.Kind.TheVariants as kinds
@@ -78,10 +78,14 @@ lasting_flags s =
 abbrev pub buffer_size : SubText → ℕ
 buffer_size s = if takes_commands s then s.buffer else 0
 
+-- the longest list, where the subdevice has any
+abbrev pub longest_list : SubText → ℕ
+longest_list s = if is_unused s.kind then 0 else s.list_max
+
 -- the line of a subdevice: its kind and its flags, how many channels it has, the longest list, and its buffer
 abbrev pub head_text : SubText → List ℕ
 head_text s =
-    decimal (kind_number s.kind) ++ words_text (lasting_flags s ∷ s.channels ∷ s.list_max ∷ buffer_size s ∷ [])
+    decimal (kind_number s.kind) ++ words_text (lasting_flags s ∷ s.channels ∷ longest_list s ∷ buffer_size s ∷ [])
     ++ codes "\n"
 
 -- a number after a space
@@ -108,6 +112,7 @@ channels_text s = concat (map (channel_text s) (range_with_len 0 s.channels))
 abbrev pub sub_text : SubText → List ℕ
 sub_text s = head_text s ++ channels_text s
 
--- all subdevices, and then the board's name
-abbrev pub subdevices_text : BoardText → List ℕ
-subdevices_text b = flat_map sub_text b.subs ++ (codes "ok " ++ b.name ++ codes "\n")
+-- all subdevices, and then the board's name and the last time of the signals
+abbrev pub subdevices_text : BoardText → ℕ → List ℕ
+subdevices_text b horizon =
+    flat_map sub_text b.subs ++ (codes "ok " ++ b.name ++ codes " " ++ decimal horizon ++ codes "\n")

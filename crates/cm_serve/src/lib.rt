@@ -2,6 +2,8 @@
 #![tactic(auto)]
 
 pub mod asking;
+pub mod claims;
+pub mod cmdtest;
 pub mod conversing;
 pub mod kept;
 pub mod law;
@@ -10,3 +12,4 @@ pub mod replying;
 pub mod serving;
 pub mod standing;
 pub mod subdevices;
+pub mod untimed;

@@ -1,15 +1,17 @@
 // A session whose lines come one after another.
-ghost use Rattle.std.specs.Prelude.{◌≡◌, ◌≤◌, ◌++◌, IfOk};
+ghost use Rattle.std.specs.Prelude.{◌≡◌, ◌≤◌, ◌++◌, IfOk, OnOk};
 ghost use Rattle.cm_session.specs.Limits.{IsLimited};
 ghost use Rattle.cm_signal.specs.Fitting.{FitBoard};
 ghost use Rattle.cm_dialogue.specs.Asked.{session_line};
 ghost use Rattle.cm_serve.specs.Asking.{asked_time};
+ghost use Rattle.cm_serve.specs.Claimed.{claims_text};
 ghost use Rattle.cm_serve.specs.Dialogue.{asked_reply, fetched};
 ghost use Rattle.cm_serve.specs.Playing.{bounds_at, first_play, line_text, played};
 ghost use Rattle.cm_dialogue.specs.Reading.{IsFetch};
 ghost use Rattle.cm_replay.specs.Replies.{tried_of};
 
 use crate::asking::ask;
+use crate::claims::put_claims;
 use cm_base::prover::shows;
 use cm_base::transfer::NoMemory;
 use cm_board::board::BoardDesc;
@@ -95,6 +97,14 @@ impl<'a> Playing<'a> {
         ensures { result ≡ bounds_at self.now }
     {
         Bounds::of(self.setting.board, self.setting.signals)
+    }
+
+    /// Appends who has each subdevice.
+    pub fn put_claims(&self, text: &mut Vec<u8>) -> Result<(), NoMemory>
+        ensures { OnOk result (text.new.items ≡ text.old.items ++ claims_text self.now.state.files) }
+    {
+        let board = self.setting.board;
+        put_claims(text, &self.files, board.subs.len() as u32)
     }
 
     /// Answers a line. `tried` is its command where its subdevice accepts it (`try_line` gives it),

@@ -1,7 +1,6 @@
 // The answer to a line of a dialogue.
-ghost use Rattle.std.specs.Prelude.{◌≡◌, ◌<◌, ◌≤◌, ◌^◌, ◌++◌, length, None, IfOk, OnOk, codes};
+ghost use Rattle.std.specs.Prelude.{◌≡◌, ◌<◌, ◌≤◌, ◌^◌, ◌++◌, length, None, IfOk, OnOk};
 ghost use Rattle.cm_base.specs.Lines.{lines_of};
-ghost use Rattle.cm_board_text.specs.Printed.{printed_board};
 ghost use Rattle.cm_text.specs.Declined.{refused_text};
 ghost use Rattle.cm_serve.specs.Playing.{line_text, played};
 ghost use Rattle.cm_session.specs.Limits.{IsLimited};
@@ -10,17 +9,14 @@ ghost use Rattle.cm_dialogue.specs.Reading.{IsFit};
 
 use crate::kept::Kept;
 use crate::playing::Playing;
-use crate::subdevices::put_subdevices;
+use crate::untimed::put_told;
 use cm_base::faults::{Fault, ReadStop, Refused};
 use cm_base::lines::{Line, split_lines};
 use cm_base::transfer::NoMemory;
-use cm_board::board::BoardDesc;
-use cm_board_text::printing::print_board;
 use cm_dialogue::dialogue_line::DialogueLine;
 use cm_dialogue::reading::read_said;
 use cm_replay::trying::try_line;
 use cm_session::op::SessionLine;
-use cm_test::testing::put_answer;
 use cm_text::declining::refusal;
 use std::alloc::Global;
 use std::sync::Wait;
@@ -81,16 +77,8 @@ fn put_said<'a, R: Wait>(
         DialogueLine::Session(line) => put_line(rt, alloc, kept, playing, line, text),
         DialogueLine::Question(asked) => playing.ask(alloc, asked, text),
         DialogueLine::Fetch(fetch) => playing.fetch(alloc, fetch, text),
-        DialogueLine::Test(cmd) => {
-            put_answer(alloc, text, playing.board(), cmd.cmd())?;
-            Ok(playing)
-        }
-        DialogueLine::Describe => {
-            put_board(alloc, playing.board(), text)?;
-            Ok(playing)
-        }
-        DialogueLine::Subdevices => {
-            put_subdevices(text, playing.board())?;
+        DialogueLine::Untimed(asked) => {
+            put_told(alloc, &playing, asked, text)?;
             Ok(playing)
         }
     }
@@ -113,14 +101,4 @@ fn put_line<'a, R: Wait>(
     let tried = try_line(alloc, playing.board(), &line.op)?;
     let tried = kept.keep(rt, tried)?;
     playing.answer(alloc, line, tried, text)
-}
-
-// Appends the text of a board, and a line that ends it.
-fn put_board(alloc: Global, board: &BoardDesc, text: &mut Vec<u8>) -> Result<(), NoMemory>
-    ensures { OnOk result (text.new.items ≡ text.old.items ++ (printed_board board.now ++ codes "ok\n")) }
-{
-    let printed = print_board(alloc, board)?;
-    text.extend_from_slice(&printed)?;
-    text.extend_from_slice(b"ok\n")?;
-    Ok(())
 }

@@ -136,6 +136,16 @@ fn buffer_size(sub: &Sub) -> u32
     if sub.takes_commands() { sub.buffer } else { 0 }
 }
 
+// The longest list, where the subdevice has any.
+fn longest_list(sub: &Sub) -> u32
+    ensures { result ≡ spec.longest_list sub.now }
+{
+    match sub.kind {
+        Kind::Unused => 0,
+        _ => sub.list_max,
+    }
+}
+
 // The line of a subdevice.
 fn put_head(text: &mut Vec<u8>, sub: &Sub) -> Result<(), NoMemory>
     ensures { OnOk result (text.new.items ≡ text.old.items ++ spec.head_text sub.now) }
@@ -143,7 +153,7 @@ fn put_head(text: &mut Vec<u8>, sub: &Sub) -> Result<(), NoMemory>
     let numbers = [
         lasting_flags(sub),
         sub.channels,
-        sub.list_max,
+        longest_list(sub),
         buffer_size(sub),
     ];
     put_u64(text, u64::from(kind_number(sub.kind)))?;
@@ -218,13 +228,15 @@ fn put_subs(text: &mut Vec<u8>, subs: &[Sub]) -> Result<(), NoMemory>
     Ok(())
 }
 
-/// Appends the numbers of all subdevices, and then the board's name.
-pub fn put_subdevices(text: &mut Vec<u8>, board: &BoardDesc) -> Result<(), NoMemory>
-    ensures { OnOk result (text.new.items ≡ text.old.items ++ spec.subdevices_text board.now) }
+/// Appends the numbers of all subdevices, and then the board's name and the last time of the signals.
+pub fn put_subdevices(text: &mut Vec<u8>, board: &BoardDesc, horizon: u64) -> Result<(), NoMemory>
+    ensures { OnOk result (text.new.items ≡ text.old.items ++ spec.subdevices_text board.now horizon) }
 {
     put_subs(text, &board.subs)?;
     text.extend_from_slice(b"ok ")?;
     text.extend_from_slice(&board.name)?;
+    text.extend_from_slice(b" ")?;
+    put_u64(text, horizon)?;
     text.extend_from_slice(b"\n")?;
     Ok(())
 }

@@ -1,4 +1,4 @@
-use Rattle.std.proofs.Common.{◌≡◌, ◌+◌, ◌-◌, ◌<◌, ◌==◌, ℕ, List, ◌∷◌, ◌++◌, ap, refl, sym, ◌∙◌, subst, take, drop, length, inl, inr, arith}
+use Rattle.std.proofs.Common.{◌≡◌, ◌+◌, ◌-◌, ◌<◌, ℕ, List, ◌∷◌, ◌++◌, ap, refl, sym, ◌∙◌, subst, take, drop, length, inl, inr, arith}
 use Rattle.std.proofs.lemmas.Bool.Decides.{nat_tests}
 use Rattle.std.specs.List.{before_first}
 use Rattle.cm_base.specs.Lines.{is_line_feed, raw_lines}

@@ -1,8 +1,8 @@
-use Rattle.std.proofs.Common.{◌≡◌, ◌++◌, ℕ, List, ap, ap₂, ◌∙◌, append_assoc}
+use Rattle.std.proofs.Common.{◌++◌, ℕ, List, ap, ap₂, ◌∙◌, append_assoc}
 use Rattle.std.specs.Prelude.{max, min}
 use Rattle.std.proofs.lemmas.Result.{IfOk-weaker}
 use Rattle.cm_signal.specs.Signals.{SignalsText}
-use Rattle.cm_dialogue.specs.Asked.{awaits, takes}
+use Rattle.cm_dialogue.specs.Asked.{takes}
 use Rattle.cm_serve.specs.Asking.{asked_time}
 use Rattle.cm_serve.specs.Dialogue.{asked_reply}
 use Rattle.cm_serve.specs.Playing.{Play}
