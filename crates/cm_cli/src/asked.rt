@@ -1,10 +1,9 @@
 // The words with which the program is called.
 ghost use Rattle.std.specs.Prelude.{◌≡◌, ◌≢◌, [], drop, IfErr, IfOk};
-ghost use Rattle.std.specs.IoError.{error_kind};
 ghost use Rattle.std.specs.Vec.Iter.{into_iter_items};
+ghost use Rattle.std.specs.declared.io.ErrorKind.TheVariants.{OutOfMemory};
 ghost use Rattle.cm_cli.specs.Answers.{end_at};
-ghost use Rattle.cm_cli.specs.Asked.{AnswersAsked, Misses, words_given};
-ghost use Rattle.cm_cli.specs.Commands.{call_of};
+ghost use Rattle.cm_cli.specs.Asked.{AnswersAsked, AreAfterName};
 
 use crate::comedi::comedi;
 use crate::status::Status;
@@ -17,8 +16,8 @@ use std::sync::Wait;
 use std::thread::Threads;
 
 /// Does as `comedi` by the words that the process was given, of which the first is its name. Where one
-/// of them isn't UTF-8 they name no command, and where there is no memory for them nothing is read or
-/// written.
+/// of them isn't UTF-8 they name no command. Where memory kept them from being read it wants memory, and
+/// nothing is read or written.
 pub fn comedi_as_asked<R: Threads + Wait + Sync, S: Source, K: Sink, G: Gate + Sync>(
     rt: &R,
     alloc: Global,
@@ -27,7 +26,7 @@ pub fn comedi_as_asked<R: Threads + Wait + Sync, S: Source, K: Sink, G: Gate + S
     sink: &mut K,
     gate: &G,
 ) -> Status
-    ensures { AnswersAsked (call_of (words_given given)) result
+    ensures { AnswersAsked given result
         (end_at (S.left source.old) (S.faults source.old)) (end_at (S.left source.new) (S.faults source.new))
         (end_at (K.text sink.old) (K.faults sink.old)) (end_at (K.text sink.new) (K.faults sink.new)) }
 {
@@ -39,8 +38,7 @@ pub fn comedi_as_asked<R: Threads + Wait + Sync, S: Source, K: Sink, G: Gate + S
 
 // The words after the program's name, and none where they can't be read.
 fn words_after_name(alloc: Global, given: io::Result<Args>) -> Result<Vec<String>, AllocError>
-    ensures words { IfOk result (λ words. words.items ≡ words_given given) }
-    ensures missing { IfErr given (λ error. Misses (error_kind error) result) }
+    ensures { AreAfterName given result }
 {
     match given {
         Ok(all) => after_first(alloc, all),
@@ -57,8 +55,8 @@ fn after_first(alloc: Global, all: Args) -> Result<Vec<String>, AllocError>
 
 // What there is in place of words that can't be had.
 fn missing(alloc: Global, kind: io::ErrorKind) -> Result<Vec<String>, AllocError>
-    ensures none { IfOk result (λ words. words.items ≡ []) }
-    ensures missing { Misses kind result }
+    ensures none { IfOk result (λ words. (words.items ≡ []) × (kind ≢ OutOfMemory)) }
+    ensures lacking { IfErr result (λ lack. kind ≡ OutOfMemory) }
 {
     if kind == io::ErrorKind::OutOfMemory {
         Err(AllocError)

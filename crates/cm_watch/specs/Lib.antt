@@ -3,3 +3,4 @@ pub mod Watched
 pub mod Told
 pub mod Watching
 pub mod Whole
+pub mod Woken

@@ -1,5 +1,6 @@
 // What the workers of watched lines wait for.
-ghost use Rattle.std.specs.Prelude.{◌≡◌, ◌<◌, length, IfOk};
+ghost use Rattle.std.specs.Prelude.{◌≡◌, ◌<◌, false, length, map, slice_get, IfOk, IfSome};
+ghost use Rattle.cm_watch.specs.Woken.{alarm_of, woken_after};
 
 use cm_base::transfer::NoMemory;
 use cm_client::waiting::{Alarm, Relay, Sleeper};
@@ -20,7 +21,9 @@ pub struct LineEvents {
 
 impl LineEvents {
     /// Of a line whose ring has so many cells. A worker is woken once for half of them.
-    pub fn new(size: u32) -> LineEvents {
+    pub fn new(size: u32) -> LineEvents
+        ensures { result.every ≡ woken_after size }
+    {
         LineEvents {
             written: EventCount::new(),
             released: EventCount::new(),
@@ -39,7 +42,7 @@ pub struct WatchEvents {
 impl WatchEvents {
     /// Of these lines.
     pub fn new(lines: Vec<LineEvents>) -> WatchEvents
-        ensures { length result.lines.items ≡ length lines.items }
+        ensures { result.lines.items ≡ lines.items }
     {
         WatchEvents {
             lines,
@@ -50,6 +53,8 @@ impl WatchEvents {
     /// How the board of a line waits.
     pub fn board(&self, line: usize) -> Relay<'_>
         requires { line < length self.now.lines.items }
+        ensures sleeper { result.sleeper ≡ false }
+        ensures alarm { IfSome (slice_get self.now.lines.items line) (λ events. result.alarm ≡ alarm_of events) }
     {
         let events = &self.lines[line];
         Relay::new(&events.released, &events.written, events.every)
@@ -58,23 +63,26 @@ impl WatchEvents {
     /// How the munger of a line waits.
     pub fn munger(&self, line: usize) -> Relay<'_>
         requires { line < length self.now.lines.items }
+        ensures sleeper { result.sleeper ≡ false }
+        ensures alarm { IfSome (slice_get self.now.lines.items line) (λ events. result.alarm ≡ alarm_of events) }
     {
         let events = &self.lines[line];
         Relay::new(&events.written, &self.munged, events.every)
     }
 
     /// How the client waits.
-    pub fn client(&self) -> Sleeper<'_> {
+    pub fn client(&self) -> Sleeper<'_>
+        ensures { result ≡ false }
+    {
         Sleeper::new(&self.munged)
     }
 
     /// What wakes the board of each line.
     pub fn boards(&self, alloc: Global) -> Result<Vec<Alarm<'_>>, NoMemory>
-        ensures { IfOk result (λ boards. length boards.items ≡ length self.now.lines.items) }
+        ensures { IfOk result (λ boards. boards.items ≡ map alarm_of self.now.lines.items) }
     {
         let mut boards = Vec::new(alloc);
-        for i in 0..self.lines.len() {
-            let events = &self.lines[i];
+        for events in self.lines.iter() {
             boards.push(Alarm::new(&events.released, events.every))?;
         }
         Ok(boards)

@@ -1,7 +1,8 @@
 // How the client of watched lines waits.
-ghost use Rattle.std.specs.Prelude.{◌≡◌, ◌<◌, ◌≤◌, length, map, not, slice_set, IfOk};
+ghost use Rattle.std.specs.Prelude.{◌≡◌, ◌<◌, ◌≤◌, false, length, map, not, slice_set, IfOk};
 ghost use Rattle.cm_stream.specs.Merging.{released_of};
 ghost use Rattle.cm_watch.specs.Told.{rung, untold, HasRung};
+ghost use Rattle.cm_watch.specs.Woken.{alarm_of};
 
 use crate::events::WatchEvents;
 use cm_base::prover::shows;
@@ -42,7 +43,9 @@ impl<'a> Watcher<'a> {
         released: Vec<u64>,
     ) -> Result<Watcher<'a>, NoMemory>
         requires { length released.items ≤ length events.now.lines.items }
-        ensures { IfOk result (λ w. w.told ≡ released.items) }
+        ensures told { IfOk result (λ w. w.told ≡ released.items) }
+        ensures boards { IfOk result (λ w. w.boards ≡ map alarm_of events.now.lines.items) }
+        ensures awake { IfOk result (λ w. w.announced ≡ false) }
     {
         Ok(Watcher {
             sleeper: events.client(),

@@ -1,8 +1,7 @@
-use Rattle.std.proofs.Common.{◌≡◌, length}
+use Rattle.std.proofs.Common.{◌≡◌, take, map}
+use Rattle.cm_watch.specs.Woken.{alarm_of}
 use Rattle.cm_watch.proofs.events.WatchEvents.boards.Given as goal
 
 -- an alarm for each line so far
-abbrev pub invariant-loop-i : goal.invariant-loop-i
-invariant-loop-i l = record {
-  count : length l.boards.items ≡ l.i;
-}
+abbrev pub invariant-loop-events : goal.invariant-loop-events
+invariant-loop-events l = l.boards.items ≡ map alarm_of (take l.events-index l.events-items)
