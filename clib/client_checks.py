@@ -6,7 +6,7 @@ import signal
 import subprocess
 import threading
 
-from checking import TESTS, python_with_comedi, text_of
+from checking import LIBRARY, TESTS, python_with_comedi, text_of
 
 RANDOM_CALLS = 1000000
 RANDOM_SECONDS = 200
@@ -136,9 +136,9 @@ def kills(check):
 def failures(check):
     run = check.run("refused", [check.path("tests/late")])
     check.expect("a board that is refused", run.status == 1 and run.out == "open: Invalid argument\n" and run.err.endswith("refused.board:4: refused BadNumber: bits 08\n"), run.out, run.err)
-    dead = dict(DYING_CORE=check.serve, DYING_LINES="26")
-    check.client("dead", "small", ZENDROUZ_CORE=os.path.join(TESTS, "dying"), **dead)
-    check.client("orphan", "small", ZENDROUZ_CORE=os.path.join(TESTS, "stalling"), **dead)
+    dying = dict(ZENDROUZ_CORE=check.path("tests/dying"), DYING_CORE=check.serve, DYING_LINES="26")
+    check.client("dead", "small", **dying)
+    check.client("orphan", "small", DYING_SILENTLY="1", **dying)
     run = check.run("small", [check.path("tests/late")], ZENDROUZ_CORE="/nowhere")
     check.expect("a program that isn't there", run.status == 1 and run.out == "open: Input/output error\n", run.out, run.err)
 
@@ -160,7 +160,7 @@ def deaths(check):
     check.client("each", "wide")
     out, lines = [], LINES_OF_WIDE
     while out != whole and not check.failed:
-        run = check.run("wide", [check.path("tests/each")], ZENDROUZ_CORE=os.path.join(TESTS, "dying"), DYING_CORE=check.serve, DYING_LINES=str(lines))
+        run = check.run("wide", [check.path("tests/each")], ZENDROUZ_CORE=check.path("tests/dying"), DYING_CORE=check.serve, DYING_LINES=str(lines))
         out = run.out.splitlines()
         unopened = run.status == 1 and out == ["open: Input/output error"]
         check.expect("a death after %d lines" % lines, unopened or (run.status == 0 and is_broken_off(out, whole)), run.status, run.out, run.err)
@@ -169,7 +169,7 @@ def deaths(check):
 
 def random_calls(check, board):
     calls = (300 if check.quick else RANDOM_CALLS) // 3
-    run = check.run(board, [check.path("sanitized/random"), str(calls)], RANDOM_SECONDS, LD_PRELOAD="", ZENDROUZ_LOG="")
+    run = check.run(board, [check.path("sanitized/random"), str(calls)], RANDOM_SECONDS, LD_PRELOAD="", ZENDROUZ_LIBRARY=check.path(LIBRARY), ZENDROUZ_LOG="")
     # each of its children may come to the end of the signals
     said = re.sub(r"^zendrouz: the signals of \S*/%s.board end at 10? s of board time: from here on nothing changes\n" % board, "", run.err, flags=re.M)
     check.expect("random calls of " + board, run.status == 0 and run.out == "%d calls\n" % calls and not said, run.out, said)

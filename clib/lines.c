@@ -22,18 +22,18 @@ static void note_output(char *text)
 const char *answer_words(void)
 {
 	const char *text = server_answer();
-	text += strcspn(text, " ");
-	text += strspn(text, " ");
-	return text;
+	while (*text && *text != ' ')
+		text++;
+	return text + (*text == ' ');
 }
 
 /* Whether a count and this word are all that is answered. */
 int answer_is(const char *word)
 {
 	const char *text = answer_words();
-	text += strspn(text, "0123456789");
-	text += strspn(text, " ");
-	return !strcmp(text, word);
+	while (*text >= '0' && *text <= '9')
+		text++;
+	return !strcmp(text + (*text == ' '), word);
 }
 
 int answer_says(const char *word)
