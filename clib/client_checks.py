@@ -5,8 +5,9 @@ import re
 import signal
 import subprocess
 import threading
+import time
 
-from checking import LIBRARY, TESTS, python_with_comedi, text_of
+from checking import LIBRARY, TESTS, processes_of, python_with_comedi, text_of
 
 RANDOM_CALLS = 1000000
 RANDOM_SECONDS = 200
@@ -87,15 +88,23 @@ def times_of_python(check):
         check.expect("waits in Python", run.status == 0 and run.out == text_of("python_waits.expected"), "status %s" % run.status, run.out, run.err)
 
 
+def codes_of_many(count):
+    """The codes that the client `many` reads, and what it prints."""
+    codes = [k // 100 % 255 for k in range(count)]
+    return codes, "command: 0\nthe last read: 0\n%d samples, sum %d\n" % (count, sum(codes))
+
+
 def many(check):
-    """Reads of many samples, and of one sample each; the sum of a whole period is 3,238,500 for 25,500 samples."""
-    for size, count in ((4096, 25500 if check.quick else 510000), (2, 200 if check.quick else 10000)):
-        run = check.run("wide", [check.path("tests/many"), str(size), str(count)], ZENDROUZ_CLOCK="system")
-        codes = [k // 100 % 255 for k in range(count)]
-        wanted = "command: 0\nthe last read: 0\n%d samples, sum %d\n" % (count, sum(codes))
-        check.expect("many of %d bytes" % size, run.out == wanted, run.out, run.err)
-        check.say("many: reads of %d bytes: %s" % (size, run.err.strip()))
-        check.compare_record("many of %d bytes" % size, "wide", run, codes)
+    """Reads of many samples, and of one sample each, also where client and program have one processor; the sum of a whole
+    period is 3,238,500 for 25,500 samples."""
+    on_one = ["taskset", "-c", str(min(os.sched_getaffinity(0)))]
+    for size, count, where in ((4096, 25500 if check.quick else 510000, []), (2, 200 if check.quick else 10000, []), (2, 200 if check.quick else 10000, on_one)):
+        name = " ".join(where + ["many of %d bytes" % size])
+        run = check.run("wide", where + [check.path("tests/many"), str(size), str(count)], ZENDROUZ_CLOCK="system")
+        codes, wanted = codes_of_many(count)
+        check.expect(name, run.out == wanted, run.out, run.err)
+        check.say("%s: %s" % (name, run.err.strip()))
+        check.compare_record(name, "wide", run, codes)
 
 
 def crowds(check):
@@ -131,6 +140,21 @@ def kills(check):
         check.finish(started)
         check.expect("a client ended by signal %d" % number, line == b"command: 0\n" and started.returncode == -number, line, started.returncode)
         check.expect_no_process("a client ended by signal %d" % number)
+
+
+def stops(check):
+    """The program of answers is stopped for a while, and goes on."""
+    count = 5000 if check.quick else 100000
+    started = check.start([check.path("tests/many"), "2", str(count)], check.settings("wide", ZENDROUZ_LOG="", ZENDROUZ_CLOCK="system"))
+    line = started.stdout.readline()
+    serves = [process for process in processes_of("CLIB_CHECK=" + check.folder) if process != started.pid]
+    for number in (signal.SIGSTOP, signal.SIGCONT) * 5:
+        time.sleep(0.02)
+        for process in serves:
+            os.kill(process, number)
+    out, err = check.finish(started)
+    check.expect("a program that is stopped and goes on", len(serves) == 1 and (line + out).decode() == codes_of_many(count)[1], serves, line + out, err)
+    check.expect_no_process("a program that is stopped and goes on")
 
 
 def failures(check):
