@@ -247,7 +247,7 @@ PUBLIC ssize_t read(int descriptor, void *to, size_t bytes)
 	if (timers_are_read(descriptor))
 		return names_answer(timers_read(descriptor, to, bytes));
 	if (file == NO_FILE)
-		return rings_stand_for(descriptor) ? (ssize_t)rings_read(to, bytes) : REAL(read)(descriptor, to, bytes);
+		return rings_stand_for(descriptor) ? rings_read(to, bytes) : REAL(read)(descriptor, to, bytes);
 	int waits = names_waits(descriptor);
 	device_enter();
 	time_call();
@@ -268,10 +268,8 @@ PUBLIC ssize_t __read_chk(int descriptor, void *to, size_t bytes, size_t room)
 PUBLIC ssize_t write(int descriptor, const void *from, size_t bytes)
 {
 	int file = names_file(descriptor);
-	if (file == NO_FILE && rings_stand_for(descriptor))
-		return names_answer(rings_write(from, bytes) ? -EPIPE : (ssize_t)bytes);
 	if (file == NO_FILE)
-		return REAL(write)(descriptor, from, bytes);
+		return rings_stand_for(descriptor) ? names_answer(rings_write(from, bytes)) : REAL(write)(descriptor, from, bytes);
 	int waits = names_waits(descriptor);
 	device_enter();
 	time_call();

@@ -87,7 +87,6 @@ int server_start(const char *program, const char *head, size_t length)
 	from = upto = 0;
 	if (child < 0)
 		return -EAGAIN;
-	rings_are_of(child);
 	/* where the program ends before it has taken all, its last answer says why */
 	rings_write(head, length);
 	return 0;
@@ -146,6 +145,6 @@ int server_ask(const char *line, size_t length, void (*each)(char *line))
 {
 	/* answers are read whole; what is here after a fork belongs to a call of the parent */
 	from = upto = 0;
-	int sent = rings_write(line, length), heard = server_hear(each);
-	return heard ? heard : sent;
+	ssize_t sent = rings_write(line, length);
+	return server_hear(each) || sent < 0 ? -EIO : 0;
 }

@@ -46,8 +46,8 @@ struct ring {
 
 struct rings {
 	struct ring question, answer;
-	/* an answer can't be waited for any more */
-	int is_over;
+	/* whether an answer can't be waited for any more, and which processor has asked in vain last, counted from 1 */
+	int is_over, asking;
 };
 
 static struct rings *rings;
@@ -55,11 +55,9 @@ static struct ring *outgoing, *incoming;
 static int channel = -1;
 /* how many waits don't look after one that has looked in vain, and how many of them are left */
 static unsigned pause_length, pause_left;
-/* the program, as the device knows it, and the processor that it is kept off */
-static pid_t program;
-static int kept_off = -1;
-/* in the program: whether its standard input and output are this */
+/* in the program: whether its standard input and output are this, and where it may run */
 static int stands_for[2];
+static cpu_set_t allowed;
 
 /* Moves a descriptor away from the numbers that clients use. */
 int keep_away(int descriptor)
@@ -94,18 +92,12 @@ int rings_make(int *socket, int *memory)
 	setsockopt(channel, SOL_SOCKET, SO_RCVTIMEO, &silence, sizeof silence);
 	if (rings)
 		munmap(rings, sizeof *rings);
+	rings = NULL;
 	if (*memory < 0 || ftruncate(*memory, sizeof *rings) || map(*memory))
 		return -ENOMEM;
 	outgoing = &rings->question;
 	incoming = &rings->answer;
 	return 0;
-}
-
-/* The program has been started. */
-void rings_are_of(pid_t process)
-{
-	program = process;
-	kept_off = -1;
 }
 
 static int is_socket(int descriptor)
@@ -129,6 +121,7 @@ __attribute__((constructor)) static void join(void)
 	}
 	outgoing = &rings->answer;
 	incoming = &rings->question;
+	sched_getaffinity(0, sizeof allowed, &allowed);
 }
 
 int rings_stand_for(int descriptor)
@@ -163,16 +156,18 @@ static void sleep_until_moved(struct end *own, const struct end *other, uint32_t
 	__atomic_store_n(&own->sleeps, 0, __ATOMIC_SEQ_CST);
 }
 
-/* The program is kept off the processor that asks: there it can't answer while somebody looks. */
+/* The program keeps off the processor that asks: there it can't answer while the device looks. */
 static void keep_apart(void)
 {
-	int processor = sched_getcpu();
-	cpu_set_t set;
-	if (!program || processor < 0 || processor >= CPU_SETSIZE || processor == kept_off || sched_getaffinity(0, sizeof set, &set))
-		return;
-	CPU_CLR(processor, &set);
-	sched_setaffinity(program, sizeof set, &set);
-	kept_off = processor;
+	static int kept_off;
+	cpu_set_t others = allowed;
+	if (!rings_stand_for(0))
+		rings->asking = sched_getcpu() + 1;
+	else if (rings->asking != kept_off) {
+		kept_off = rings->asking;
+		CPU_CLR(kept_off - 1, &others);
+		sched_setaffinity(0, sizeof others, &others);
+	}
 }
 
 /* Looks for a moment whether the other end moves. Where it doesn't, as on a busy machine or on one processor, most waits
@@ -214,7 +209,7 @@ static size_t least(size_t one, size_t other, size_t third)
 }
 
 /* Reads what is there, once there is anything. Answers how many bytes, or 0 where the other process has ended. */
-size_t rings_read(char *to, size_t most)
+ssize_t rings_read(char *to, size_t most)
 {
 	if (is_over())
 		return 0;
@@ -228,21 +223,22 @@ size_t rings_read(char *to, size_t most)
 	return count;
 }
 
-/* Writes all, once there is room. Answers 0, or -EPIPE where the other process has ended. */
-int rings_write(const char *from, size_t length)
+/* Writes all, once there is room. Answers how many bytes, or -EPIPE where the other process has ended. */
+ssize_t rings_write(const char *from, size_t length)
 {
+	size_t left = length;
 	if (is_over())
 		return -EPIPE;
 	struct end *own = &outgoing->writer, *other = &outgoing->reader;
-	for (size_t count; length; from += count, length -= count) {
+	for (size_t count; left; from += count, left -= count) {
 		uint32_t at = own->passed, place = at % SIZE;
 		if (at - passed(other) == SIZE && !wait_for(own, other, at - SIZE))
 			return -EPIPE;
-		count = least(length, SIZE - (at - passed(other)), SIZE - place);
+		count = least(left, SIZE - (at - passed(other)), SIZE - place);
 		memcpy(outgoing->bytes + place, from, count);
 		move(own, other, at + count);
 	}
-	return 0;
+	return length;
 }
 
 int server_owns(int descriptor)

@@ -17,10 +17,9 @@ const char *program_library(void);
 /* rings.c: the bytes between the device and the program. */
 int keep_away(int descriptor);
 int rings_make(int *socket, int *memory);
-void rings_are_of(pid_t process);
 int rings_stand_for(int descriptor);
-size_t rings_read(char *to, size_t most);
-int rings_write(const char *from, size_t length);
+ssize_t rings_read(char *to, size_t most);
+ssize_t rings_write(const char *from, size_t length);
 int server_owns(int descriptor);
 int server_is_lost(void);
 void server_lose(void);
