@@ -240,8 +240,9 @@ def one_command(check):
     os.symlink("../a top/with_board", check.path("links/first"))
     os.symlink("links/first", check.path("second"))
     Script(check, check.path("second")).expect("by two links", [board, late], wanted)
-    own = write_file(check.path("own/serve"), '#!/bin/sh\nexec "%s"\n' % check.serve, True)
+    own = write_file(check.path("own/serve"), '#!/bin/sh\ncore=$(echo "%s")\nexec "$core"\n' % check.serve, True)
     Script(check, top + "with_board").expect("another program", [board, "sh", "-c", "echo $ZENDROUZ_CORE"], (0, own + "\n", ""), ZENDROUZ_CORE=own)
+    Script(check, top + "with_board").expect("a script in its place", [board, late], wanted, ZENDROUZ_CORE=own)
     Script(check, top + "with_board").expect("no other program", [board, late], (6, "", "with_board: /nowhere: not a program (ZENDROUZ_CORE names it)\n"), ZENDROUZ_CORE="/nowhere")
     for folder in ("lib/", "lib/zendrouz/"):
         place = check.path("installed_" + folder.replace("/", "_")) + "/"

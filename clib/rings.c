@@ -55,7 +55,7 @@ static struct ring *outgoing, *incoming;
 static int channel = -1;
 /* how many waits don't look after one that has looked in vain, and how many of them are left */
 static unsigned pause_length, pause_left;
-/* in the program: whether its standard input and output are this, and where it may run */
+/* in the program: whether its standard input and output go this way, and where it may run */
 static int stands_for[2];
 static cpu_set_t allowed;
 
@@ -107,13 +107,13 @@ static int is_socket(int descriptor)
 }
 
 /* The program's side. A program that stands between may have another file in place of one of them. */
-__attribute__((constructor)) static void join(void)
+static void join(void)
 {
 	const char *memory = getenv(RINGS_VARIABLE);
 	for (int i = 0; memory && i < 2; i++)
 		if ((stands_for[i] = is_socket(i)))
 			channel = i;
-	if (channel < 0)
+	if (!stands_for[0] && !stands_for[1])
 		return;
 	if (map(atoi(memory))) {
 		fprintf(stderr, "zendrouz: %s=%s isn't the memory of a device\n", RINGS_VARIABLE, memory);
@@ -124,8 +124,15 @@ __attribute__((constructor)) static void join(void)
 	sched_getaffinity(0, sizeof allowed, &allowed);
 }
 
+/* In the program: whether a descriptor is one of them. That is known from its first read on: a script that starts it may
+ * have other files there before. */
 int rings_stand_for(int descriptor)
 {
+	static int is_known;
+	if (!descriptor && !is_known) {
+		is_known = 1;
+		join();
+	}
 	return (descriptor == 0 || descriptor == 1) && stands_for[descriptor];
 }
 
@@ -161,7 +168,7 @@ static void keep_apart(void)
 {
 	static int kept_off;
 	cpu_set_t others = allowed;
-	if (!rings_stand_for(0))
+	if (incoming == &rings->answer)
 		rings->asking = sched_getcpu() + 1;
 	else if (rings->asking != kept_off) {
 		kept_off = rings->asking;
