@@ -78,6 +78,18 @@ def boards(check):
         check.expect("a board's file: " + said, run.out == "open: %s\n" % said and run.err == "zendrouz: %s: %s\n" % (path, said), run.out, run.err)
 
 
+def long_answers(check):
+    """The subdevices of a board are told in more bytes than are under way at once."""
+    text = ["zendrouz 1", "board tall"]
+    for number in range(1, 17):
+        text += ["subdevice ao 256", "bits 16", "range 0 1 0"]
+        text += ["chan %d range -%d000000 %d000000 0" % (channel, channel + 1, number) for channel in range(256)]
+    run = check.run("small", ["comedi_board_info"], ZENDROUZ_BOARD=write_file(check.path("tall.txt"), "\n".join(text) + "\n"))
+    wanted = "".join("    chan%d: [-%d V,%d V]\n" % (channel, channel + 1, number) for number in range(1, 17) for channel in range(256))
+    found = "".join(line for line in run.out.splitlines(True) if line.startswith("    chan"))
+    check.expect("a board of 4,096 ranges", run.status == 0 and found == wanted, found, run.err)
+
+
 def end_of_signals(check):
     """The last call of `late` is at 27,507,000 ns. Of `many` 10,000 samples come up to 100 ms, and a read waits for more."""
     said = "zendrouz: the signals of %s end at %s s of board time: from here on nothing changes\n"
@@ -228,8 +240,9 @@ def one_command(check):
     os.symlink("../a top/with_board", check.path("links/first"))
     os.symlink("links/first", check.path("second"))
     Script(check, check.path("second")).expect("by two links", [board, late], wanted)
-    own = write_file(check.path("own/serve"), '#!/bin/sh\nexec "%s"\n' % check.serve, True)
+    own = write_file(check.path("own/serve"), '#!/bin/sh\ncore=$(echo "%s")\nexec "$core"\n' % check.serve, True)
     Script(check, top + "with_board").expect("another program", [board, "sh", "-c", "echo $ZENDROUZ_CORE"], (0, own + "\n", ""), ZENDROUZ_CORE=own)
+    Script(check, top + "with_board").expect("a script in its place", [board, late], wanted, ZENDROUZ_CORE=own)
     Script(check, top + "with_board").expect("no other program", [board, late], (6, "", "with_board: /nowhere: not a program (ZENDROUZ_CORE names it)\n"), ZENDROUZ_CORE="/nowhere")
     for folder in ("lib/", "lib/zendrouz/"):
         place = check.path("installed_" + folder.replace("/", "_")) + "/"

@@ -93,26 +93,22 @@ int buffer_take(int file, int number, unsigned most, uint32_t *samples)
 	return result ? kernel_result(CALL_READ, result) : (int)count;
 }
 
-/* Makes the memory of all buffers, one after the other in one file. */
+/* Makes the memory of all buffers, one after the other in one file, after what is used to copy. */
 int buffer_make_memory(void)
 {
-	size_t whole = 0;
+	size_t whole = MOST_COPIED;
 	for (unsigned i = 0; i < device->subdevices; i++) {
 		device->subdevice[i].memory_offset = whole;
 		whole += memory_bytes(&device->subdevice[i]);
 	}
-	int made = memfd_create("comedi-buffers", MFD_CLOEXEC);
-	int descriptor = made < 0 ? -1 : fcntl(made, F_DUPFD_CLOEXEC, FIRST_DESCRIPTOR);
-	if (made >= 0)
-		syscall(SYS_close, made);
+	int descriptor = keep_away(memfd_create("comedi-buffers", MFD_CLOEXEC));
 	if (descriptor < 0 || ftruncate(descriptor, whole))
 		return -ENOMEM;
 	device->memory_descriptor = descriptor;
-	if (!whole)
-		return 0;
 	char *memory = mmap(NULL, whole, PROT_READ | PROT_WRITE, MAP_SHARED, descriptor, 0);
 	if (memory == MAP_FAILED)
 		return -ENOMEM;
+	device->copied = memory;
 	for (unsigned i = 0; i < device->subdevices; i++)
 		device->subdevice[i].memory = memory + device->subdevice[i].memory_offset;
 	return 0;

@@ -5,8 +5,9 @@ import re
 import signal
 import subprocess
 import threading
+import time
 
-from checking import TESTS, python_with_comedi, text_of
+from checking import LIBRARY, TESTS, processes_of, python_with_comedi, text_of
 
 RANDOM_CALLS = 1000000
 RANDOM_SECONDS = 200
@@ -87,15 +88,23 @@ def times_of_python(check):
         check.expect("waits in Python", run.status == 0 and run.out == text_of("python_waits.expected"), "status %s" % run.status, run.out, run.err)
 
 
+def codes_of_many(count):
+    """The codes that the client `many` reads, and what it prints."""
+    codes = [k // 100 % 255 for k in range(count)]
+    return codes, "command: 0\nthe last read: 0\n%d samples, sum %d\n" % (count, sum(codes))
+
+
 def many(check):
-    """Reads of many samples, and of one sample each; the sum of a whole period is 3,238,500 for 25,500 samples."""
-    for size, count in ((4096, 25500 if check.quick else 510000), (2, 200 if check.quick else 10000)):
-        run = check.run("wide", [check.path("tests/many"), str(size), str(count)], ZENDROUZ_CLOCK="system")
-        codes = [k // 100 % 255 for k in range(count)]
-        wanted = "command: 0\nthe last read: 0\n%d samples, sum %d\n" % (count, sum(codes))
-        check.expect("many of %d bytes" % size, run.out == wanted, run.out, run.err)
-        check.say("many: reads of %d bytes: %s" % (size, run.err.strip()))
-        check.compare_record("many of %d bytes" % size, "wide", run, codes)
+    """Reads of many samples, and of one sample each, also where client and program have one processor; the sum of a whole
+    period is 3,238,500 for 25,500 samples."""
+    on_one = ["taskset", "-c", str(min(os.sched_getaffinity(0)))]
+    for size, count, where in ((4096, 25500 if check.quick else 510000, []), (2, 200 if check.quick else 10000, []), (2, 200 if check.quick else 10000, on_one)):
+        name = " ".join(where + ["many of %d bytes" % size])
+        run = check.run("wide", where + [check.path("tests/many"), str(size), str(count)], ZENDROUZ_CLOCK="system")
+        codes, wanted = codes_of_many(count)
+        check.expect(name, run.out == wanted, run.out, run.err)
+        check.say("%s: %s" % (name, run.err.strip()))
+        check.compare_record(name, "wide", run, codes)
 
 
 def crowds(check):
@@ -133,12 +142,27 @@ def kills(check):
         check.expect_no_process("a client ended by signal %d" % number)
 
 
+def stops(check):
+    """The program of answers is stopped for a while, and goes on."""
+    count = 5000 if check.quick else 100000
+    started = check.start([check.path("tests/many"), "2", str(count)], check.settings("wide", ZENDROUZ_LOG="", ZENDROUZ_CLOCK="system"))
+    line = started.stdout.readline()
+    serves = [process for process in processes_of("CLIB_CHECK=" + check.folder) if process != started.pid]
+    for number in (signal.SIGSTOP, signal.SIGCONT) * 5:
+        time.sleep(0.02)
+        for process in serves:
+            os.kill(process, number)
+    out, err = check.finish(started)
+    check.expect("a program that is stopped and goes on", len(serves) == 1 and (line + out).decode() == codes_of_many(count)[1], serves, line + out, err)
+    check.expect_no_process("a program that is stopped and goes on")
+
+
 def failures(check):
     run = check.run("refused", [check.path("tests/late")])
     check.expect("a board that is refused", run.status == 1 and run.out == "open: Invalid argument\n" and run.err.endswith("refused.board:4: refused BadNumber: bits 08\n"), run.out, run.err)
-    dead = dict(DYING_CORE=check.serve, DYING_LINES="26")
-    check.client("dead", "small", ZENDROUZ_CORE=os.path.join(TESTS, "dying"), **dead)
-    check.client("orphan", "small", ZENDROUZ_CORE=os.path.join(TESTS, "stalling"), **dead)
+    dying = dict(ZENDROUZ_CORE=check.path("tests/dying"), DYING_CORE=check.serve, DYING_LINES="26")
+    check.client("dead", "small", **dying)
+    check.client("orphan", "small", DYING_SILENTLY="1", **dying)
     run = check.run("small", [check.path("tests/late")], ZENDROUZ_CORE="/nowhere")
     check.expect("a program that isn't there", run.status == 1 and run.out == "open: Input/output error\n", run.out, run.err)
 
@@ -160,7 +184,7 @@ def deaths(check):
     check.client("each", "wide")
     out, lines = [], LINES_OF_WIDE
     while out != whole and not check.failed:
-        run = check.run("wide", [check.path("tests/each")], ZENDROUZ_CORE=os.path.join(TESTS, "dying"), DYING_CORE=check.serve, DYING_LINES=str(lines))
+        run = check.run("wide", [check.path("tests/each")], ZENDROUZ_CORE=check.path("tests/dying"), DYING_CORE=check.serve, DYING_LINES=str(lines))
         out = run.out.splitlines()
         unopened = run.status == 1 and out == ["open: Input/output error"]
         check.expect("a death after %d lines" % lines, unopened or (run.status == 0 and is_broken_off(out, whole)), run.status, run.out, run.err)
@@ -169,7 +193,7 @@ def deaths(check):
 
 def random_calls(check, board):
     calls = (300 if check.quick else RANDOM_CALLS) // 3
-    run = check.run(board, [check.path("sanitized/random"), str(calls)], RANDOM_SECONDS, LD_PRELOAD="", ZENDROUZ_LOG="")
+    run = check.run(board, [check.path("sanitized/random"), str(calls)], RANDOM_SECONDS, LD_PRELOAD="", ZENDROUZ_LIBRARY=check.path(LIBRARY), ZENDROUZ_LOG="")
     # each of its children may come to the end of the signals
     said = re.sub(r"^zendrouz: the signals of \S*/%s.board end at 10? s of board time: from here on nothing changes\n" % board, "", run.err, flags=re.M)
     check.expect("random calls of " + board, run.status == 0 and run.out == "%d calls\n" % calls and not said, run.out, said)

@@ -24,6 +24,8 @@
 /* how many samples a line asks for at once, and how many values a line of a write has */
 #define SAMPLES_OF_A_LINE 4096
 #define VALUES_OF_A_LINE 1024
+/* bytes that are copied at once: whole pages */
+#define MOST_COPIED 65536
 /* readings of one line of an instruction */
 #define READINGS_OF_A_LINE 64
 #define NO_FILE (-1)
@@ -92,8 +94,9 @@ struct device {
 	/* whether the time has begun: the first file was opened */
 	int has_begun;
 	enum wake wake;
-	/* the memory of all buffers, which is there before a client makes children */
+	/* the memory of all buffers, which is there before a client makes children, and its start, through which is copied */
 	int memory_descriptor;
+	char *copied;
 };
 
 /* The device is in memory that a client's children share. It is there once a board was opened. */
@@ -204,7 +207,7 @@ extern const struct wait time_sleep;
 /* clocks.c */
 void clocks_start(void);
 
-/* memory.c */
+/* memory.c: within the device */
 int copy_in(void *to, const void *from, size_t bytes);
 int copy_out(void *to, const void *from, size_t bytes);
 

@@ -31,18 +31,18 @@ static void note_output(char *text)
 const char *answer_words(void)
 {
 	const char *text = server_answer();
-	text += strcspn(text, " ");
-	text += strspn(text, " ");
-	return text;
+	while (*text && *text != ' ')
+		text++;
+	return text + (*text == ' ');
 }
 
 /* Whether a count and this word are all that is answered. */
 int answer_is(const char *word)
 {
 	const char *text = answer_words();
-	text += strspn(text, "0123456789");
-	text += strspn(text, " ");
-	return !strcmp(text, word);
+	while (*text >= '0' && *text <= '9')
+		text++;
+	return !strcmp(text + (*text == ' '), word);
 }
 
 int answer_says(const char *word)
@@ -117,18 +117,7 @@ int line_of_session(const char *form, ...)
 	return result;
 }
 
-int line_of_values(const char *start, const uint32_t *values, unsigned count)
-{
-	int length = snprintf(line, sizeof line, "%llu %s", (unsigned long long)device->now, start);
-	for (unsigned i = 0; i < count && length < (int)sizeof line - 16; i++)
-		length += sprintf(line + length, " %u", values[i]);
-	int result = ask_loudly(length);
-	if (was_answered())
-		record_line(line, length + 1);
-	return result;
-}
-
-/* These are made for each sample that a client reads, so they are put together by hand. */
+/* These are made for each sample that a client reads or writes, so they are put together by hand. */
 static char *put_number(char *at, uint64_t number)
 {
 	char digits[20];
@@ -146,6 +135,17 @@ static char *put_word(char *at, uint64_t number)
 {
 	*at++ = ' ';
 	return put_number(at, number);
+}
+
+int line_of_values(const char *start, const uint32_t *values, unsigned count)
+{
+	char *at = line + snprintf(line, sizeof line, "%llu %s", (unsigned long long)device->now, start);
+	for (unsigned i = 0; i < count && at < line + sizeof line - 16; i++)
+		at = put_word(at, values[i]);
+	int result = ask_loudly(at - line);
+	if (was_answered())
+		record_line(line, at - line + 1);
+	return result;
 }
 
 /* Puts `TIME KEY FILE SUBDEVICE NUMBER` into the line. Answers its length. */

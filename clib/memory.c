@@ -1,41 +1,37 @@
 /*
- * The client's memory, as the kernel treats it: a pointer that leads nowhere is answered EFAULT.
+ * The client's memory, as the kernel treats it: a pointer that leads nowhere is answered EFAULT. The kernel itself looks at
+ * the pointer: what is copied is written to the file of the device's memory, or read from it.
  */
 #define _GNU_SOURCE
 #include "device.h"
 #include <errno.h>
 #include <string.h>
-#include <sys/uio.h>
+#include <sys/syscall.h>
 #include <unistd.h>
 
-/* where the system forbids these calls, memory is copied unchecked */
-static int is_forbidden(ssize_t count)
+static size_t piece_of(size_t bytes)
 {
-	return count < 0 && (errno == EPERM || errno == ENOSYS);
+	return bytes < MOST_COPIED ? bytes : MOST_COPIED;
 }
 
 int copy_in(void *to, const void *from, size_t bytes)
 {
-	struct iovec ours = { to, bytes }, theirs = { (void *)from, bytes };
-	if (!bytes)
-		return 0;
-	ssize_t count = process_vm_readv(getpid(), &ours, 1, &theirs, 1, 0);
-	if (is_forbidden(count)) {
-		memcpy(to, from, bytes);
-		return 0;
+	for (size_t count; bytes; to = (char *)to + count, from = (const char *)from + count, bytes -= count) {
+		count = piece_of(bytes);
+		if (syscall(SYS_pwrite64, device->memory_descriptor, from, count, 0) != (long)count)
+			return -EFAULT;
+		memcpy(to, device->copied, count);
 	}
-	return count == (ssize_t)bytes ? 0 : -EFAULT;
+	return 0;
 }
 
 int copy_out(void *to, const void *from, size_t bytes)
 {
-	struct iovec ours = { (void *)from, bytes }, theirs = { to, bytes };
-	if (!bytes)
-		return 0;
-	ssize_t count = process_vm_writev(getpid(), &ours, 1, &theirs, 1, 0);
-	if (is_forbidden(count)) {
-		memcpy(to, from, bytes);
-		return 0;
+	for (size_t count; bytes; to = (char *)to + count, from = (const char *)from + count, bytes -= count) {
+		count = piece_of(bytes);
+		memcpy(device->copied, from, count);
+		if (syscall(SYS_pread64, device->memory_descriptor, to, count, 0) != (long)count)
+			return -EFAULT;
 	}
-	return count == (ssize_t)bytes ? 0 : -EFAULT;
+	return 0;
 }

@@ -69,11 +69,8 @@ static void add_ready(int descriptor)
 {
 	static int ready = -1;
 	struct epoll_event event = { .events = EPOLLIN };
-	if (ready < 0) {
-		int made = eventfd(1, EFD_CLOEXEC);
-		ready = fcntl(made, F_DUPFD_CLOEXEC, FIRST_DESCRIPTOR);
-		REAL(close)(made);
-	}
+	if (ready < 0)
+		ready = keep_away(eventfd(1, EFD_CLOEXEC));
 	epoll_ctl(descriptor, EPOLL_CTL_ADD, ready, &event);
 }
 
@@ -250,7 +247,7 @@ PUBLIC ssize_t read(int descriptor, void *to, size_t bytes)
 	if (timers_are_read(descriptor))
 		return names_answer(timers_read(descriptor, to, bytes));
 	if (file == NO_FILE)
-		return REAL(read)(descriptor, to, bytes);
+		return rings_stand_for(descriptor) ? rings_read(to, bytes) : REAL(read)(descriptor, to, bytes);
 	int waits = names_waits(descriptor);
 	device_enter();
 	time_call();
@@ -272,7 +269,7 @@ PUBLIC ssize_t write(int descriptor, const void *from, size_t bytes)
 {
 	int file = names_file(descriptor);
 	if (file == NO_FILE)
-		return REAL(write)(descriptor, from, bytes);
+		return rings_stand_for(descriptor) ? names_answer(rings_write(from, bytes)) : REAL(write)(descriptor, from, bytes);
 	int waits = names_waits(descriptor);
 	device_enter();
 	time_call();

@@ -14,18 +14,34 @@
 /* from the library's folder: an archive of one folder, bin/ beside lib/, bin/ beside lib/zendrouz/, the repository */
 static const char *const places[] = { "", "../bin/", "../../bin/", "../../crates/comedi_serve/out/" };
 
-/* the library's folder, links followed, with a slash at its end; empty where it isn't known */
-static char folder[PATH_MAX];
+/* the library's folder, links followed, with a slash at its end, and its name there; empty where they aren't known */
+static char folder[PATH_MAX], name[PATH_MAX];
 
-/* The library's name may be relative to the folder in which the client starts, so it is looked up at once. */
+/* The library's name may be relative to the folder in which the client starts, so it is looked up at once. A client that has
+ * the device within itself names one. */
 __attribute__((constructor)) static void note_folder(void)
 {
 	Dl_info found;
-	if (!dladdr(folder, &found) || !found.dli_fname || !realpath(found.dli_fname, folder))
+	const char *named = getenv("ZENDROUZ_LIBRARY");
+	if (!named || !*named)
+		named = dladdr(folder, &found) ? found.dli_fname : NULL;
+	if (!named || !realpath(named, folder))
 		*folder = 0;
 	char *slash = strrchr(folder, '/');
-	if (slash)
-		slash[1] = 0;
+	if (!slash)
+		return;
+	strcpy(name, slash + 1);
+	slash[1] = 0;
+}
+
+const char *program_folder(void)
+{
+	return folder;
+}
+
+const char *program_library(void)
+{
+	return name;
 }
 
 static int is_program(const char *path)

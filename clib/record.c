@@ -29,13 +29,9 @@ __attribute__((constructor)) static void prepare_for_children(void)
 
 void record_open(const char *path)
 {
-	int descriptor = open(path, O_WRONLY | O_CREAT | O_TRUNC | O_APPEND | O_CLOEXEC, 0666);
-	if (descriptor < 0) {
+	record = keep_away(open(path, O_WRONLY | O_CREAT | O_TRUNC | O_APPEND | O_CLOEXEC, 0666));
+	if (record < 0)
 		perror(path);
-		return;
-	}
-	record = fcntl(descriptor, F_DUPFD_CLOEXEC, FIRST_DESCRIPTOR);
-	close(descriptor);
 }
 
 int record_owns(int descriptor)

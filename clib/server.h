@@ -4,21 +4,31 @@
 
 #include <stddef.h>
 #include <stdint.h>
+#include <sys/types.h>
 
-/* descriptors of the device are kept away from the numbers that clients use */
-#define FIRST_DESCRIPTOR 240
+/* where the program that answers finds the number of the memory that it shares */
+#define RINGS_VARIABLE "ZENDROUZ_RINGS"
 
-/* program.c: which program answers. */
+/* program.c: which program answers, and the library that is loaded into it, by its folder and its name there. */
 const char *program_path(void);
+const char *program_folder(void);
+const char *program_library(void);
+
+/* rings.c: the bytes between the device and the program. */
+int keep_away(int descriptor);
+int rings_make(int *socket, int *memory);
+int rings_stand_for(int descriptor);
+ssize_t rings_read(char *to, size_t most);
+ssize_t rings_write(const char *from, size_t length);
+int server_owns(int descriptor);
+int server_is_lost(void);
+void server_lose(void);
 
 /* pipe.c: the program. Each answer is read whole before the next line is sent. */
 int server_start(const char *program, const char *head, size_t length);
 int server_ask(const char *line, size_t length, void (*each)(char *line));
 int server_hear(void (*each)(char *line));
 char *server_answer(void);
-int server_owns(int descriptor);
-int server_is_lost(void);
-void server_lose(void);
 
 /* lines.c: a line is answered 0 for `ok`, the negative number of `err`, and -EIO where there is no answer. */
 int line_of_session(const char *form, ...) __attribute__((format(printf, 1, 2)));

@@ -128,11 +128,22 @@ static void set_here(struct timer *t, int flags, const struct itimerspec *to)
 	t->next = !value ? NEVER : flags & TFD_TIMER_ABSTIME ? clocks_end(t->clock, &to->it_value) : time_after(value);
 }
 
+/* Whether a timer is to be set to the client's time, and to what. */
+static int is_for_here(const struct timer *t, const struct itimerspec *to, struct itimerspec *wanted)
+{
+	if (!t || !time_is_shown())
+		return 0;
+	device_enter();
+	int error = copy_in(wanted, to, sizeof *wanted);
+	device_leave();
+	return !error && clocks_is_time(&wanted->it_interval) && clocks_rule(t->clock, &wanted->it_value);
+}
+
 PUBLIC int timerfd_settime(int descriptor, int flags, const struct itimerspec *to, struct itimerspec *old)
 {
 	struct timer *t = find(descriptor);
 	struct itimerspec wanted;
-	if (!t || copy_in(&wanted, to, sizeof wanted) || !clocks_is_time(&wanted.it_interval) || !clocks_rule(t->clock, &wanted.it_value)) {
+	if (!is_for_here(t, to, &wanted)) {
 		if (t)
 			t->is_set_here = 0;
 		return REAL(timerfd_settime)(descriptor, flags, to, old);
@@ -153,11 +164,9 @@ PUBLIC int timerfd_gettime(int descriptor, struct itimerspec *left)
 	device_enter();
 	timers_ring();
 	struct itimerspec its = what_is_left(t);
+	int error = copy_out(left, &its, sizeof its);
 	device_leave();
-	if (!copy_out(left, &its, sizeof its))
-		return 0;
-	errno = EFAULT;
-	return -1;
+	return names_answer(error);
 }
 
 /* How often a timer was due since it was read, which sets it back to 0. */
@@ -194,6 +203,8 @@ ssize_t timers_read(int descriptor, void *to, size_t bytes)
 		if (polls_wait(&asked, 1, -1) < 0)
 			return -errno;
 	}
+	device_enter();
 	int error = copy_out(to, &count, sizeof count);
+	device_leave();
 	return error ? error : (ssize_t)sizeof count;
 }

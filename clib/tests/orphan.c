@@ -1,5 +1,5 @@
 /*
- * A child that is killed within a call: the program of answers keeps silent (tests/stalling), so the child waits for an
+ * A child that is killed within a call: the program of answers keeps silent (tests/dying), so the child waits for an
  * answer that doesn't come. What the client asks after that can't be answered any more, and fails with EIO at once.
  */
 #define _GNU_SOURCE

@@ -1,0 +1,272 @@
+/*
+ * The bytes between the device and the program that answers. They go through memory that both processes share, a ring for
+ * each direction. Who waits looks at the memory for a moment, and then sleeps at a socket: there a byte wakes it, and there
+ * the end of the other process shows.
+ *
+ * The program knows nothing of it. This library is loaded into it too, and stands there before `read` of its standard input
+ * and `write` of its standard output.
+ */
+#define _GNU_SOURCE
+#include "device.h"
+#include "server.h"
+#include <errno.h>
+#include <fcntl.h>
+#include <sched.h>
+#include <stdio.h>
+#include <stdlib.h>
+#include <string.h>
+#include <sys/mman.h>
+#include <sys/socket.h>
+#include <sys/stat.h>
+#include <sys/syscall.h>
+#include <sys/time.h>
+#include <unistd.h>
+
+/* descriptors of the device are kept away from the numbers that clients use */
+#define FIRST_DESCRIPTOR 240
+/* bytes of a ring: a power of two, since its bytes are counted on and on */
+#define SIZE (1u << 15)
+/* how long memory is looked at before a sleep, in nanoseconds of the wall clock: as long as the answer of a large read takes */
+#define MOMENT 200000
+/* how many waits don't look at it, at most, after one that has looked in vain */
+#define LONGEST_PAUSE 255
+/* an answer takes microseconds: a program that keeps silent so long is taken for dead */
+#define SECONDS_OF_SILENCE 60
+
+/* An end of a ring: how many bytes went by, and whether its process sleeps until the other end moves. */
+struct end {
+	_Alignas(64) uint32_t passed;
+	int sleeps;
+};
+
+struct ring {
+	struct end writer, reader;
+	_Alignas(64) char bytes[SIZE];
+};
+
+struct rings {
+	struct ring question, answer;
+	/* whether an answer can't be waited for any more, and which processor has asked in vain last, counted from 1 */
+	int is_over, asking;
+};
+
+static struct rings *rings;
+static struct ring *outgoing, *incoming;
+static int channel = -1;
+/* how many waits don't look after one that has looked in vain, and how many of them are left */
+static unsigned pause_length, pause_left;
+/* in the program: whether its standard input and output go this way, and where it may run */
+static int stands_for[2];
+static cpu_set_t allowed;
+
+/* Moves a descriptor away from the numbers that clients use. */
+int keep_away(int descriptor)
+{
+	int away = descriptor < 0 ? -1 : fcntl(descriptor, F_DUPFD_CLOEXEC, FIRST_DESCRIPTOR);
+	if (away < 0)
+		return descriptor;
+	syscall(SYS_close, descriptor);
+	return away;
+}
+
+static int map(int memory)
+{
+	void *place = mmap(NULL, sizeof *rings, PROT_READ | PROT_WRITE, MAP_SHARED, memory, 0);
+	rings = place == MAP_FAILED ? NULL : place;
+	return rings ? 0 : -ENOMEM;
+}
+
+/* Makes new rings. Answers the socket and the memory of the program that is to be started. */
+int rings_make(int *socket, int *memory)
+{
+	int pair[2];
+	struct timeval silence = { SECONDS_OF_SILENCE, 0 };
+	if (channel >= 0)
+		syscall(SYS_close, channel);
+	channel = -1;
+	if (socketpair(AF_UNIX, SOCK_STREAM | SOCK_CLOEXEC, 0, pair))
+		return -errno;
+	channel = keep_away(pair[0]);
+	*socket = keep_away(pair[1]);
+	*memory = keep_away(memfd_create("comedi-lines", MFD_CLOEXEC));
+	setsockopt(channel, SOL_SOCKET, SO_RCVTIMEO, &silence, sizeof silence);
+	if (rings)
+		munmap(rings, sizeof *rings);
+	rings = NULL;
+	if (*memory < 0 || ftruncate(*memory, sizeof *rings) || map(*memory))
+		return -ENOMEM;
+	outgoing = &rings->question;
+	incoming = &rings->answer;
+	return 0;
+}
+
+static int is_socket(int descriptor)
+{
+	struct stat state;
+	return !fstat(descriptor, &state) && S_ISSOCK(state.st_mode);
+}
+
+/* The program's side. A program that stands between may have another file in place of one of them. */
+static void join(void)
+{
+	const char *memory = getenv(RINGS_VARIABLE);
+	for (int i = 0; memory && i < 2; i++)
+		if ((stands_for[i] = is_socket(i)))
+			channel = i;
+	if (!stands_for[0] && !stands_for[1])
+		return;
+	if (map(atoi(memory))) {
+		fprintf(stderr, "zendrouz: %s=%s isn't the memory of a device\n", RINGS_VARIABLE, memory);
+		_exit(127);
+	}
+	outgoing = &rings->answer;
+	incoming = &rings->question;
+	sched_getaffinity(0, sizeof allowed, &allowed);
+}
+
+/* In the program: whether a descriptor is one of them. That is known from its first read on: a script that starts it may
+ * have other files there before. */
+int rings_stand_for(int descriptor)
+{
+	static int is_known;
+	if (!descriptor && !is_known) {
+		is_known = 1;
+		join();
+	}
+	return (descriptor == 0 || descriptor == 1) && stands_for[descriptor];
+}
+
+static uint32_t passed(const struct end *end)
+{
+	return __atomic_load_n(&end->passed, __ATOMIC_SEQ_CST);
+}
+
+/* One end moves on, and the other one is woken where it sleeps. A byte that can't be sent has others before it. */
+static void move(struct end *own, struct end *other, uint32_t to)
+{
+	__atomic_store_n(&own->passed, to, __ATOMIC_SEQ_CST);
+	if (__atomic_load_n(&other->sleeps, __ATOMIC_SEQ_CST) && __atomic_exchange_n(&other->sleeps, 0, __ATOMIC_SEQ_CST))
+		send(channel, "", 1, MSG_NOSIGNAL | MSG_DONTWAIT);
+}
+
+/* Sleeps until the other end isn't where it was seen any more, or its process has ended. */
+static void sleep_until_moved(struct end *own, const struct end *other, uint32_t seen)
+{
+	char bytes[64];
+	ssize_t count = 1;
+	while (count > 0 || (count < 0 && errno == EINTR)) {
+		__atomic_store_n(&own->sleeps, 1, __ATOMIC_SEQ_CST);
+		if (passed(other) != seen)
+			break;
+		count = recv(channel, bytes, sizeof bytes, 0);
+	}
+	__atomic_store_n(&own->sleeps, 0, __ATOMIC_SEQ_CST);
+}
+
+/* The program keeps off the processor that asks: there it can't answer while the device looks. */
+static void keep_apart(void)
+{
+	static int kept_off;
+	cpu_set_t others = allowed;
+	if (incoming == &rings->answer)
+		rings->asking = sched_getcpu() + 1;
+	else if (rings->asking != kept_off) {
+		kept_off = rings->asking;
+		CPU_CLR(kept_off - 1, &others);
+		sched_setaffinity(0, sizeof others, &others);
+	}
+}
+
+/* Looks for a moment whether the other end moves. Where it doesn't, as on a busy machine or on one processor, most waits
+ * don't look. */
+static int is_seen_moving(const struct end *other, uint32_t seen)
+{
+	if (pause_left) {
+		pause_left--;
+		return 0;
+	}
+	for (uint64_t until = time_of_wall() + MOMENT; time_of_wall() < until; __builtin_ia32_pause())
+		if (passed(other) != seen) {
+			pause_length -= pause_length > 0;
+			return 1;
+		}
+	keep_apart();
+	pause_length = pause_length < LONGEST_PAUSE ? 2 * pause_length + 1 : LONGEST_PAUSE;
+	pause_left = pause_length;
+	return 0;
+}
+
+/* Waits until the other end isn't where it was seen any more. Answers whether it is so: its process may have ended. */
+static int wait_for(struct end *own, const struct end *other, uint32_t seen)
+{
+	if (!is_seen_moving(other, seen))
+		sleep_until_moved(own, other, seen);
+	return passed(other) != seen;
+}
+
+static int is_over(void)
+{
+	return !rings || rings->is_over;
+}
+
+static size_t least(size_t one, size_t other, size_t third)
+{
+	size_t less = one < other ? one : other;
+	return less < third ? less : third;
+}
+
+/* Reads what is there, once there is anything. Answers how many bytes, or 0 where the other process has ended. */
+ssize_t rings_read(char *to, size_t most)
+{
+	if (is_over())
+		return 0;
+	struct end *own = &incoming->reader, *other = &incoming->writer;
+	uint32_t at = own->passed, place = at % SIZE;
+	if (passed(other) == at && !wait_for(own, other, at))
+		return 0;
+	size_t count = least(most, passed(other) - at, SIZE - place);
+	memcpy(to, incoming->bytes + place, count);
+	move(own, other, at + count);
+	return count;
+}
+
+/* Writes all, once there is room. Answers how many bytes, or -EPIPE where the other process has ended. */
+ssize_t rings_write(const char *from, size_t length)
+{
+	size_t left = length;
+	if (is_over())
+		return -EPIPE;
+	struct end *own = &outgoing->writer, *other = &outgoing->reader;
+	for (size_t count; left; from += count, left -= count) {
+		uint32_t at = own->passed, place = at % SIZE;
+		if (at - passed(other) == SIZE && !wait_for(own, other, at - SIZE))
+			return -EPIPE;
+		count = least(left, SIZE - (at - passed(other)), SIZE - place);
+		memcpy(outgoing->bytes + place, from, count);
+		move(own, other, at + count);
+	}
+	return length;
+}
+
+int server_owns(int descriptor)
+{
+	return descriptor >= 0 && descriptor == channel && !rings_stand_for(descriptor);
+}
+
+/* Whether the program has ended: then nothing is answered any more. */
+int server_is_lost(void)
+{
+	char bytes[64];
+	ssize_t count = 1;
+	while (!is_over() && count > 0)
+		count = recv(channel, bytes, sizeof bytes, MSG_DONTWAIT);
+	return count >= 0 || (errno != EAGAIN && errno != EWOULDBLOCK && errno != EINTR);
+}
+
+/* Ends the dialogue, for children too, where an answer can't be waited for any more. */
+void server_lose(void)
+{
+	if (rings)
+		rings->is_over = 1;
+	shutdown(channel, SHUT_RDWR);
+}
