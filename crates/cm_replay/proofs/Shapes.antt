@@ -75,8 +75,8 @@ move-holds P (Instruct shown code entry given) h holds =
     instructs P shown h (insn_here h code entry given) (holds.nothing _) (λ d done. holds.insn shown d (long d (insn_here h code entry given) done
     (as_long (record { sub = h.sub; index = h.index; signals = h.signals; time = h.time }) h.device.state code entry given).values))
   where
-    long : (d : Done) (done : Option Done) → done ≡ Some d → length (state_after done h.device.state).values ≡ length h.device.state.values → length d.state.values ≡ length h.device.state.values
-    long d done is same = subst (λ (o : Option Done). length (state_after o h.device.state).values ≡ length h.device.state.values) is same
+    long : (d : Done) (did : Option Done) → did ≡ Some d → length (state_after did h.device.state).values ≡ length h.device.state.values → length d.state.values ≡ length h.device.state.values
+    long d did is same = subst (λ (o : Option Done). length (state_after o h.device.state).values ≡ length h.device.state.values) is same
 move-holds P (Count k) h holds = holds.nothing _
 move-holds P (Look i) h holds = holds.nothing _
 move-holds P (Serve act) h holds = serves P h h.device.running (act_reply act h) (holds.nothing _) (λ c e runs said. holds.over _) (holds.more act)
