@@ -107,17 +107,17 @@ int board_runner(unsigned number)
 	return claims[number].runner;
 }
 
-/* Who has the subdevice, and whether its command still runs. */
+/* Who has the subdevice, and whether its command still runs: as long as more than any buffer holds is awaited. */
 static unsigned present_flags(int file, int number, const struct claim *c)
 {
 	unsigned flags = 0;
-	struct counts counts;
+	uint64_t end;
 	if (c->holder != NO_FILE)
 		flags |= SDF_LOCKED | (c->holder == file ? SDF_LOCK_OWNER : 0);
 	if (c->runner == NO_FILE)
 		return flags;
 	flags |= SDF_BUSY | (c->runner == file ? SDF_BUSY_OWNER : 0);
-	if (!scans_count(c->runner, number, &counts) && answer_says(" runs"))
+	if (!question_await(c->runner, number, UINT32_MAX) && answer_numbers(&end, 1) && end > device->now)
 		flags |= SDF_RUNNING;
 	return flags;
 }

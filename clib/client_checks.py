@@ -39,6 +39,7 @@ def clients(check):
     run = check.client("full", "large")
     check.compare_record("full", "large", run, [(3000 + k * 10000) // 1000000 % 255 for k in range(1 + 100000 + 131072)])
     check.client("locks", "wide")
+    check.client("claims", "bench")
     check.client("wild", "wide")
     check.client("paced", "wide", ZENDROUZ_PACE="10")
 
