@@ -7,7 +7,7 @@ import subprocess
 import threading
 import time
 
-from checking import LIBRARY, TESTS, processes_of, python_with_comedi, text_of
+from checking import TESTS, processes_of, python_with_comedi, text_of
 
 RANDOM_CALLS = 1000000
 RANDOM_SECONDS = 200
@@ -194,7 +194,7 @@ def deaths(check):
 
 def random_calls(check, board):
     calls = (300 if check.quick else RANDOM_CALLS) // 3
-    run = check.run(board, [check.path("sanitized/random"), str(calls)], RANDOM_SECONDS, LD_PRELOAD="", ZENDROUZ_LIBRARY=check.path(LIBRARY), ZENDROUZ_LOG="")
+    run = check.run(board, [check.path("sanitized/random"), str(calls)], RANDOM_SECONDS, LD_PRELOAD="", ZENDROUZ_LOG="")
     # each of its children may come to the end of the signals
     said = re.sub(r"^zendrouz: the signals of \S*/%s.board end at 10? s of board time: from here on nothing changes\n" % board, "", run.err, flags=re.M)
     check.expect("random calls of " + board, run.status == 0 and run.out == "%d calls\n" % calls and not said, run.out, said)

@@ -26,7 +26,7 @@ char *server_answer(void)
 }
 
 /* What the program gets in place of the client's: the library, by its name in its folder since LD_PRELOAD ends at a blank. */
-static char settings[3][PATH_MAX + 32];
+static char settings[3][2 * PATH_MAX + 32];
 static const char *const replaced[] = { "LD_PRELOAD=", "LD_LIBRARY_PATH=", RINGS_VARIABLE "=" };
 #define REPLACED (sizeof replaced / sizeof *replaced)
 
@@ -47,8 +47,9 @@ static char **environment_of_server(int memory)
 	for (size_t i = 0; copy && i < count; i++)
 		if (!is_replaced(environ[i]))
 			copy[kept++] = environ[i];
-	snprintf(settings[0], sizeof *settings, "%s%s", replaced[0], program_library());
-	snprintf(settings[1], sizeof *settings, "%s%s", replaced[1], program_folder());
+	const char *library = program_library(), *name = strrchr(library, '/') + 1;
+	snprintf(settings[0], sizeof *settings, "%s%s", replaced[0], name);
+	snprintf(settings[1], sizeof *settings, "%s%.*s", replaced[1], (int)(name - library), library);
 	snprintf(settings[2], sizeof *settings, "%s%d", replaced[2], memory);
 	for (size_t i = 0; copy && i < REPLACED; i++)
 		copy[kept++] = settings[i];

@@ -14,34 +14,33 @@
 /* from the library's folder: an archive of one folder, bin/ beside lib/, bin/ beside lib/zendrouz/, the repository */
 static const char *const places[] = { "", "../bin/", "../../bin/", "../../crates/comedi_serve/out/" };
 
-/* the library's folder, links followed, with a slash at its end, and its name there; empty where they aren't known */
-static char folder[PATH_MAX], name[PATH_MAX];
+/* the library's folder, links followed, with a slash at its end; empty where it isn't known */
+static char folder[PATH_MAX];
+/* the library as it was loaded: a link may stand for a folder with a colon, where LD_PRELOAD ends a name */
+static char library[2 * PATH_MAX];
 
-/* The library's name may be relative to the folder in which the client starts, so it is looked up at once. A client that has
- * the device within itself names one. */
+/* The library's name may be relative to the folder in which the client starts, so it is looked up at once. */
 __attribute__((constructor)) static void note_folder(void)
 {
 	Dl_info found;
-	const char *named = getenv("ZENDROUZ_LIBRARY");
-	if (!named || !*named)
-		named = dladdr(folder, &found) ? found.dli_fname : NULL;
-	if (!named || !realpath(named, folder))
+	const char *name = dladdr(folder, &found) && found.dli_fname ? found.dli_fname : "";
+	if (*name == '/' || !getcwd(folder, sizeof folder))
+		*folder = 0;
+	snprintf(library, sizeof library, "%s/%s", folder, name);
+	if (!realpath(name, folder))
 		*folder = 0;
 	char *slash = strrchr(folder, '/');
-	if (!slash)
-		return;
-	strcpy(name, slash + 1);
-	slash[1] = 0;
+	if (slash)
+		slash[1] = 0;
 }
 
-const char *program_folder(void)
-{
-	return folder;
-}
-
+/* The library that is loaded into the program: this one, or what a test has that is none. */
 const char *program_library(void)
 {
-	return name;
+#ifdef LIBRARY
+	return LIBRARY;
+#endif
+	return library;
 }
 
 static int is_program(const char *path)

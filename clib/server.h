@@ -9,9 +9,8 @@
 /* where the program that answers finds the number of the memory that it shares */
 #define RINGS_VARIABLE "ZENDROUZ_RINGS"
 
-/* program.c: which program answers, and the library that is loaded into it, by its folder and its name there. */
+/* program.c: which program answers, and the library that is loaded into it. */
 const char *program_path(void);
-const char *program_folder(void);
 const char *program_library(void);
 
 /* rings.c: the bytes between the device and the program. */
