@@ -103,28 +103,19 @@ int command_test(comedi_cmd *command)
 	return result == 5 && !command->chanlist ? 0 : result;
 }
 
-/* A command whose list can't be used. What stands before the list, a lock and another command, is found by asking for
- * one with an empty list, which is always refused. */
-static int refuse_list(int file, const comedi_cmd *command, int error)
+static int ask_call(int file, comedi_cmd *command)
 {
-	comedi_cmd asked = *command;
-	asked.chanlist_len = 0;
-	put_command(&asked, list);
-	int result = line_of_session("cmd %d %s", file, text);
-	return result == -EINVAL ? error : result;
+	put_command(command, list);
+	return line_of_session("cmd %d %s", file, text);
 }
 
-/* A command that only goes through the motions: as the kernel's core it is refused like any other, and where nothing
- * is wrong with it too, with EAGAIN. So a source that no board has is asked for, and the test reports it. */
-static int call_bogus(int file, comedi_cmd *command)
+/* A command whose list can't be used. What stands before the list, a lock and another command, is found by asking for
+ * one with an empty list, which is always refused. */
+static int refuse_list(int file, comedi_cmd asked, int error)
 {
-	comedi_cmd asked = *command;
-	asked.start_src = 0;
-	put_command(&asked, list);
-	int result = line_of_session("cmd %d %s", file, text);
-	if (result == -EAGAIN)
-		ask_test(command);
-	return result;
+	asked.chanlist_len = 0;
+	int result = ask_call(file, &asked);
+	return result == -EINVAL ? error : result;
 }
 
 int command_call(int file, comedi_cmd *command)
@@ -135,11 +126,13 @@ int command_call(int file, comedi_cmd *command)
 		return result;
 	result = command->chanlist_len ? take_list(s, command) : -EINVAL;
 	if (result)
-		return refuse_list(file, command, result);
-	if (command->flags & CMDF_BOGUS)
-		return call_bogus(file, command);
-	put_command(command, list);
-	result = line_of_session("cmd %d %s", file, text);
+		return refuse_list(file, *command, result);
+	comedi_cmd asked = *command;
+	/* one that only goes through the motions is refused like any other in the kernel's core, and where nothing is wrong with
+	 * it too, with EAGAIN: a source that no board has is asked for, and the test reports it */
+	if (asked.flags & CMDF_BOGUS)
+		asked.start_src = 0;
+	result = ask_call(file, &asked);
 	if (result == -EAGAIN || result == -EINVAL)
 		ask_test(command);
 	if (!result) {
