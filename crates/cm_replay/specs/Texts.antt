@@ -2,7 +2,7 @@
 use Rattle.std.specs.Prelude.{ℕ, List, [], ◌∷◌, ◌++◌, length, codes}
 use Rattle.std.specs.Fmt.{decimal}
 use Rattle.cm_cmd.specs.CommandText.{command_text}
-use Rattle.cm_sub.specs.Checks.{number_of}
+use Rattle.cm_sub.specs.Checks.{refused_text}
 use Rattle.cm_signal.specs.Setting.{Setting}
 use Rattle.cm_session.specs.declared.op.SessionLine.{SessionLine}
 use Rattle.cm_text.specs.Outputs.{output_texts}
@@ -42,7 +42,7 @@ answer_text (Data k words) = codes "ok " ++ decimal k ++ words_text words ++ cod
 answer_text Idle = codes "ok 0 idle\n"
 answer_text (Ended e) = end_text e
 answer_text (Rejected step cmd) = codes "err 11 " ++ decimal step ++ codes " " ++ command_text cmd ++ codes "\n"
-answer_text (Refused error) = codes "err " ++ decimal (number_of error) ++ codes "\n"
+answer_text (Refused error) = refused_text error
 
 -- the same with the samples of a read in codes
 abbrev pub codes_answer : Answer → List ℕ

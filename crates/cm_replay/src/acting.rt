@@ -19,14 +19,14 @@ use crate::locking::{lock, unlock};
 use crate::passing::bring_all;
 use crate::reading::{cancel, contents, look, map, read, release};
 use crate::seat::Seat;
-use crate::text::{put_fine, put_refused};
+use crate::text::put_fine;
 use crate::trying::BoxedAccepted;
 use crate::writing::{fill, mark, write};
 use cm_base::prover::shows;
 use cm_base::transfer::NoMemory;
 use cm_session::op::{Op, SessionLine};
 use cm_signal::setting::Setting;
-use cm_sub::errno::Errno;
+use cm_sub::errno::{Errno, put_refused};
 use cm_sub::files::Files;
 use std::alloc::Global;
 

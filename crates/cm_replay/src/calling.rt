@@ -12,7 +12,7 @@ ghost use Rattle.cm_test.specs.Questions.{tested};
 
 use crate::at::At;
 use crate::seat::Seat;
-use crate::text::{put_fine, put_refused, put_rejected};
+use crate::text::{put_fine, put_rejected};
 use crate::trying::BoxedAccepted;
 use cm_base::prover::shows;
 use cm_base::transfer::NoMemory;
@@ -21,7 +21,7 @@ use cm_expand::plan::Plan;
 use cm_expand::rule::rule_of;
 use cm_running::command::Command;
 use cm_running::text::put_count;
-use cm_sub::errno::Errno;
+use cm_sub::errno::{Errno, put_refused};
 use cm_sub::files::Files;
 use cm_test::lists::is_valid_list;
 use cm_test::test::{Accepted, command_test};

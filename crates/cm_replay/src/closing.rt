@@ -7,9 +7,10 @@ ghost use Rattle.cm_sub.specs.Checks.{first_refusal};
 ghost use Rattle.cm_sub.specs.Files.{close_checks};
 
 use crate::seat::Seat;
-use crate::text::{put_fine, put_refused};
+use crate::text::put_fine;
 use cm_base::transfer::NoMemory;
 use cm_sub::claim::Claim;
+use cm_sub::errno::put_refused;
 use cm_sub::files::Files;
 
 /// `close`: the file gives up its locks, and its commands end. Refused as `Files::close_file` is.

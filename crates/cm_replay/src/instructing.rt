@@ -9,10 +9,11 @@ ghost use Rattle.cm_session.specs.declared.op.Op.TheVariants as ops;
 
 use crate::at::At;
 use crate::seat::Seat;
-use crate::text::{put_data, put_refused};
+use crate::text::put_data;
 use cm_base::transfer::NoMemory;
 use cm_insn::insn::{InsnCode, Instr, insn, time_words};
 use cm_running::text::put_count;
+use cm_sub::errno::put_refused;
 use cm_sub::files::Files;
 
 // The most data words of an instruction.

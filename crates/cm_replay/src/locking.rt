@@ -6,8 +6,9 @@ ghost use Rattle.cm_replay.specs.State.{Device};
 ghost use Rattle.cm_session.specs.declared.op.Op.TheVariants as ops;
 
 use crate::at::At;
-use crate::text::{put_fine, put_refused};
+use crate::text::put_fine;
 use cm_base::transfer::NoMemory;
+use cm_sub::errno::put_refused;
 use cm_sub::files::Files;
 
 /// `lock`: gives the subdevice's lock to the file. Refused as `Files::lock` is.

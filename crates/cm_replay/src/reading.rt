@@ -11,10 +11,10 @@ ghost use Rattle.cm_session.specs.declared.op.Op.TheVariants as ops;
 
 use crate::at::At;
 use crate::seat::Seat;
-use crate::text::{put_end, put_fine, put_idle, put_refused};
+use crate::text::{put_end, put_fine, put_idle};
 use cm_base::transfer::NoMemory;
 use cm_running::text::put_count;
-use cm_sub::errno::Errno;
+use cm_sub::errno::{Errno, put_refused};
 use cm_sub::files::Files;
 
 // How many samples are mapped.

@@ -9,10 +9,9 @@ ghost use Rattle.cm_session.specs.declared.op.Op.TheVariants as ops;
 use crate::at::At;
 use crate::reading::report_over;
 use crate::seat::Seat;
-use crate::text::put_refused;
 use cm_base::transfer::NoMemory;
 use cm_running::text::put_count;
-use cm_sub::errno::Errno;
+use cm_sub::errno::{Errno, put_refused};
 use cm_sub::files::Files;
 
 // How many words are filled and not marked.

@@ -1,15 +1,9 @@
 -- The test of a command in Comedi's numbers (COMEDI_CMDTEST).
-use Rattle.std.specs.Prelude.{ℕ, not, nat_le, List, [], ◌∷◌, ◌++◌, length, codes, Option, Some, None}
-use Rattle.cm_board.specs.Board.{BoardText, takes_commands}
+use Rattle.std.specs.Prelude.{ℕ, List, [], ◌∷◌, ◌++◌, codes}
+use Rattle.cm_board.specs.Board.{BoardText}
 use Rattle.cm_cmd.specs.Command.{CmdText}
-use Rattle.cm_sub.specs.Checks.{first_refusal, refuse}
-use Rattle.cm_sub.specs.declared.errno.Errno.{Errno}
-use Rattle.cm_sub.specs.declared.errno.Errno.TheVariants.{Io, NoDev}
-use Rattle.cm_test.specs.Accepting.{sub_at}
-use Rattle.cm_test.specs.Questions.{tested}
+use Rattle.cm_test.specs.Testing.{answer_by, tested_on}
 use Rattle.cm_running.specs.Texts.{words_text}
-use Rattle.cm_replay.specs.Answers.{Refused}
-use Rattle.cm_replay.specs.Texts.{answer_text}
 
 -- the sources and the argument of each trigger
 abbrev pub trigger_numbers : CmdText → List ℕ
@@ -21,15 +15,6 @@ trigger_numbers cmd =
 abbrev pub test_numbers : ℕ × CmdText → List ℕ
 test_numbers test = codes "ok" ++ words_text (test.0 ∷ trigger_numbers test.1) ++ codes "\n"
 
--- to test a command: its subdevice must be there, and take commands
-abbrev pub test_checks : BoardText → ℕ → List (Option Errno)
-test_checks board i =
-    refuse NoDev (nat_le (length board.subs) i) ∷ refuse Io (not (takes_commands (sub_at board i))) ∷ []
-
 -- the answer to a command
 abbrev pub cmdtest_text : BoardText → CmdText → List ℕ
-cmdtest_text board cmd = by (first_refusal (test_checks board cmd.sub))
-  where
-    by : Option Errno → List ℕ
-    by None = test_numbers (tested (sub_at board cmd.sub) cmd)
-    by (Some error) = answer_text (Refused error)
+cmdtest_text board cmd = answer_by test_numbers (tested_on board cmd)

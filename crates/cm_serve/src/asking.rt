@@ -18,10 +18,9 @@ use cm_replay::at::At;
 use cm_replay::passing::bring_all;
 use cm_replay::reading::read_codes;
 use cm_replay::seat::Seat;
-use cm_replay::text::put_refused;
 use cm_running::text::put_count;
 use cm_signal::setting::Setting;
-use cm_sub::errno::Errno;
+use cm_sub::errno::{Errno, put_refused};
 use cm_sub::files::Files;
 use std::alloc::Global;
 

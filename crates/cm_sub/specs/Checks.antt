@@ -1,5 +1,6 @@
 -- Checks in their order, and the errors with which they refuse.
-use Rattle.std.specs.Prelude.{ℕ, Bool, List, [], ◌∷◌, Option, Some, None, if◌then◌else◌}
+use Rattle.std.specs.Prelude.{ℕ, Bool, List, [], ◌∷◌, ◌++◌, Option, Some, None, codes, if◌then◌else◌}
+use Rattle.std.specs.Fmt.{decimal}
 use Rattle.cm_sub.specs.declared.errno.Errno.{Errno}
 use Rattle.cm_sub.specs.declared.errno.Errno.TheVariants as errors
 
@@ -12,6 +13,10 @@ number_of errors.Busy = 16
 number_of errors.NoDev = 19
 number_of errors.Inval = 22
 number_of errors.Pipe = 32
+
+-- the answer that refuses with an error
+abbrev pub refused_text : Errno → List ℕ
+refused_text error = codes "err " ++ decimal (number_of error) ++ codes "\n"
 
 -- a check that refuses with an error where its test holds
 abbrev pub refuse : Errno → Bool → Option Errno

@@ -1,6 +1,9 @@
 // The errors with which a call on a subdevice is refused.
-ghost use Rattle.std.specs.Prelude.{◌≡◌};
-ghost use Rattle.cm_sub.specs.Checks.{number_of};
+ghost use Rattle.std.specs.Prelude.{◌≡◌, ◌++◌, OnOk};
+ghost use Rattle.cm_sub.specs.Checks.{number_of, refused_text};
+
+use cm_base::numbers::put_u64;
+use cm_base::transfer::NoMemory;
 
 /// Why a call is refused, named as the system names its number (Linux: `errno-base.h`).
 #[derive(Clone, Copy, Debug, PartialEq, Eq)]
@@ -36,4 +39,14 @@ impl Errno {
             Errno::Pipe => 32,
         }
     }
+}
+
+/// Appends the answer that refuses a line with Comedi's error number.
+pub fn put_refused(text: &mut Vec<u8>, error: Errno) -> Result<(), NoMemory>
+    ensures { OnOk result (text.new.items ≡ text.old.items ++ refused_text error) }
+{
+    text.extend_from_slice(b"err ")?;
+    put_u64(text, u64::from(error.number()))?;
+    text.extend_from_slice(b"\n")?;
+    Ok(())
 }

@@ -1,7 +1,9 @@
 // Answers to commands that are tested.
-ghost use Rattle.std.specs.Prelude.{◌≡◌, ◌++◌, ◌≤◌, length, OnOk};
-ghost use Rattle.cm_test.specs.Questions.{tested};
-ghost use Rattle.cm_test.specs.Testing.{test_answer, test_on, test_text};
+ghost use Rattle.std.specs.Prelude.{◌≡◌, ◌++◌, ◌≤◌, length, IfOk, OnOk};
+ghost use Rattle.std.specs.Result.{result_err};
+ghost use Rattle.cm_sub.specs.Checks.{first_refusal};
+ghost use Rattle.cm_test.specs.Accepting.{sub_at};
+ghost use Rattle.cm_test.specs.Testing.{test_answer, test_checks, test_text, tested_on};
 
 use crate::test::command_test;
 use cm_base::numbers::put_u64;
@@ -9,10 +11,47 @@ use cm_base::transfer::NoMemory;
 use cm_board::board::{BoardDesc, Sub};
 use cm_cmd::command::Cmd;
 use cm_cmd::printing::put_cmd;
+use cm_sub::errno::{Errno, put_refused};
 use std::alloc::Global;
 
-/// Appends the answer to a command that is tested on its subdevice: the step that it fails, or 0, and
-/// what the test leaves of it (Comedi: `comedi_command_test`).
+// The subdevice that is to take a command.
+fn commanded(board: &BoardDesc, number: u32) -> Result<&Sub, Errno>
+    ensures refusal { result_err result ≡ first_refusal (test_checks board.now number) }
+    ensures sub { IfOk result (λ sub. sub.now ≡ sub_at board.now number) }
+{
+    let index = number as usize;
+    if index >= board.subs.len() {
+        return Err(Errno::NoDev);
+    }
+    let sub = &board.subs[index];
+    if !sub.takes_commands() {
+        return Err(Errno::Io);
+    }
+    Ok(sub)
+}
+
+/// Tests a copy of a command on its subdevice: the step that it fails, or 0, and the command as the test
+/// leaves it (Comedi: `comedi_command_test`). It is refused with NoDev (`ENODEV`) where there is no such
+/// subdevice, and then with Io (`EIO`) where that takes no commands.
+pub fn test_copy(
+    alloc: Global,
+    board: &BoardDesc,
+    cmd: &Cmd,
+) -> Result<Result<(u8, Cmd), Errno>, NoMemory>
+    requires { length cmd.now.list ≤ 1024 }
+    ensures { IfOk result (λ test. test ≡ tested_on board.now cmd.now) }
+{
+    match commanded(board, cmd.sub) {
+        Err(error) => Ok(Err(error)),
+        Ok(sub) => {
+            let mut copy = cmd.copy(alloc)?;
+            let step = command_test(sub, &mut copy);
+            Ok(Ok((step, copy)))
+        }
+    }
+}
+
+/// Appends the answer to a command that is tested on its subdevice, as `test_copy` has it.
 pub fn put_answer(
     alloc: Global,
     text: &mut Vec<u8>,
@@ -22,36 +61,10 @@ pub fn put_answer(
     requires { length cmd.now.list ≤ 1024 }
     ensures { OnOk result (text.new.items ≡ text.old.items ++ test_answer board.now cmd.now) }
 {
-    let index = cmd.sub as usize;
-    if index < board.subs.len() {
-        put_test(alloc, text, &board.subs[index], cmd)
-    } else {
-        text.extend_from_slice(b"err 19\n")?;
-        Ok(())
+    match test_copy(alloc, board, cmd)? {
+        Ok((step, left)) => put_step(text, step, &left),
+        Err(error) => put_refused(text, error),
     }
-}
-
-// Appends the answer to a command on a subdevice.
-fn put_test(alloc: Global, text: &mut Vec<u8>, sub: &Sub, cmd: &Cmd) -> Result<(), NoMemory>
-    requires { length cmd.now.list ≤ 1024 }
-    ensures { OnOk result (text.new.items ≡ text.old.items ++ test_on sub.now cmd.now) }
-{
-    if sub.takes_commands() {
-        put_tested(alloc, text, sub, cmd)
-    } else {
-        text.extend_from_slice(b"err 5\n")?;
-        Ok(())
-    }
-}
-
-// Tests a copy of a command, and appends the step and what is left of the copy.
-fn put_tested(alloc: Global, text: &mut Vec<u8>, sub: &Sub, cmd: &Cmd) -> Result<(), NoMemory>
-    requires { length cmd.now.list ≤ 1024 }
-    ensures { OnOk result (text.new.items ≡ text.old.items ++ test_text (tested sub.now cmd.now)) }
-{
-    let mut cmd = cmd.copy(alloc)?;
-    let step = command_test(sub, &mut cmd);
-    put_step(text, step, &cmd)
 }
 
 // Appends a step and a command.

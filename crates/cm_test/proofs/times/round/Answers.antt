@@ -1,4 +1,4 @@
-use Rattle.std.proofs.Common.{◌≡◌, Bool, ◌&&◌, sym, ap, ap₂, ◌∙◌}
+use Rattle.std.proofs.Common.{◌≡◌, ◌&&◌, sym, ap, ap₂, ◌∙◌}
 use Rattle.cm_cmd.specs.Command.{CmdText}
 use Rattle.cm_test.specs.Questions.{is_rounded, same_trigger}
 use Rattle.cm_test.specs.Steps.{raised, rounded}
