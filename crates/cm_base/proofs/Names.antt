@@ -1,5 +1,5 @@
 -- A source text name by name.
-use Rattle.std.proofs.Common.{◌≡◌, ℕ, ◌+◌, ◌*◌, Bool, true, false, ◌&&◌, ◌≤◌, nat_le, rules, List, [], ◌∷◌, take, drop, refl, ap, ◌∙◌, Some, None, Option, Result, Ok, Err, bit_or}
+use Rattle.std.proofs.Common.{◌≡◌, ℕ, ◌+◌, ◌*◌, Bool, true, false, ◌&&◌, ◌≤◌, nat_le, rules, List, [], ◌∷◌, take, drop, refl, ap, ◌∙◌, Some, None, Result, Ok, Err, bit_or}
 use Rattle.std.specs.Int.Bits.{or_zero_r}
 use Rattle.std.specs.List.{slice_split, position}
 use Rattle.cm_base.specs.Reading.{◌>>=◌}

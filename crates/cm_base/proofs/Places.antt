@@ -1,8 +1,8 @@
 -- The lines of a text by their places.
-use Rattle.std.proofs.Common.{◌≡◌, ℕ, ◌-◌, ◌<◌, ◌+◌, suc, Bool, true, List, [], ◌∷◌, ◌++◌, append_assoc, length, map, drop, take, get_or, ap, sym, ◌∙◌, arith, add-one, drop-cons, length-drop}
+use Rattle.std.proofs.Common.{◌≡◌, ℕ, ◌-◌, ◌<◌, ◌+◌, suc, Bool, true, List, [], ◌∷◌, ◌++◌, length, map, drop, take, get_or, ap, sym, ◌∙◌, arith, add-one, drop-cons, length-drop}
 use Rattle.std.specs.Prelude.{if◌then◌else◌}
 use Rattle.std.proofs.Math.Seq.{take-append-add}
-use Rattle.std.proofs.lemmas.List.{append-nil, drop-map, length-map, map-append, take_all}
+use Rattle.std.proofs.lemmas.List.{drop-map, length-map, map-append, take_all}
 use Rattle.cm_base.specs.LineView.{line_view}
 use Rattle.cm_base.specs.Lines.{LineText}
 use Rattle.cm_base.specs.declared.lines.Line.{Line}
