@@ -17,12 +17,6 @@ use Rattle.cm_base.proofs.Bools.{both}
 digit_range : (c : ℕ) → is_ascii_digit c ≡ true → IsInRange 48 57 c
 digit_range c h = grind (arith, nat_tests)
 
--- a word that may write a number is short
-pub short_number : (ds : List ℕ) → (not (length ds == 0) && nat_le (length ds) 18 && has_no_leading_zero ds) ≡ true → length ds ≤ 18
-short_number ds h =
-    let at_most : nat_le (length ds) 18 ≡ true = (both (not (length ds == 0)) _ (both _ (has_no_leading_zero ds) h).0).1 in
-    grind (arith, nat_tests, at_most)
-
 -- a digit's value is its code less that of 0
 pub digit_at : (c : ℕ) → is_ascii_digit c ≡ true → (digit_value c + 48 ≡ c) × (c ≤ 57)
 digit_at c h = let in_range = digit_range c h in (digit_value_digit c in_range, in_range.1)

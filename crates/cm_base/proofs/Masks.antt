@@ -77,6 +77,3 @@ module _ (p q : ℕ → Bool) (opposite : (x : ℕ) → q x ≡ not (p x)) where
 -- a place that is counted as the first one, and none
 pub first_is : (p : ℕ → Bool) (text : List ℕ) (at : ℕ) → at ≡ position_or_len p text → at < length text → Some at ≡ position p text
 first_is p text at e h = grind (arith, nat_tests)
-
-pub none_is : (p : ℕ → Bool) (text : List ℕ) (at : ℕ) → at ≡ position_or_len p text → length text ≤ at → None ≡ position p text
-none_is p text at e h = grind (arith, nat_tests)

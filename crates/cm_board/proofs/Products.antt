@@ -140,11 +140,6 @@ pub none_above : (xs : List ℕ) (p : ℕ → ℕ → Bool) (t b : ℕ) → b �
 none_above [] p t b le h = least_never t b le
 none_above (a ∷ more) p t b le h = absurd (omega arith)
 
--- divisors of a list that is not empty
-pub first_some : (xs : List ℕ) → list_all is_divisor xs ≡ true → 1 ≤ length xs → (1 ≤ get_or xs 0 0) × (get_or xs 0 0 ≤ 16777216) × (list_all is_divisor (drop 1 xs) ≡ true)
-first_some [] h l = absurd (omega arith)
-first_some (a ∷ more) h l = let b = both (is_divisor a) (list_all is_divisor more) h in let s = some a b.0 in (s.0, s.1, b.1)
-
 -- all numbers from one to another
 abbrev pub span : ℕ → ℕ → List ℕ
 span first last = range_with_len first (last + 1 - first)

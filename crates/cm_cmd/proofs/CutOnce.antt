@@ -1,5 +1,5 @@
 -- Triggers and entries that are cut at their first separators, where what follows has none.
-use Rattle.std.proofs.Common.{◌≡◌, ℕ, ◌+◌, Bool, true, false, ◌&&◌, List, [], ◌∷◌, take, drop, refl, sym, ap, ap₂, ◌∙◌, Some, None, Result, Ok, Err}
+use Rattle.std.proofs.Common.{◌≡◌, ℕ, ◌+◌, Bool, true, false, ◌&&◌, List, [], ◌∷◌, take, drop, refl, sym, ap, ap₂, ◌∙◌, Some, None, Ok}
 use Rattle.std.specs.Prelude.{nat_le, if◌then◌else◌}
 use Rattle.std.specs.Char.{is_ascii_digit}
 use Rattle.std.specs.List.{list_all, position, slice_split}
@@ -10,7 +10,6 @@ use Rattle.std.proofs.lemmas.Slice.Eq.{bytes_eq-Decides}
 use Rattle.cm_base.specs.Numbers.{is_number}
 use Rattle.cm_base.specs.Reading.{◌>>=◌}
 use Rattle.cm_base.specs.Words.{limited, listed, number_in, or_fault, source_of, three, two}
-use Rattle.cm_base.specs.declared.faults.Fault.{Fault}
 use Rattle.cm_base.specs.declared.faults.Fault.TheVariants.{BadNumber, Unknown}
 use Rattle.cm_base.proofs.Bools.{both}
 use Rattle.cm_base.proofs.Joined.{free, free_of, is_free}

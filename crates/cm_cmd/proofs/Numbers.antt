@@ -1,5 +1,5 @@
 -- Decimal numbers of commands are read as they were written.
-use Rattle.std.proofs.Common.{◌≡◌, ℕ, ◌^◌, ◌<◌, ◌≤◌, true, Ok, arith, decimal}
+use Rattle.std.proofs.Common.{◌≡◌, ℕ, ◌^◌, ◌<◌, ◌≤◌, Ok, arith, decimal}
 use Rattle.std.proofs.lemmas.Bool.{le-leb}
 use Rattle.cm_base.specs.Words.{number_in}
 use Rattle.cm_base.proofs.Bools.{and_true}

@@ -28,17 +28,6 @@ pub record IsHeard (ahead left : Option (List (List ℕ))) (old now : Option (Li
   pub count_is : count ≡ length lines
   pub later : StartsLater lines
 
-pub heard-start : (ahead : Option (List (List ℕ))) (old : Option (List Turn)) (text : List ℕ) → text ≡ [] → IsHeard ahead ahead old old text 0
-heard-start ahead old text e = record {
-  lines = [];
-  came = came-none ahead;
-  single = All-nil IsLine;
-  says = says-nothing old;
-  text_is = e;
-  count_is = refl;
-  later = All-nil (λ line. starts_session line ≡ false);
-}
-
 -- a line more was heard
 says_line : (old now new : Option (List Turn)) (lines : List (List ℕ)) (line : List ℕ) → Says old now (map Line lines) → Says now new (Line line ∷ []) → Says old new (map Line (lines ++ line ∷ []))
 says_line old now new lines line a b = says-same old new (map Line lines ++ Line line ∷ []) (map Line (lines ++ line ∷ [])) (sym (map-append Line lines (line ∷ []))) (says-more old now new (map Line lines) (Line line ∷ []) a b)

@@ -19,13 +19,6 @@ pub record IsHearing (old now : Ends) (line : List ℕ) : Type 0 where
   pub bytes : Consumes (unheard old) (unheard now) line
   pub single : IsLine line
 
-pub hearing-start : (old : Ends) (line : List ℕ) → line ≡ [] → IsHearing old old line
-hearing-start old line e = record { bytes = start (unheard old) line e; single = subst IsLine (sym e) (All-nil (λ c. is_line_feed c ≡ false)) }
-  where
-    start : (known : Option (List ℕ)) (line : List ℕ) → line ≡ [] → Consumes known known line
-    start None line e = tt
-    start (Some bytes) line e = ap (λ (first : List ℕ). first ++ bytes) (sym e)
-
 -- bytes that were moved have no line feed
 pub moved-single : (old now new : Ends) (line more : List ℕ) (ended : Bool) → Moved ended now new line more → IsHearing old now line → IsLine more
 moved-single old now new line more ended m h =

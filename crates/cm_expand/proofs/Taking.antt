@@ -54,18 +54,6 @@ one_more [] (suc k) x rest e = absurd (cc)
 one_more (y ∷ xs) zero x rest e = let same : y ≡ x = cc in ap (λ z. z ∷ []) same
 one_more (y ∷ xs) (suc k) x rest e = ap (λ ys. y ∷ ys) (one_more xs k x rest e)
 
--- what is made of the conversions so far, and then what is made of one more
-pub more_put : {X : Type 0} (made : List Conv → List X) (item : X) (p : PlanText) (place k : ℕ) (r : Progress) (out : List X) → IsBoard p (place + k) (Ok r) → k < length out →
-    take k out ≡ made (take k (drop place (items_of p))) →
-    made (take k (drop place (items_of p)) ++ conv_at p (place + k) r.point.time ∷ []) ≡ made (take k (drop place (items_of p))) ++ item ∷ [] →
-    take (k + 1) (set out k item) ≡ made (take (k + 1) (drop place (items_of p)))
-more_put made item p place k r out is room so_far this =
-    take_more_set out k item room
-    ∙ ap (λ xs. xs ++ item ∷ []) so_far
-    ∙ sym this
-    ∙ sym (ap made (one_more (drop place (items_of p)) k _ _ (left_first p place k r is)))
-    ∙ ap (λ n. made (take n (drop place (items_of p)))) (sym (add-one k))
-
 -- nothing is left where a plan has no timing
 pub never_left : (p : PlanText) (place : ℕ) (timing : Option Timing) (point : Next) → timing ≡ None → IsBoard p place (progress_of timing point) →
     drop place (items_of p) ≡ []

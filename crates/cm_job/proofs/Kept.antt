@@ -195,7 +195,3 @@ lines-more session board signals before number line next so e =
       few = omega (arith, length-append before (n.0 ∷ []), called.1);
       total = omega (arith, length-more (plan_of board signals) before n.0, all);
     })
-
--- lines that can be run can be called
-pub all-called : (board : BoardText) (signals : SignalsText) (lines : List RunLine) → All (CanRun board signals) lines → All (CanCall board signals) lines
-all-called board signals lines each = λ i line within. (each i line within).call

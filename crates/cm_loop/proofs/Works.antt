@@ -63,8 +63,3 @@ looked_on a b c waiting first then = record {
   stop_looks = then.stop_looks ∙ first.stop_looks;
   saw_stop = then.saw_stop ∙ first.saw_stop;
 }
-
--- raw samples stay as they are
-pub munged_raw : (ring : RingConstants) → ring.rule.raw ≡ true → munged_plan ring ≡ ring.samples
-munged_raw ring raw = map_from-same (munged_word ring.rule) 0 ring.samples
-    (λ p x. ap (λ (b : Bool). cond b x (item_word_if ring.rule.out (slice_get ring.rule.items (p % length ring.rule.items)) x)) raw)

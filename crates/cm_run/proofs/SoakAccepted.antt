@@ -55,15 +55,6 @@ sub_sound = record {
   block = record { whole = record { good = refl; few = refl; full = refl; same = refl }; says = refl };
 }
 
-pub board_sound : IsSoundBoard soak_board
-board_sound = record {
-  version = record { low = omega arith; high = omega arith };
-  name = record { low = omega arith; high = omega arith };
-  printable = refl;
-  subs = record { low = omega arith; high = omega arith };
-  blocks = refl;
-}
-
 -- a command that passes each step of the test
 all_steps : (sub : SubText) (cmd : CmdText) → is_narrow sub cmd ≡ true → is_compatible sub cmd ≡ true → is_within sub cmd ≡ true → is_rounded sub cmd ≡ true → is_valid_list sub cmd.list ≡ true → (tested sub cmd).0 ≡ 0
 all_steps sub cmd narrow compatible within round list =

@@ -11,11 +11,6 @@ use Rattle.cm_serve.specs.Dialogue.{replied, replied_if, reply, reply_of, unchan
 use Rattle.cm_dialogue.specs.Lines.{said_by}
 use Rattle.cm_dialogue.specs.declared.dialogue_line.DialogueLine.{DialogueLine}
 
--- the same line with another number
-renumbered-ok : {X : Type 0} (number other : ℕ) (read : Result X Fault) (x : X) → at_line number read ≡ Ok x → at_line other read ≡ Ok x
-renumbered-ok number other (Ok y) x e = e
-renumbered-ok number other (Err fault) x e = cc
-
 renumbered-err : {X : Type 0} (number other : ℕ) (read : Result X Fault) (refused : Refused) → at_line number read ≡ Err refused → at_line other read ≡ Err (record { line = other; cause = refused.cause })
 renumbered-err number other (Ok y) refused e = cc
 renumbered-err {X} number other (Err fault) refused e = refused_at other fault refused.cause (same_cause number fault refused e)
@@ -33,12 +28,6 @@ line_read p number at bytes line rest bounds latest e h l =
     ap (reply_of p number) e
     ∙ ap (λ (b : Bounds). replied_if p (at_line number (said_by b p.latest line))) (sym h)
     ∙ ap (λ (n : ℕ). replied_if p (at_line number (said_by bounds n line))) (sym l)
-
-pub reply-said : (p : Play) (number at : ℕ) (bytes : List ℕ) (line : LineText) (rest : List LineText) (bounds : Bounds) (latest : ℕ) (said : DialogueLine) → lines_of bytes ≡ line ∷ rest → bounds ≡ bounds_at p → latest ≡ p.latest →
-    at_line at (said_by bounds latest line) ≡ Ok said → reply p number bytes ≡ replied p said
-reply-said p number at bytes line rest bounds latest said e h l is =
-    line_read p number at bytes line rest bounds latest e h l
-    ∙ ap (replied_if p) (renumbered-ok at number (said_by bounds latest line) said is)
 
 pub reply-refused : (p : Play) (number at : ℕ) (bytes : List ℕ) (line : LineText) (rest : List LineText) (bounds : Bounds) (latest : ℕ) (refused : Refused) → lines_of bytes ≡ line ∷ rest → bounds ≡ bounds_at p → latest ≡ p.latest →
     at_line at (said_by bounds latest line) ≡ Err refused → reply p number bytes ≡ unchanged p (refused_text (record { line = number; cause = refused.cause }))

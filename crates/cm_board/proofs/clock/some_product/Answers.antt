@@ -1,4 +1,4 @@
-use Rattle.std.proofs.Common.{ℕ, ◌≡◌, ◌∙◌, ◌^◌, ◌≤◌, ◌⊎◌, inl, inr, subst, sym, true, Bool, arith}
+use Rattle.std.proofs.Common.{ℕ, ◌≡◌, ◌^◌, ◌⊎◌, inl, inr, subst, sym, true, Bool, arith}
 use Rattle.cm_board.specs.Times.{IsLeast, are_multiples, is_multiple, is_one, numbers}
 use Rattle.cm_board.proofs.Searches.{least_is}
 use Rattle.cm_board.proofs.Products.{multiple_of_span, span}
