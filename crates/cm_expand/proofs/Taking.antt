@@ -1,8 +1,7 @@
 -- Conversions taken from a board one after another.
-use Rattle.std.proofs.Common.{◌≡◌, ℕ, zero, suc, ◌+◌, ◌^◌, min, ◌<◌, List, [], ◌∷◌, ◌++◌, length, take, drop, set, Option, Some, None, true, false, refl, sym, ap, ◌∙◌, arith, add-one, drop-drop}
+use Rattle.std.proofs.Common.{◌≡◌, ℕ, zero, suc, ◌+◌, ◌^◌, min, ◌<◌, List, [], ◌∷◌, ◌++◌, length, take, drop, Option, Some, None, true, false, refl, sym, ap, ◌∙◌, arith, drop-drop}
 use Rattle.std.specs.Prelude.{slice_get, nat_le, Ok}
 use Rattle.std.proofs.lemmas.Bool.{cond-false, lt-leb}
-use Rattle.std.proofs.lemmas.List.{take_more_set}
 use Rattle.cm_expand.specs.Board.{IsBoard, progress_of}
 use Rattle.cm_expand.specs.Timing.{Timing as TimingText}
 use Rattle.cm_expand.specs.TimingView.{timing_text}

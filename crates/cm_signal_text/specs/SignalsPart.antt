@@ -1,15 +1,15 @@
 -- The signals part of a text.
-use Rattle.std.specs.Prelude.{ℕ, zero, suc, ◌+◌, Bool, true, ◌&&◌, nat_le, nat_lt, List, [], ◌∷◌, ◌++◌, length}
-use Rattle.std.specs.Prelude.{drop, replicate, slice_set, codes, Result, Ok, Err, if◌then◌else◌}
-use Rattle.std.specs.List.{before_first, list_all, list_any, position_or_len}
+use Rattle.std.specs.Prelude.{ℕ, ◌+◌, Bool, true, List, [], ◌∷◌, length}
+use Rattle.std.specs.Prelude.{drop, codes, Result, Ok, Err, if◌then◌else◌}
+use Rattle.std.specs.List.{before_first, position_or_len}
 use Rattle.cm_base.specs.Lines.{LineText}
 use Rattle.cm_base.specs.Numbers.{number_of}
 use Rattle.cm_base.specs.Parts.{begins, fixed}
 use Rattle.cm_base.specs.Reading.{◌>>=◌, read_on}
-use Rattle.cm_base.specs.Words.{Form, alone, each_word, four_words, keyword, limited, number_below, number_in, one}
+use Rattle.cm_base.specs.Words.{Form, alone, each_word, four_words, keyword, number_below, number_in, one}
 use Rattle.cm_base.specs.Words.{one_and_more, or_fault, three_words}
 use Rattle.cm_base.specs.declared.faults.Fault.{Fault}
-use Rattle.cm_base.specs.declared.faults.Fault.TheVariants.{Bad, BadLine, BadNumber, Double, Limit}
+use Rattle.cm_base.specs.declared.faults.Fault.TheVariants.{BadLine, BadNumber}
 use Rattle.cm_base.specs.declared.faults.Refused.{Refused}
 use Rattle.cm_board.specs.Board.{BoardText, SubText}
 use Rattle.cm_board.specs.Versions.{most_in, most_lines}

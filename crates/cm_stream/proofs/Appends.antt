@@ -1,11 +1,9 @@
 -- What whole scans that one source appends mean for what each has given.
-use Rattle.std.proofs.Common.{◌≡◌, ℕ, ◌+◌, ◌*◌, ◌<◌, List, [], ◌∷◌, ◌++◌, length, map, set, refl, sym, ap, ◌∙◌, append_assoc, Some, Result, Ok, Err, OnErr}
+use Rattle.std.proofs.Common.{◌≡◌, ℕ, ◌*◌, List, ◌++◌, map, set, refl, ap, ◌∙◌, Some, Result, Ok, Err, OnErr}
 use Rattle.std.specs.Prelude.{slice_get, slice_set}
 use Rattle.std.proofs.Math.Seq.{take-add}
 use Rattle.std.proofs.lemmas.List.{map-set}
-use Rattle.std.proofs.lemmas.Option.{slice_get-get_or}
 use Rattle.cm_ring_core.specs.declared.view.RingConstants.{RingConstants}
-use Rattle.cm_ring_core.specs.Lawful.{munged_at}
 use Rattle.cm_ring.specs.Samples.{munged_plan, first_munged, piece}
 use Rattle.cm_stream.specs.Appended.{HasAppended, HasAppendedOf, HasReleasedNothing}
 use Rattle.cm_stream.specs.Merging.{fixed, given_words, released_of}

@@ -1,12 +1,11 @@
 -- What a merge gives over many steps.
-use Rattle.std.proofs.Common.{◌≡◌, ℕ, ◌<◌, Bool, true, false, List, [], ◌∷◌, ◌++◌, length, map, set, sym, ap, ap₂, ◌∙◌, subst, Option, Some, inl, inr, refl, arith, append_assoc, append-nil}
+use Rattle.std.proofs.Common.{◌≡◌, ℕ, ◌<◌, Bool, true, false, List, [], ◌∷◌, ◌++◌, length, map, set, sym, ap, ◌∙◌, subst, Some, inl, inr, refl, arith, append_assoc, append-nil}
 use Rattle.std.specs.Prelude.{nat_eq, slice_get, option_map, if◌then◌else◌}
-use Rattle.std.specs.List.{All}
 use Rattle.std.proofs.lemmas.Bool.Decides.{eqb_tells}
 use Rattle.std.proofs.lemmas.Option.{slice_get-map, slice_get_within}
 use Rattle.cm_base.proofs.Elements.{only, set_elsewhere, set_here, there}
-use Rattle.cm_stream.specs.Merges.{HaveMerged, GivesScansOfEach, EndsWithAllScans, given_by, given_in, scans_of}
-use Rattle.cm_stream.specs.Merging.{AddsScan, HasMerged, IsPacedOn, given_words, plan_of}
+use Rattle.cm_stream.specs.Merges.{GivesScansOfEach, EndsWithAllScans, given_by, given_in, scans_of}
+use Rattle.cm_stream.specs.Merging.{AddsScan, given_words, plan_of}
 use Rattle.cm_stream.specs.Scans.{ScanText, scans}
 use Rattle.cm_stream.specs.Step.{given_scans}
 use Rattle.cm_stream.specs.Stream.{Streaming}

@@ -2,7 +2,7 @@
 use Rattle.std.proofs.Common.{◌≡◌, ℕ, zero, suc, ◌+◌, ◌-◌, ◌%◌, ◌<◌, ◌≤◌, List, [], ◌∷◌, ◌++◌, length, take, drop, get_or, replicate, refl, sym, ap, ap₂, subst, ◌∙◌, arith, append_assoc, append-nil}
 use Rattle.std.proofs.Math.Nat.{mod-one}
 use Rattle.std.proofs.Math.Seq.{take-add}
-use Rattle.std.proofs.lemmas.List.{get_or-drop, get_or-take, length-take-le, take_rest}
+use Rattle.std.proofs.lemmas.List.{get_or-drop, get_or-take, take_rest}
 use Rattle.cm_text.specs.Format.{Format, IsSample, sample_line, sample_lines}
 use Rattle.cm_text.specs.Repeated.{repeated}
 use Rattle.cm_text.proofs.Entries.{same_line, same_sample}

@@ -1,4 +1,4 @@
-use Rattle.std.proofs.Common.{◌≡◌, ◌+◌, ◌++◌, List, ℕ, length, ap, ◌∙◌, arith, length-append}
+use Rattle.std.proofs.Common.{◌++◌, List, ℕ, length, ap, ◌∙◌, arith, length-append}
 use Rattle.cm_text.proofs.Repeats.{repeated-next}
 use Rattle.cm_text.proofs.gathered.append_times.Goals as goal
 

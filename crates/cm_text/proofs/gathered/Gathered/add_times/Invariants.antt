@@ -1,4 +1,4 @@
-use Rattle.std.proofs.Common.{◌≡◌, ◌≤◌, ◌++◌}
+use Rattle.std.proofs.Common.{◌≡◌, ◌++◌}
 use Rattle.cm_text.specs.Repeated.{repeated}
 use Rattle.cm_text.proofs.gathered.Gathered.add_times.Given as goal
 
