@@ -2,7 +2,7 @@
 use Rattle.std.proofs.Common.{◌≡◌, ℕ, ◌+◌, ◌<◌, ◌≤◌, inl, inr, Bool, true, false, List, [], ◌∷◌, ◌++◌, length, map, codes, Option, Result, Ok, Err, refl, ap, sym, ◌∙◌, subst, arith, append-nil, length-append}
 use Rattle.std.proofs.lemmas.Grind.{flat_map-append}
 use Rattle.std.proofs.lemmas.List.{map-append}
-use Rattle.std.proofs.lemmas.List.Elements.{All-nil, All-push}
+use Rattle.std.proofs.lemmas.List.Elements.{All-push}
 use Rattle.cm_dialogue.specs.Heading.{HasHead, StartsLater, starts_session, text_of}
 use Rattle.std.specs.List.{All}
 use Rattle.std.specs.Result.{IsErrAnd}
@@ -14,9 +14,9 @@ use Rattle.cm_dialogue.specs.Turns.{Turn, Answer, Line, Heard, Says}
 use Rattle.cm_dialogue.specs.declared.heading.DialogueHead.{DialogueHead}
 use Rattle.cm_dialogue.specs.declared.stop.TalkStop.{TalkStop}
 use Rattle.cm_dialogue.specs.declared.stop.TalkStop.TheVariants.{TooLong}
-use Rattle.cm_dialogue.proofs.Coming.{came-ahead, came-more, came-none, others}
+use Rattle.cm_dialogue.proofs.Coming.{came-ahead, came-more, others}
 use Rattle.cm_dialogue.proofs.Heads.{head-more, later-head}
-use Rattle.cm_dialogue.proofs.Saying.{says-more, says-nothing, says-same}
+use Rattle.cm_dialogue.proofs.Saying.{says-more, says-same}
 
 -- lines that don't start the session were heard, and are the text
 pub record IsHeard (ahead left : Option (List (List ℕ))) (old now : Option (List Turn)) (text : List ℕ) (count : ℕ) : Type 0 where

@@ -11,7 +11,7 @@ use Rattle.cm_base.proofs.RawLines.{raw_lines-cons}
 use Rattle.cm_dialogue.specs.Ahead.{AreAhead, BeginsLong, Came, HearsNext, IsLine}
 use Rattle.cm_dialogue.specs.Standard.{Ends, Moved, Refilled, unheard, unheard_lines}
 use Rattle.std.proofs.lemmas.Bool.Decides.{nat_tests}
-use Rattle.std.proofs.lemmas.List.Elements.{All-append, All-nil}
+use Rattle.std.proofs.lemmas.List.Elements.{All-append}
 use Rattle.cm_dialogue.proofs.FirstLine.{after-has, after-more, before-has, before-longer, before-more, before-none, first-single, has-feed, none-single, nothing-after, one-line, rest-taken, Taken}
 
 -- these bytes of a line were heard, and there is no line feed in them

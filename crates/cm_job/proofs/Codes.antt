@@ -1,20 +1,12 @@
 -- Values as codes of their channels.
-use Rattle.std.proofs.Common.{◌≡◌, ℕ, suc, ◌+◌, ◌<◌, ◌≤◌, Bool, true, false, List, ◌∷◌, length, get_or, drop, Ok, sym, ap, ◌∙◌, drop-cons, add-one}
+use Rattle.std.proofs.Common.{◌≡◌, ℕ, ◌≤◌, Bool, List, length, sym, ap, ◌∙◌}
 use Rattle.std.specs.Prelude.{◌&&◌}
 use Rattle.std.proofs.lemmas.Bool.{le-leb}
 use Rattle.cm_base.specs.Reading.{at_line}
-use Rattle.cm_base.specs.ReadStop.{Stops}
 use Rattle.cm_base.specs.Words.{limited}
-use Rattle.cm_base.specs.declared.faults.ReadStop.{ReadStop}
-use Rattle.cm_base.specs.declared.faults.ReadStop.TheVariants as stops
-use Rattle.cm_base.proofs.Each.{stops-along}
-use Rattle.cm_base.proofs.Values.{at_line_ok}
 use Rattle.cm_board.specs.Board.{SubText}
 use Rattle.cm_cmd.specs.Command.{CmdText}
-use Rattle.cm_cmd.specs.Entry.{chan}
-use Rattle.cm_expand.specs.Rule.{entry_at}
-use Rattle.cm_job.specs.RunPart.{are_codes, code_in, is_code, values_of}
-use Rattle.cm_job.proofs.Steps.{limited-from}
+use Rattle.cm_job.specs.RunPart.{are_codes, values_of}
 
 -- few enough values are those that are codes
 pub few-codes : (sub : SubText) (cmd : CmdText) (list numbers : List ℕ) (line : ℕ) → list ≡ cmd.list → length numbers ≤ 1024 →

@@ -7,9 +7,8 @@ use Rattle.cm_base.specs.declared.faults.Refused.{Refused}
 use Rattle.cm_text.specs.Declined.{refused_text}
 use Rattle.cm_signal.specs.declared.bounds.Bounds.{Bounds}
 use Rattle.cm_serve.specs.Playing.{Play, bounds_at}
-use Rattle.cm_serve.specs.Dialogue.{replied, replied_if, reply, reply_of, unchanged}
+use Rattle.cm_serve.specs.Dialogue.{replied_if, reply, reply_of, unchanged}
 use Rattle.cm_dialogue.specs.Lines.{said_by}
-use Rattle.cm_dialogue.specs.declared.dialogue_line.DialogueLine.{DialogueLine}
 
 renumbered-err : {X : Type 0} (number other : ℕ) (read : Result X Fault) (refused : Refused) → at_line number read ≡ Err refused → at_line other read ≡ Err (record { line = other; cause = refused.cause })
 renumbered-err number other (Ok y) refused e = cc
