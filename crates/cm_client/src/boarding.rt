@@ -1,5 +1,5 @@
 // The board's worker.
-ghost use Rattle.std.specs.Prelude.{◌≡◌, ◌+◌, ◌<◌, ◌≤◌, length, slice_index, MatchOption, Some};
+ghost use Rattle.std.specs.Prelude.{◌≡◌, ◌+◌, ◌<◌, ◌≤◌, false, length, nat_eq, slice_index, MatchOption, Some};
 ghost use Rattle.cm_expand.specs.PlanView.{plan_words};
 ghost use Rattle.cm_ring_core.specs.Lawful.{first_writer, MayEndAs};
 ghost use Rattle.cm_ring_core.specs.declared.view.End.{End};
@@ -65,10 +65,8 @@ pub fn put_words<R: Wait + Sync, P: Planned, W: Words, S: Waiting, G: Gate>(
                 fresh = 0;
             }
         } else {
-            if fresh > 0 {
-                publish(&mut writer, &mut handover, fresh);
-                fresh = 0;
-            }
+            publish(&mut writer, &mut handover, fresh);
+            fresh = 0;
             gate.pass(who, 2);
             if writer.stop_asked() {
                 return end(writer, handover, EndKind::Cancelled);
@@ -86,11 +84,15 @@ pub fn put_words<R: Wait + Sync, P: Planned, W: Words, S: Waiting, G: Gate>(
 // Publishes what was put, and hands it on.
 fn publish<P: Planned, S: Waiting>(writer: &mut Writer<P>, handover: &mut Handover<S>, fresh: u32)
     requires handed { handover.old.handed ≡ in_64_bits writer.old.part.written }
+    requires waited { handover.old.idle ≡ false }
     requires fresh { writer.old.part.written + fresh ≡ writer.old.part.next }
     ensures writer { writer.new ≡ record writer.old { part = record writer.old.part { written = writer.old.part.next } } }
     ensures handed { handover.new.handed ≡ in_64_bits writer.new.part.written }
+    ensures idle { handover.new.idle ≡ nat_eq fresh 0 }
 {
-    writer.publish();
+    if fresh > 0 {
+        writer.publish();
+    }
     handover.hand_on(writer, fresh);
 }
 

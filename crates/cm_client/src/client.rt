@@ -105,6 +105,7 @@ fn read_line<R: Wait + Sync, P: Planned, C: Consumer, W: Waiting, G: Gate>(
     requires accepts { Accepts (C.accepts consumer) reader.ring }
     ensures streamed { IfOk result (λ s. StreamsTo (C.made s.samples) (C.makes consumer) reader.ring reads.take s.end s.reader) }
     ensures gave_up { IfErr result (λ g. HasAsked reader g.reader) }
+    ensures started { IfOk result (λ _. other ≡ Worker.Started) }
 {
     if other == Worker::Refused {
         return Err(give_up(reader));
@@ -140,6 +141,7 @@ pub fn run_client<
     requires accepts { Accepts (C.accepts consumer) side.reader.ring }
     ensures streamed { IfOk result (λ s. StreamsTo (C.made s.samples) (C.makes consumer) side.reader.ring reads.take s.end s.reader) }
     ensures gave_up { IfErr result (λ g. HasAsked side.reader g.reader) }
+    ensures started { IfOk result (λ _. other ≡ Worker.Started) }
 {
     let ClientSide { munger, reader } = side;
     if other == Worker::Refused {
@@ -175,7 +177,7 @@ fn munge_and_read<
         move || munge_work(rt, munger),
         move |munging| -> Result<Streamed<P, C>, GaveUp<P>>
             requires { IsFresh reader × (C.count consumer ≡ 0) × (C.made consumer ≡ C.makes consumer []) × Accepts (C.accepts consumer) reader.ring }
-            ensures { IfOk result (λ s. StreamsTo (C.made s.samples) (C.makes consumer) reader.ring reads.take s.end s.reader) × IfErr result (λ g. HasAsked reader g.reader) }
+            ensures { IfOk result (λ s. StreamsTo (C.made s.samples) (C.makes consumer) reader.ring reads.take s.end s.reader) × IfErr result (λ g. HasAsked reader g.reader) × IfOk result (λ _. munging ≡ Worker.Started) }
         {
             let waiting = Backoff::new();
             read_line(rt, reader, consumer, waiting, munging, reads, gate, who)
@@ -200,6 +202,7 @@ pub fn run_munging_client<R: Wait + Sync, P: Planned, C: Consumer, G: Gate>(
     requires accepts { Accepts (C.accepts consumer) side.reader.ring }
     ensures streamed { IfOk result (λ s. StreamsTo (C.made s.samples) (C.makes consumer) side.reader.ring reads.take s.end s.reader) }
     ensures gave_up { IfErr result (λ g. HasAsked side.reader g.reader) }
+    ensures started { IfOk result (λ _. other ≡ Worker.Started) }
 {
     let ClientSide { munger, reader } = side;
     let waiting = OwnMunger::new(munger);

@@ -62,33 +62,43 @@ impl<P: Planned> RingEnd for Reader<P> {
     ghost ended = { IsOver };
 }
 
-/// How a worker waits, with how many samples, or cells, it has handed on to the next one. The worker hands on
-/// what its end of the ring has shown, waits only where that is all, and has to end it: a `Handover` isn't let go.
+/// How a worker waits, with how many samples, or cells, it has handed on to the next one, and whether they were
+/// none the last time. The worker hands on what its end of the ring has shown, waits only where that is all, has to
+/// wait before it hands on again where they were none, and has to end it: a `Handover` isn't let go.
 pub struct Handover<W: Waiting> {
     way: W,
     handed: u64,
+    idle: bool,
 }
 
 impl<W: Waiting> Handover<W> {
-    ghost use Rattle.std.specs.Prelude.{◌≡◌, ◌+◌};
+    ghost use Rattle.std.specs.Prelude.{◌≡◌, ◌+◌, false, nat_eq};
     ghost use Rattle.cm_client.specs.Handing.{in_64_bits};
 
     /// Of a worker whose end has shown so many.
     pub fn new(way: W, handed: u64) -> Handover<W>
         ensures way { result.way ≡ way }
         ensures handed { result.handed ≡ handed }
+        ensures idle { result.idle ≡ false }
     {
-        Handover { way, handed }
+        Handover {
+            way,
+            handed,
+            idle: false,
+        }
     }
 
-    /// Hands on so many more, which the end has shown.
+    /// Hands on so many more, which the end has shown. Where they are none, the worker has nothing to do.
     pub fn hand_on<E: RingEnd>(&mut self, by: &E, count: u32)
         requires shown { in_64_bits (E.shown by.now) ≡ in_64_bits (self.old.handed + count) }
+        requires waited { self.old.idle ≡ false }
         ensures handed { self.new.handed ≡ in_64_bits (E.shown by.now) }
+        ensures idle { self.new.idle ≡ nat_eq count 0 }
         ensures way { W.has_handed_on self.old.way count self.new.way }
     {
         shows(by);
         self.handed = self.handed.saturating_add(u64::from(count));
+        self.idle = count == 0;
         self.way.hand_on(count);
     }
 
@@ -97,9 +107,11 @@ impl<W: Waiting> Handover<W> {
         requires shown { E.kept_back by.now ≡ 0 }
         requires handed { self.old.handed ≡ in_64_bits (E.shown by.now) }
         ensures handed { self.new.handed ≡ self.old.handed }
+        ensures idle { self.new.idle ≡ false }
         ensures way { W.has_waited self.old.way self.new.way }
     {
         shows(by);
+        self.idle = false;
         self.way.wait(rt);
     }
 
@@ -109,7 +121,11 @@ impl<W: Waiting> Handover<W> {
         ensures { W.has_ended self.way result }
     {
         shows(by);
-        let Handover { mut way, handed: _ } = self;
+        let Handover {
+            mut way,
+            handed: _,
+            idle: _,
+        } = self;
         way.end();
         way
     }

@@ -1,5 +1,5 @@
 // A munger that follows its writer to the end.
-ghost use Rattle.std.specs.Prelude.{◌≡◌};
+ghost use Rattle.std.specs.Prelude.{◌≡◌, ◌+◌, IsTrue};
 ghost use Rattle.cm_client.specs.Streamed.{HasMungedAll};
 
 use crate::handover::Handover;
@@ -40,15 +40,25 @@ pub fn munge_waiting<R: Wait + Sync, P: Planned, W: Waiting>(
         if count >= SMALL {
             continue;
         }
-        if let Some(end) = munger.ended() {
-            if munger.munged() == end.count {
-                break;
-            }
+        if has_all(&mut munger) {
+            break;
         }
         handover.wait(rt, &munger);
     }
     handover.end(&munger);
     munger
+}
+
+// Whether a look finds the end, and all samples up to it are munged.
+fn has_all<P: Planned>(munger: &mut Munger<P>) -> bool
+    ensures same { munger.new ≡ record munger.old { part = record munger.old.part { found = munger.new.part.found; end_looks = munger.old.part.end_looks + 1 } } }
+    ensures all { IsTrue result → HasMungedAll munger.new }
+    ensures none_left { HasMungedAll munger.new → IsTrue result }
+{
+    match munger.ended() {
+        None => false,
+        Some(end) => munger.munged() == end.count,
+    }
 }
 
 /// How a client waits that munges its ring itself, and has no thread for it: where it finds too few
@@ -60,8 +70,12 @@ pub struct OwnMunger<P: Planned> {
 }
 
 impl<P: Planned> OwnMunger<P> {
+    ghost use Rattle.std.specs.Prelude.{◌≡◌};
+
     /// Of the munger of the client's ring.
-    pub fn new(munger: Munger<P>) -> OwnMunger<P> {
+    pub fn new(munger: Munger<P>) -> OwnMunger<P>
+        ensures { result.munger ≡ munger }
+    {
         OwnMunger {
             munger,
             backoff: Backoff::new(),
@@ -70,9 +84,11 @@ impl<P: Planned> OwnMunger<P> {
 }
 
 impl<P: Planned> Waiting for OwnMunger<P> {
+    ghost use Rattle.cm_client.specs.Waiting.{HasMungedOn};
+
     ghost has_handed_on = { λ _ _ _. Unit {0} };
 
-    ghost has_waited = { λ _ _. Unit {0} };
+    ghost has_waited = { λ old new. HasMungedOn old.munger new.munger };
 
     ghost has_ended = { λ _ _. Unit {0} };
 

@@ -35,6 +35,7 @@ pub fn open_paced<'a>(
     requires cmd { (plan_text plan).cmd ≡ cmd.now }
     requires few { length_of (plan_text plan) ≤ 4000000 }
     ensures ring { IfOk result (λ r. r.reader.ring ≡ ring_of (plan_text plan.entry) true) }
+    ensures munger { IfOk result (λ r. r.munger.table ≡ r.reader.table) }
     ensures fresh { IfOk result (λ r. IsFresh r.reader) }
 {
     let sub = plan.sub();

@@ -1,5 +1,5 @@
 // Reads to the end of a ring.
-ghost use Rattle.std.specs.Prelude.{◌≡◌, ◌+◌, ◌-◌, ◌<◌, ◌≤◌, ◌++◌, ◌≢◌, [], min, length, drop, take, true, Some, None, IfOk, IfSome, IsTrue, IsFalse, OnErr, MatchOption, ⊤};
+ghost use Rattle.std.specs.Prelude.{◌≡◌, ◌+◌, ◌-◌, ◌<◌, ◌≤◌, ◌++◌, ◌≢◌, [], min, length, drop, take, true, false, Some, None, IfOk, IfSome, IsTrue, IsFalse, OnErr, MatchOption, ⊤};
 ghost use Rattle.cm_ring.specs.Samples.{first_munged, piece};
 ghost use Rattle.cm_base.specs.UpTo.{up_to};
 ghost use Rattle.cm_client.specs.Handing.{in_64_bits};
@@ -161,6 +161,7 @@ fn read_more<P: Planned, C: Consumer, G: Gate>(
     ensures most { IfOk result (λ _. MatchOption most ⊤ (λ m. reader.new.part.released ≤ m)) }
     ensures asked { IfOk result (λ _. reader.new.part.asked ≡ reader.old.part.asked) }
     ensures read { IfOk result (λ t. reader.new.part.released ≡ reader.old.part.released + t.0) }
+    ensures some { IfOk result (λ t. 1 ≤ t.1) }
     ensures makes { C.makes consumer.new ≡ C.makes consumer.old }
     ensures of { IsSameRing reader.old reader.new }
 {
@@ -175,7 +176,9 @@ fn read_more<P: Planned, C: Consumer, G: Gate>(
 // The end, where it is found and so many samples are all.
 fn end_at<P: Planned>(reader: &mut Reader<P>, count: u64) -> Option<End>
     ensures same { reader.new ≡ record reader.old { part = record reader.old.part { found = reader.new.part.found; end_looks = reader.new.part.end_looks } } }
+    ensures looked { reader.new.part.end_looks ≡ reader.old.part.end_looks + 1 }
     ensures end { IfSome result (λ e. (reader.new.part.found ≡ Some e) × (e.count ≡ count) × IsFoundEnd reader.old.ring reader.old.part e.kind e.count) }
+    ensures found { IfSome reader.new.part.found (λ e. e.count ≡ count → result ≡ Some e) }
 {
     let end = reader.ended()?;
     if end.count == count { Some(end) } else { None }
@@ -189,8 +192,11 @@ fn after_piece<R: Wait, P: Planned, W: Waiting>(
     count: u32,
     piece: u32,
 )
-    requires { in_64_bits reader.now.part.released ≡ in_64_bits (handover.old.handed + count) }
-    ensures { handover.new.handed ≡ in_64_bits reader.now.part.released }
+    requires shown { in_64_bits reader.now.part.released ≡ in_64_bits (handover.old.handed + count) }
+    requires waited { handover.old.idle ≡ false }
+    requires some { 1 ≤ piece }
+    ensures handed { handover.new.handed ≡ in_64_bits reader.now.part.released }
+    ensures waited { handover.new.idle ≡ false }
 {
     handover.hand_on(reader, count);
     if count < piece {
@@ -212,6 +218,7 @@ fn read_up_to<R: Wait + Sync, P: Planned, C: Consumer, W: Waiting, G: Gate>(
 ) -> Result<Option<End>, NoMemory>
     requires chunk { 1 ≤ chunk }
     requires handed { handover.old.handed ≡ in_64_bits reader.old.part.released }
+    requires waited { handover.old.idle ≡ false }
     requires all { HasAll (C.count consumer.old) (C.made consumer.old) (C.makes consumer.old) (C.accepts consumer.old) reader.old }
     requires most { MatchOption most ⊤ (λ m. reader.old.part.released ≤ m) }
     ensures all { IfOk result (λ _. HasAll (C.count consumer.new) (C.made consumer.new) (C.makes consumer.new) (C.accepts consumer.new) reader.new) }

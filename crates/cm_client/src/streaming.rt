@@ -11,7 +11,7 @@ ghost use Rattle.cm_sample.specs.Rule.{IsRule};
 use crate::boarding::put_words;
 use crate::client::{ClientSide, GaveUp, Reads, Streamed, run_client};
 use crate::words::{WordSource, Words};
-use crate::workers::{TrueEnd, with_worker};
+use crate::workers::{TrueEnd, Worker, with_worker};
 use cm_base::gate::Gate;
 use cm_base::transfer::NoMemory;
 use cm_expand::plan::Plan;
@@ -69,7 +69,7 @@ pub fn stream_words<
         { put_words(rt, writer, words, paced, Backoff::new(), gate, who) },
         move |board| -> Result<Streamed<P, C>, GaveUp<P>>
             requires { IsFresh client.reader × (C.count consumer ≡ 0) × (C.made consumer ≡ C.makes consumer []) × Accepts (C.accepts consumer) client.reader.ring }
-            ensures { IfOk result (λ s. StreamsTo (C.made s.samples) (C.makes consumer) client.reader.ring reads.take s.end s.reader) }
+            ensures { IfOk result (λ s. StreamsTo (C.made s.samples) (C.makes consumer) client.reader.ring reads.take s.end s.reader) × IfOk result (λ _. board ≡ Worker.Started) }
         { run_client(rt, client, consumer, board, reads, gate, who) },
     );
     Ok(streamed?)

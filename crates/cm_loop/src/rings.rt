@@ -59,7 +59,7 @@ pub(crate) fn stream_loop<
         move || board.put_all(rt, Backoff::new(), gate, BOARD),
         move |board| -> Result<Result<Streamed<Q, Vec<u32>>, GaveUp<Q>>, GaveUp<P>>
             requires { IsFresh side.client.reader × (words.items ≡ []) }
-            ensures { IfOk result (λ r. IfOk r (λ s. StreamsTo s.samples.items (λ words. words) side.entry.client.reader.ring reads.take s.end s.reader) × IfErr r (λ g. HasAsked side.entry.client.reader g.reader)) }
+            ensures { IfOk result (λ r. IfOk r (λ s. StreamsTo s.samples.items (λ words. words) side.entry.client.reader.ring reads.take s.end s.reader) × IfErr r (λ g. HasAsked side.entry.client.reader g.reader)) × IfOk result (λ _. board ≡ Worker.Started) }
         { munge_beside(rt, side, words, board, reads, gate) },
     );
     streamed
@@ -83,6 +83,7 @@ fn munge_beside<
     requires words { words.items ≡ [] }
     ensures streamed { IfOk result (λ r. IfOk r (λ s. StreamsTo s.samples.items (λ words. words) side.entry.client.reader.ring reads.take s.end s.reader)) }
     ensures output { IfOk result (λ r. IfErr r (λ g. HasAsked side.entry.client.reader g.reader)) }
+    ensures started { IfOk result (λ _. other ≡ Worker.Started) }
 {
     let LoopSide {
         munger,
@@ -98,7 +99,7 @@ fn munge_beside<
         move || munge_work(rt, munger),
         move |munging| -> Result<Result<Streamed<Q, Vec<u32>>, GaveUp<Q>>, GaveUp<P>>
             requires { IsFresh client.reader × (words.items ≡ []) }
-            ensures { IfOk result (λ r. IfOk r (λ s. StreamsTo s.samples.items (λ words. words) client.reader.ring reads.take s.end s.reader) × IfErr r (λ g. HasAsked client.reader g.reader)) }
+            ensures { IfOk result (λ r. IfOk r (λ s. StreamsTo s.samples.items (λ words. words) client.reader.ring reads.take s.end s.reader) × IfErr r (λ g. HasAsked client.reader g.reader)) × IfOk result (λ _. munging ≡ Worker.Started) }
         { filter_beside(rt, filter, client, words, munging, reads, gate) },
     );
     streamed
@@ -123,6 +124,7 @@ fn filter_beside<
     requires words { words.items ≡ [] }
     ensures streamed { IfOk result (λ r. IfOk r (λ s. StreamsTo s.samples.items (λ words. words) client.reader.ring reads.take s.end s.reader)) }
     ensures output { IfOk result (λ r. IfErr r (λ g. HasAsked client.reader g.reader)) }
+    ensures started { IfOk result (λ _. other ≡ Worker.Started) }
 {
     if other == Worker::Refused {
         return Err(filter.give_up());
@@ -133,7 +135,7 @@ fn filter_beside<
         move || filter.filter_all(rt),
         move |filtering| -> Result<Result<Streamed<Q, Vec<u32>>, GaveUp<Q>>, GaveUp<P>>
             requires { IsFresh client.reader × (words.items ≡ []) }
-            ensures { IfOk result (λ r. IfOk r (λ s. StreamsTo s.samples.items (λ words. words) client.reader.ring reads.take s.end s.reader) × IfErr r (λ g. HasAsked client.reader g.reader)) }
+            ensures { IfOk result (λ r. IfOk r (λ s. StreamsTo s.samples.items (λ words. words) client.reader.ring reads.take s.end s.reader) × IfErr r (λ g. HasAsked client.reader g.reader)) × IfOk result (λ r. IfOk r (λ _. filtering ≡ Worker.Started)) }
         { Ok(run_munging_client(rt, client, words, filtering, reads, gate, CLIENT)) },
     );
     streamed

@@ -1,5 +1,5 @@
 // The filter between two rings.
-ghost use Rattle.std.specs.Prelude.{◌≡◌, ◌+◌, ◌<◌, ◌≤◌, ◌^◌, true, false, [], length, slice_index, take, None, IsTrue};
+ghost use Rattle.std.specs.Prelude.{◌≡◌, ◌+◌, ◌<◌, ◌≤◌, ◌^◌, true, false, [], length, min, slice_index, take, None, IfSome, IsTrue};
 ghost use Rattle.cm_client.specs.Progress.{IsSameRing};
 ghost use Rattle.cm_ring.specs.Samples.{munged_plan};
 ghost use Rattle.cm_client.specs.Streamed.{EndsTruly, HeedsStop};
@@ -101,7 +101,8 @@ fn step_back(backoff: &Backoff, count: u32) {
 
 // Maps a block of samples, and reports how many are mapped of it.
 fn map_block<P: Planned>(input: &mut Reader<P>) -> u32
-    ensures mapped { result ≤ input.new.mapped }
+    ensures block { result ≡ min 64 input.new.mapped }
+    ensures looked { input.new.part.munged_looks ≡ input.old.part.munged_looks + 1 }
     ensures kept { IsSameInput input.old input.new }
     ensures places { IsReading input.new }
 {
@@ -229,7 +230,9 @@ fn mapped_word<P: Planned>(input: &mut Reader<P>, i: u32) -> u32
 fn all_came<P: Planned>(input: &mut Reader<P>) -> bool
     requires { (input.old.ring.paced ≡ true) × (input.old.part.asked ≡ false) }
     ensures kept { IsSameInput input.old input.new }
+    ensures looked { input.new.part.end_looks ≡ input.old.part.end_looks + 1 }
     ensures all { IsTrue result → input.new.part.released ≡ length input.old.ring.samples }
+    ensures found { IfSome input.new.part.found (λ e. e.count ≡ input.new.part.released → IsTrue result) }
 {
     match input.ended() {
         None => false,

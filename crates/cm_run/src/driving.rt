@@ -16,7 +16,7 @@ use cm_base::transfer::NoMemory;
 use cm_client::client::{ClientSide, GaveUp, Reads, Streamed, run_client};
 use cm_client::feeding::feed;
 use cm_client::streaming::BASE;
-use cm_client::workers::{TrueEnd, with_worker};
+use cm_client::workers::{TrueEnd, Worker, with_worker};
 use cm_expand::plan::Plan;
 use cm_expand::rule::rule_of;
 use cm_ring::open::open;
@@ -85,7 +85,7 @@ fn move_words<R: Threads + Wait + Sync, G: Gate + Sync>(
         { run_feed(rt, feeder) },
         move |feeding| -> Result<Streamed<&[u32], Vec<u32>>, GaveUp<&[u32]>>
             requires { IsFresh client.reader × (kept.items ≡ []) }
-            ensures { IfOk result (λ s. StreamsTo s.samples.items (λ words. words) client.entry.reader.ring reads.take s.end s.reader) }
+            ensures { IfOk result (λ s. StreamsTo s.samples.items (λ words. words) client.entry.reader.ring reads.take s.end s.reader) × IfOk result (λ _. feeding ≡ Worker.Started) }
         { run_client(rt, client, kept, feeding, reads, gate, who) },
     );
     let Streamed {

@@ -31,21 +31,22 @@ fn line_work<
 >(
     rt: &R,
     owners: &Owners,
-    mut seat: OwnerSeat,
+    seat: &mut OwnerSeat,
     job: &RunJob,
     place: usize,
     stream: &F,
 ) -> Result<D, NoMemory>
-    requires idle { IsIdle owners.now seat }
+    requires idle { IsIdle owners.now seat.old }
     requires places { HasPlaces job.now.board owners.now }
     requires place { place < length job.now.lines }
     requires can { (held : _) → F.pre stream.now place held }
-    ensures { (held : _) × F.post stream.now place held result }
+    ensures made { (held : _) × F.post stream.now place held result }
+    ensures idle { IsIdle owners.now seat.new }
 {
     let sub = sub_at(job, place);
-    let state = claim_waiting(rt, owners, &mut seat, sub);
+    let state = claim_waiting(rt, owners, seat, sub);
     let made = stream(place, &state);
-    owners.give_back(&mut seat, sub, state);
+    owners.give_back(seat, sub, state);
     made
 }
 
@@ -82,7 +83,10 @@ pub(crate) fn lines_up_to<
         move || -> Result<D, NoMemory>
             requires { IsIdle owners.now theirs × HasPlaces job.now.board owners.now × (last < length job.now.lines) × ((held : _) → F.pre stream.now last held) }
             ensures { (held : _) × F.post stream.entry.now last held result }
-        { line_work(rt, owners, theirs, job, last, stream) },
+        {
+            let mut seat = theirs;
+            line_work(rt, owners, &mut seat, job, last, stream)
+        },
         move || -> Result<Vec<D>, NoMemory>
             requires { IsSync R.row × IsSync F.row × IsSend D.row × IsIdle owners.now seat × HasPlaces job.now.board owners.now × (last ≤ length job.now.lines) × ((place : ℕ) → place < last → (held : _) → F.pre stream.now place held) }
             ensures { IfOk result (λ made. AreMade (λ place one. (held : _) × F.post stream.entry.now place held (Ok one)) last made.items) }

@@ -3,6 +3,7 @@ use Rattle.std.proofs.Common.{◌≡◌, inl, inr, ℕ, List, [], ◌∷◌, ◌
 use Rattle.std.specs.Prelude.{slice_get}
 use Rattle.std.specs.List.{All, AllByRecursion}
 use Rattle.std.proofs.Math.ListN.{length-map}
+use Rattle.std.proofs.lemmas.List.{map-append}
 use Rattle.std.proofs.lemmas.List.Elements.{All-from_recursion}
 use Rattle.std.proofs.lemmas.Option.{slice_get_within}
 use Rattle.cm_board.specs.Board.{BoardText}
@@ -54,6 +55,14 @@ module _ (board : BoardText) (signals : SignalsText) where
 
   pub counted : (streams : List Streaming) (lines : List RunLine) → Start_for streams lines → length streams ≡ length lines
   counted streams lines start = sym (length-map streams stream_start) ∙ (ap (length {A = Start}) start ∙ length-map lines (line_start board signals))
+
+-- two lists that are the same under two functions, with one more each
+pub both_more : {A B X : Type 0} (f : A → X) (g : B → X) (xs : List A) (x : A) (ys : List B) (y : B) → map f xs ≡ map g ys → f x ≡ g y → map f (xs ++ x ∷ []) ≡ map g (ys ++ y ∷ [])
+both_more {X = X} f g xs x ys y before one =
+    map-append f xs (x ∷ [])
+    ∙ (ap (λ (l : List X). l ++ f x ∷ []) before
+    ∙ (ap (λ (z : X). map g ys ++ z ∷ []) one
+    ∙ sym (map-append g ys (y ∷ []))))
 
 -- one stream more
 pub read_more : (streams more : List Streaming) (texts longer : List LinesText) (s : Streaming) (t : LinesText) → more ≡ streams ++ s ∷ [] → longer ≡ texts ++ t ∷ [] → AreRead streams texts → IsPacedOn s → HasLines t s → AreRead more longer

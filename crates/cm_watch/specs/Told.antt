@@ -1,13 +1,23 @@
 -- What the client of watched lines lets their boards know.
-use Rattle.std.specs.Prelude.{◌≡◌, ◌-◌, ℕ, Bool, List, min, slice_get, slice_index, slice_set, Some}
+use Rattle.std.specs.Prelude.{◌≡◌, ◌-◌, ℕ, Bool, true, false, List, min, slice_get, slice_index, slice_set, Some}
 use Rattle.cm_client.specs.Waiting.{AlarmText, HasHandedOn}
+use Rattle.cm_stream.specs.declared.merge.MergeStep.{MergeStep}
+use Rattle.cm_stream.specs.declared.merge.MergeStep.TheVariants as merged
 
--- how many released samples of each line its board was let know of, each board's alarm, and whether the client is
--- announced, so that its next wait is a sleep
+-- how many released samples of each line its board was let know of, each board's alarm, whether the client is
+-- announced, so that its next wait is a sleep, and whether no line had a scan at its last step
 pub record WatcherText : Type 0 where
   pub told : List ℕ
   pub boards : List AlarmText
   pub announced : Bool
+  pub idle : Bool
+
+-- no line had a scan at a step
+abbrev pub is_waiting : MergeStep → Bool
+is_waiting (merged.Given source scan) = false
+is_waiting merged.Ended = false
+is_waiting merged.Waiting = true
+is_waiting (merged.NoMemory source) = false
 
 -- an alarm that has woken its board for all samples
 abbrev pub rung : AlarmText → AlarmText

@@ -1,5 +1,5 @@
 // The threads of the watched lines.
-ghost use Rattle.std.specs.Prelude.{◌≡◌, ◌+◌, ◌<◌, ◌≤◌, ◌^◌, [], length, IfErr, IfOk, MatchOption};
+ghost use Rattle.std.specs.Prelude.{◌≡◌, ◌+◌, ◌<◌, ◌≤◌, ◌^◌, ◌++◌, [], ◌∷◌, length, IfErr, IfOk, MatchOption};
 ghost use Rattle.std.specs.List.{All};
 ghost use Rattle.std.specs.Thread.{IsSync};
 ghost use Rattle.cm_client.specs.Idle.{IsIdle};
@@ -28,21 +28,22 @@ use std::thread::Threads;
 fn board_thread<R: Wait + Sync, P: Planned, W: Words, G: Gate>(
     rt: &R,
     owners: &Owners,
-    mut seat: OwnerSeat,
+    seat: &mut OwnerSeat,
     board: LineBoard<P, W>,
     waiting: Relay<'_>,
     gate: &G,
     who: u32,
 ) -> Closed<P>
-    requires idle { IsIdle owners.now seat }
+    requires idle { IsIdle owners.now seat.old }
     requires place { board.sub < length owners.now.channels }
     ensures of { result.ring ≡ board.board }
     ensures end { EndsTruly result }
+    ensures idle { IsIdle owners.now seat.new }
 {
     let sub = board.sub();
-    let state = claim_waiting(rt, owners, &mut seat, sub);
-    let closed = board.put_while(rt, &seat, waiting, gate, who);
-    owners.give_back(&mut seat, sub, state);
+    let state = claim_waiting(rt, owners, seat, sub);
+    let closed = board.put_while(rt, seat, waiting, gate, who);
+    owners.give_back(seat, sub, state);
     closed
 }
 
@@ -55,6 +56,7 @@ fn last_side<P: Planned, W: Words>(
     ensures { MatchOption result (sides.old.items ≡ []) (λ side.
         (side.board.sub < length owners.now.channels)
         × All (λ side. side.board.sub < length owners.now.channels) sides.new.items
+        × (sides.old.items ≡ sides.new.items ++ side ∷ [])
         × (length sides.old.items ≡ length sides.new.items + 1)) }
 {
     // It is here for the contract alone: the owners have each side's place.
@@ -104,10 +106,13 @@ pub(crate) fn watch_sides<
         move || -> Closed<P>
             requires { IsIdle owners.now theirs × (board.sub < length owners.now.channels) }
             ensures { EndsTruly result }
-        { board_thread(rt, owners, theirs, board, waiting, gate, who) },
+        {
+            let mut seat = theirs;
+            board_thread(rt, owners, &mut seat, board, waiting, gate, who)
+        },
         move |putting| -> Result<Watched<'_, P>, GaveUp<'_, P>>
             requires { IsSync R.row × IsSync G.row × IsIdle owners.now seat × All (λ side. side.board.sub < length owners.now.channels) sides.items × (length sides.items < 2 ^ 32) × (length sides.items < length events.now.lines.items) × (length client.merge.streams ≤ length events.now.lines.items) × AreRead client.merge.streams client.texts.items }
-            ensures { IfOk result (λ w. HasWatched client.entry.merge.streams w.merge.streams client.entry.texts.items w.texts.items) × IfErr result (λ g. HaveAsked client.entry.merge.streams g.client.merge.streams) }
+            ensures { IfOk result (λ w. HasWatched client.entry.merge.streams w.merge.streams client.entry.texts.items w.texts.items) × IfErr result (λ g. HaveAsked client.entry.merge.streams g.client.merge.streams) × IfOk result (λ _. putting ≡ Worker.Started) }
         {
             munge_beside(
                 rt, alloc, owners, seat, sides, munger, putting, client, events, gate,
@@ -145,6 +150,7 @@ fn munge_beside<
     requires read { AreRead client.merge.streams client.texts.items }
     ensures watched { IfOk result (λ w. HasWatched client.entry.merge.streams w.merge.streams client.entry.texts.items w.texts.items) }
     ensures gave_up { IfErr result (λ g. HaveAsked client.entry.merge.streams g.client.merge.streams) }
+    ensures started { IfOk result (λ _. other ≡ Worker.Started) }
 {
     if other == Worker::Refused {
         return Err(give_up(client, events));
@@ -156,7 +162,7 @@ fn munge_beside<
         move || munge_waiting(rt, munger, waiting),
         move |munging| -> Result<Watched<'_, P>, GaveUp<'_, P>>
             requires { IsSync R.row × IsSync G.row × IsIdle owners.now seat × All (λ side. side.board.sub < length owners.now.channels) sides.items × (length sides.items < 2 ^ 32) × (length sides.items ≤ length events.now.lines.items) × (length client.merge.streams ≤ length events.now.lines.items) × AreRead client.merge.streams client.texts.items }
-            ensures { IfOk result (λ w. HasWatched client.entry.merge.streams w.merge.streams client.entry.texts.items w.texts.items) × IfErr result (λ g. HaveAsked client.entry.merge.streams g.client.merge.streams) }
+            ensures { IfOk result (λ w. HasWatched client.entry.merge.streams w.merge.streams client.entry.texts.items w.texts.items) × IfErr result (λ g. HaveAsked client.entry.merge.streams g.client.merge.streams) × IfOk result (λ _. munging ≡ Worker.Started) }
         {
             if munging == Worker::Refused {
                 return Err(give_up(client, events));

@@ -55,6 +55,7 @@ fn put_more<P: Planned, G: Gate>(
     ensures read { IfOk result (λ _. AreRead merge.new.streams texts.new) }
     ensures same { IfOk result (λ _. AreSame merge.old.streams merge.new.streams texts.old texts.new) }
     ensures kept { map fixed merge.new.streams ≡ map fixed merge.old.streams }
+    ensures idle { watcher.new.idle ≡ watcher.old.idle }
 {
     room.clear();
     let scans = merge.append_scans(source, room, PIECE)?;
@@ -88,7 +89,7 @@ fn read_all<R: Wait + Sync, P: Planned, G: Gate>(
     let mut room = Vec::new(alloc);
     let mut watcher = Watcher::new(alloc, events, merge.all_released(alloc)?)?;
     for _ in rt.forever() {
-        match merge.step() {
+        match watcher.step(merge) {
             MergeStep::Given(source, scan) => {
                 watcher.release(source, merge.released(source));
                 put_lines(texts, source, &scan.words)?;
@@ -135,6 +136,6 @@ pub(crate) fn give_up<'a, P: Planned>(
     ensures { HaveAsked client.entry.merge.streams result.client.merge.streams }
 {
     client.merge.stop_all();
-    events.wake_boards();
+    events.wake_boards(&client.merge);
     GaveUp { client }
 }

@@ -1,9 +1,13 @@
 // What the workers of watched lines wait for.
 ghost use Rattle.std.specs.Prelude.{◌≡◌, ◌<◌, false, length, map, slice_get, IfOk, IfSome};
+ghost use Rattle.cm_watch.specs.Watched.{AreStopped};
 ghost use Rattle.cm_watch.specs.Woken.{alarm_of, woken_after};
 
+use cm_base::prover::shows;
 use cm_base::transfer::NoMemory;
 use cm_client::waiting::{Alarm, Relay, Sleeper};
+use cm_sample::planned::Planned;
+use cm_stream::merge::Merge;
 use crossbeam_utils::sync::EventCount;
 use std::alloc::Global;
 
@@ -88,8 +92,11 @@ impl WatchEvents {
         Ok(boards)
     }
 
-    /// Wakes the boards of all lines, which then see a stop that was asked for.
-    pub fn wake_boards(&self) {
+    /// Wakes the boards of all lines, each of whose rings was asked for the stop, which they then see.
+    pub fn wake_boards<P: Planned>(&self, merge: &Merge<P>)
+        requires { AreStopped merge.now.streams }
+    {
+        shows(merge);
         for events in self.lines.iter() {
             events.released.notify_all();
         }

@@ -1,5 +1,5 @@
 // The rings of watched lines.
-ghost use Rattle.std.specs.Prelude.{◌≡◌, ◌<◌, length, IfOk};
+ghost use Rattle.std.specs.Prelude.{◌≡◌, ◌<◌, length, map, IfOk};
 ghost use Rattle.std.specs.List.{All};
 ghost use Rattle.cm_client.specs.Progress.{Accepts};
 ghost use Rattle.cm_text.specs.SampleText.{CanReport, no_lines};
@@ -8,6 +8,7 @@ ghost use Rattle.cm_job.specs.RunLines.{CanRun};
 ghost use Rattle.cm_job.specs.WatchLines.{IsWatched};
 ghost use Rattle.cm_watch.specs.Opened.{AreFor, line_start, stream_start};
 ghost use Rattle.cm_watch.specs.Watched.{AreRead};
+ghost use Rattle.cm_watch.specs.Woken.{every_of};
 
 use crate::events::LineEvents;
 use crate::side::{BoardSide, LineBoard};
@@ -49,6 +50,7 @@ pub struct Opened<'a> {
 // What the workers of a line wait for.
 fn events_of(board: &BoardDesc, signals: &Signals, line: &RunLine) -> LineEvents
     requires { CanRun board.now signals.now line.now }
+    ensures { result.every ≡ every_of board.now signals.now line.now }
 {
     LineEvents::new(plan_of(board, signals, line).sub().buffer)
 }
@@ -63,6 +65,8 @@ fn open_line<'a>(
     requires run { CanRun board.now signals.now line.now }
     requires watch { IsWatched board.now line.now }
     ensures side { IfOk result (λ o. o.side.board.sub < length board.entry.now.subs) }
+    ensures munger { IfOk result (λ o. o.side.munger.table ≡ o.stream.reader.table) }
+    ensures events { IfOk result (λ o. o.events.every ≡ every_of board.entry.now signals.entry.now line.entry.now) }
     ensures stream { IfOk result (λ o. stream_start o.stream ≡ line_start board.entry.now signals.entry.now line.entry.now) }
     ensures text { IfOk result (λ o. o.text ≡ no_lines (line_format board.entry.now signals.entry.now line.entry.now)) }
     ensures report { IfOk result (λ o. Accepts (CanReport o.text) (line_start board.entry.now signals.entry.now line.entry.now).ring) }
@@ -101,7 +105,9 @@ pub(crate) fn open_lines<'a>(
     requires watched { All (IsWatched board.now) lines.now }
     ensures sides { IfOk result (λ o. All (λ side. side.board.sub < length board.entry.now.subs) o.sides.items) }
     ensures count { IfOk result (λ o. length o.sides.items ≡ length lines.entry.now) }
+    ensures mungers { IfOk result (λ o. map (λ side. side.munger.table) o.sides.items ≡ map (λ s. s.reader.table) o.streams.items) }
     ensures events { IfOk result (λ o. length o.events.items ≡ length lines.entry.now) }
+    ensures every { IfOk result (λ o. map (λ events. events.every) o.events.items ≡ map (every_of board.entry.now signals.entry.now) lines.entry.now) }
     ensures start { IfOk result (λ o. AreFor board.entry.now signals.entry.now lines.entry.now o.streams.items o.texts.items) }
     ensures read { IfOk result (λ o. AreRead o.streams.items o.texts.items) }
 {

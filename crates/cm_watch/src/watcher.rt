@@ -1,7 +1,7 @@
 // How the client of watched lines waits.
 ghost use Rattle.std.specs.Prelude.{◌≡◌, ◌<◌, ◌≤◌, false, length, map, not, slice_set, IfOk};
-ghost use Rattle.cm_stream.specs.Merging.{released_of};
-ghost use Rattle.cm_watch.specs.Told.{rung, untold, HasRung};
+ghost use Rattle.cm_stream.specs.Merging.{first_after, released_of, HasMerged};
+ghost use Rattle.cm_watch.specs.Told.{is_waiting, rung, untold, HasRung};
 ghost use Rattle.cm_watch.specs.Woken.{alarm_of};
 
 use crate::events::WatchEvents;
@@ -9,19 +9,20 @@ use cm_base::prover::shows;
 use cm_base::transfer::NoMemory;
 use cm_client::waiting::{Alarm, Sleeper};
 use cm_sample::planned::Planned;
-use cm_stream::merge::Merge;
+use cm_stream::merge::{Merge, MergeStep};
 use std::alloc::Global;
 use std::marker::Model;
 use std::sync::Wait;
 
 /// A client that sleeps until samples of any line have come, and lets the boards of lines know whose cells
 /// it has made free. Contracts see of it how many released samples of each line its board was let know of,
-/// the boards' alarms, and whether it is announced.
+/// the boards' alarms, whether it is announced, and whether no line had a scan at its last step.
 #[derive(Drop)]
 pub struct Watcher<'a> {
     sleeper: Sleeper<'a>,
     boards: Vec<Alarm<'a>>,
     told: Vec<u64>,
+    idle: bool,
 }
 
 impl<'a> Model for Watcher<'a> {
@@ -30,7 +31,7 @@ impl<'a> Model for Watcher<'a> {
 
     ghost Value = { WatcherText };
 
-    ghost view = { λ w. record { told = w.told.items; boards = w.boards.items; announced = w.sleeper } };
+    ghost view = { λ w. record { told = w.told.items; boards = w.boards.items; announced = w.sleeper; idle = w.idle } };
 
     ghost invariant = { λ w. length w.told.items ≤ length w.boards.items };
 }
@@ -46,12 +47,29 @@ impl<'a> Watcher<'a> {
         ensures told { IfOk result (λ w. w.told ≡ released.items) }
         ensures boards { IfOk result (λ w. w.boards ≡ map alarm_of events.now.lines.items) }
         ensures awake { IfOk result (λ w. w.announced ≡ false) }
+        ensures idle { IfOk result (λ w. w.idle ≡ false) }
     {
         Ok(Watcher {
             sleeper: events.client(),
             boards: events.boards(alloc)?,
             told: released,
+            idle: false,
         })
+    }
+
+    /// The next step of the lines' streams. Where no line has a scan, the client has to wait before the one
+    /// after it.
+    pub fn step<P: Planned>(&mut self, merge: &mut Merge<P>) -> MergeStep
+        requires waited { self.old.idle ≡ false }
+        ensures merged { HasMerged result (first_after (length merge.old.streams) merge.old.last) merge.old.streams merge.new.streams }
+        ensures idle { self.new.idle ≡ is_waiting result }
+        ensures told { self.new.told ≡ self.old.told }
+        ensures boards { self.new.boards ≡ self.old.boards }
+        ensures announced { self.new.announced ≡ self.old.announced }
+    {
+        let step = merge.step();
+        self.idle = is_waiting(&step);
+        step
     }
 
     /// So many samples of a line are released: its board's alarm has those that it had not.
@@ -59,6 +77,7 @@ impl<'a> Watcher<'a> {
         requires { line < length self.old.told }
         ensures told { self.new.told ≡ slice_set self.old.told line released }
         ensures rung { HasRung line (untold self.old.told line released) self.old self.new }
+        ensures idle { self.new.idle ≡ self.old.idle }
     {
         self.sleeper.go_on();
         let line = line as usize;
@@ -72,11 +91,24 @@ impl<'a> Watcher<'a> {
     /// for it, and waits.
     pub fn wait<R: Wait, P: Planned>(&mut self, rt: &R, merge: &Merge<P>)
         requires told { self.old.told ≡ map released_of merge.now.streams }
-        ensures { self.new ≡ record self.old { boards = map rung self.old.boards; announced = not self.old.announced } }
+        ensures { self.new ≡ record self.old { boards = map rung self.old.boards; announced = not self.old.announced; idle = false } }
     {
         shows(merge);
+        self.idle = false;
         wake_all(&mut self.boards);
         self.sleeper.wait(rt);
+    }
+}
+
+// Whether no line had a scan at a step.
+fn is_waiting(step: &MergeStep) -> bool
+    ensures { result ≡ is_waiting step.now }
+{
+    match step {
+        MergeStep::Given(..) => false,
+        MergeStep::Ended => false,
+        MergeStep::Waiting => true,
+        MergeStep::NoMemory(_) => false,
     }
 }
 

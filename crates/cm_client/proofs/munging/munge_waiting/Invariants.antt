@@ -1,4 +1,4 @@
-use Rattle.std.proofs.Common.{◌≡◌}
+use Rattle.std.proofs.Common.{◌≡◌, false}
 use Rattle.cm_client.specs.Handing.{in_64_bits}
 use Rattle.cm_client.proofs.munging.munge_waiting.Given as goal
 
@@ -7,4 +7,5 @@ invariant-loop g l = record {
   table : l.munger.table ≡ l.initial.munger.table;
   ring : l.munger.ring ≡ l.initial.munger.ring;
   handed : l.handover.handed ≡ in_64_bits l.munger.part.munged;
+  idle : l.handover.idle ≡ false;
 }

@@ -1,4 +1,4 @@
-use Rattle.std.proofs.Common.{◌≡◌, ◌≤◌, MatchOption}
+use Rattle.std.proofs.Common.{◌≡◌, ◌≤◌, false, MatchOption}
 use Rattle.std.specs.Bool.{⊤}
 use Rattle.cm_client.specs.Progress.{HasAll, IsSameRing}
 use Rattle.cm_client.specs.Handing.{in_64_bits}
@@ -12,4 +12,5 @@ invariant-loop g l = record {
   asked : l.reader.part.asked ≡ l.initial.reader.part.asked;
   of : IsSameRing l.initial.reader l.reader;
   handed : l.handover.handed ≡ in_64_bits l.reader.part.released;
+  idle : l.handover.idle ≡ false;
 }

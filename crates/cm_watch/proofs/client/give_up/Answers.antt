@@ -6,3 +6,6 @@ invariant_of-result g c = record { asked = all_asked c.stop_all.new.self _ _ c.s
 
 pub returns : goal.returns
 returns g c = each_asked c.stop_all.new.self _ _ c.stop_all.ensures
+
+pub wake_boards-requires : goal.wake_boards-requires
+wake_boards-requires g c = all_asked c.stop_all.new.self _ _ c.stop_all.ensures

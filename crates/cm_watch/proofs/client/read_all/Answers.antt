@@ -12,7 +12,7 @@ pub put_more-requires-clause-source : goal.put_more-requires-clause-source
 put_more-requires-clause-source g c = has_stream _ _ _ _ _ c.in-Given.ensures.merged
 
 pub put_more-requires-clause-told : goal.put_more-requires-clause-told
-put_more-requires-clause-told g c = told_scan _ _ _ _ _ _ c.loop.invariant.told c.released.ensures c.release.ensures.told _ _ c.in-Given.ensures.merged
+put_more-requires-clause-told g c = told_scan _ _ _ _ _ _ (c.step.ensures.told ∙ c.loop.invariant.told) c.released.ensures c.release.ensures.told _ _ c.in-Given.ensures.merged
 
 pub put_more-requires-clause-read : goal.put_more-requires-clause-read
 put_more-requires-clause-read g c = scan_read _ _ _ _ _ _ _ c.loop.invariant.read c.in-Given.ensures.merged (c.deref.ensures.value ∙ ap (λ (s : ScanText). s.words) c.scan.view_is) _ c.in_ok-put_lines-in-Given.ensures
@@ -24,6 +24,7 @@ loop-preserved-in-Given g c =
     record {
       read = more.read;
       told = more.told;
+      idle = more.idle ∙ (c.release.ensures.idle ∙ c.in-Given.ensures.idle);
       same = same_on _ _ _ _ _ _ c.loop.invariant.same (same_on _ _ _ _ _ _ one more.same);
     }
 
@@ -35,6 +36,7 @@ loop-preserved g c =
     let step = c.in-Waiting.ensures.merged in
     record {
       read = still_read _ _ _ c.loop.invariant.read step.fixed step.words;
-      told = ap (λ (w : WatcherText). w.told) c.wait.ensures ∙ c.loop.invariant.told ∙ sym step.released;
+      told = ap (λ (w : WatcherText). w.told) c.wait.ensures ∙ (c.step.ensures.told ∙ c.loop.invariant.told) ∙ sym step.released;
+      idle = ap (λ (w : WatcherText). w.idle) c.wait.ensures;
       same = same_on _ _ _ _ _ _ c.loop.invariant.same record { streams = step.fixed; formats = refl };
     }

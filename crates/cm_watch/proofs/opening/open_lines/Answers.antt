@@ -4,7 +4,8 @@ use Rattle.cm_block.specs.Whole.{line_format}
 use Rattle.cm_watch.specs.Opened.{line_start, stream_start}
 use Rattle.cm_watch.specs.Watched.{text_format}
 use Rattle.cm_base.proofs.Elements.{all_more, same_more}
-use Rattle.cm_watch.proofs.Starts.{paced_one, read_more, starts_with}
+use Rattle.cm_watch.specs.Woken.{every_of}
+use Rattle.cm_watch.proofs.Starts.{both_more, paced_one, read_more, starts_with}
 use Rattle.cm_watch.proofs.opening.open_lines.Goals as goal
 
 pub loop-i-preserved : goal.loop-i-preserved
@@ -18,7 +19,10 @@ loop-i-preserved c =
     record {
       sides = subst (All (λ side. side.board.sub < length board.subs)) (sym c.in_ok-push.ensures.items) (all_more (λ side. side.board.sub < length board.subs) _ _ have.sides is.side);
       count = (let e = c.in_ok-push.ensures.len in let n = have.count in omega arith);
+      mungers = ap (map _) c.in_ok-push.ensures.items ∙ (both_more _ _ _ _ _ _ have.mungers is.munger ∙ sym (ap (map _) c.in_ok-push-2.ensures.items));
       events = (let e = c.in_ok-push-4.ensures.len in let n = have.events in omega arith);
+      every = ap (map _) c.in_ok-push-4.ensures.items
+          ∙ same_more _ (every_of board signals) opened.events.items _ lines c.loop-i.i c.index-lines-i.result c.loop-i-test.true have.every (is.events ∙ ap (every_of board signals) c.index-lines-i.is);
       streams = ap (map stream_start) c.in_ok-push-2.ensures.items
           ∙ same_more stream_start (line_start board signals) opened.streams.items _ lines c.loop-i.i c.index-lines-i.result c.loop-i-test.true have.streams (is.stream ∙ ap (line_start board signals) c.index-lines-i.is);
       formats = ap (map text_format) c.in_ok-push-3.ensures.items
