@@ -1,5 +1,6 @@
 -- What contracts see of how a worker waits.
-use Rattle.std.specs.Prelude.{◌≡◌, ℕ, ◌+◌, ◌<◌, ◌≤◌, Bool, false, not}
+use Rattle.std.specs.Prelude.{◌≡◌, ℕ, ◌+◌, ◌-◌, ◌<◌, ◌≤◌, min, Bool, false, not}
+use Rattle.cm_ring.specs.Roles.{Munging}
 
 -- after how many samples a worker is woken, and how many came since it was woken last
 pub record AlarmText : Type 0 where
@@ -20,3 +21,9 @@ pub record HasWaited (before : Bool) (old : AlarmText) (announced : Bool) (new :
 -- the next worker was woken for all
 abbrev pub HasEnded : AlarmText → AlarmText → Type 0
 HasEnded old new = new ≡ record old { count = 0 }
+
+-- a munger looked for samples once more, and munged those that were there, 256 at most
+pub record HasMungedPiece (old new : Munging) : Type 0 where
+  pub of : (new.table ≡ old.table) × (new.ring ≡ old.ring)
+  pub looks : new.part.written_looks ≡ old.part.written_looks + 1
+  pub munged : new.part.munged ≡ old.part.munged + min 256 (new.part.avail - old.part.munged)

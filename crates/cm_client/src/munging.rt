@@ -61,7 +61,9 @@ pub struct OwnMunger<P: Planned> {
 
 impl<P: Planned> OwnMunger<P> {
     /// Of the munger of the client's ring.
-    pub fn new(munger: Munger<P>) -> OwnMunger<P> {
+    pub fn new(munger: Munger<P>) -> OwnMunger<P>
+        ensures { result.munger ≡ munger }
+    {
         OwnMunger {
             munger,
             backoff: Backoff::new(),
@@ -70,9 +72,11 @@ impl<P: Planned> OwnMunger<P> {
 }
 
 impl<P: Planned> Waiting for OwnMunger<P> {
+    ghost use Rattle.cm_client.specs.Waiting.{HasMungedPiece};
+
     ghost has_handed_on = { λ _ _ _. Unit {0} };
 
-    ghost has_waited = { λ _ _. Unit {0} };
+    ghost has_waited = { λ old new. HasMungedPiece old.munger new.munger };
 
     ghost has_ended = { λ _ _. Unit {0} };
 
