@@ -22,7 +22,8 @@ pub record HasWaited (before : Bool) (old : AlarmText) (announced : Bool) (new :
 abbrev pub HasEnded : AlarmText → AlarmText → Type 0
 HasEnded old new = new ≡ record old { count = 0 }
 
--- a munger has looked once more at what is published, and munged all of it, or a piece
-pub record HasMungedOn (old new : Munging) : Type 0 where
-  pub looked : new.part.written_looks ≡ old.part.written_looks + 1
+-- a munger looked for samples once more, and munged those that were there, 256 at most
+pub record HasMungedPiece (old new : Munging) : Type 0 where
+  pub of : (new.table ≡ old.table) × (new.ring ≡ old.ring)
+  pub looks : new.part.written_looks ≡ old.part.written_looks + 1
   pub munged : new.part.munged ≡ old.part.munged + min 256 (new.part.avail - old.part.munged)

@@ -84,11 +84,11 @@ impl<P: Planned> OwnMunger<P> {
 }
 
 impl<P: Planned> Waiting for OwnMunger<P> {
-    ghost use Rattle.cm_client.specs.Waiting.{HasMungedOn};
+    ghost use Rattle.cm_client.specs.Waiting.{HasMungedPiece};
 
     ghost has_handed_on = { λ _ _ _. Unit {0} };
 
-    ghost has_waited = { λ old new. HasMungedOn old.munger new.munger };
+    ghost has_waited = { λ old new. HasMungedPiece old.munger new.munger };
 
     ghost has_ended = { λ _ _. Unit {0} };
 

@@ -1,6 +1,11 @@
 -- The words that are moved, and what is compared.
-use Rattle.std.specs.Prelude.{ℕ, zero, suc, ◌+◌, ◌*◌, ◌/◌, ◌%◌, ◌^◌, bit_and, nat_eq, List, [], ◌∷◌, ◌++◌}
+use Rattle.std.specs.Prelude.{◌≡◌, ◌⊎◌, ℕ, zero, suc, ◌+◌, ◌-◌, ◌*◌, ◌/◌, ◌%◌, ◌^◌, bit_and, nat_eq, List, [], ◌∷◌, ◌++◌, take, drop}
 use Rattle.std.specs.Prelude.{if◌then◌else◌}
+use Rattle.cm_load.specs.declared.words.Stretch.{Stretch}
+
+-- a greatest code of the words that are moved
+abbrev pub IsMost : ℕ → Type 0
+IsMost maxdata = (maxdata ≡ 255) ⊎ (maxdata ≡ 65535)
 
 -- the word that is put at a place
 abbrev pub place_word : ℕ → ℕ → ℕ
@@ -19,3 +24,17 @@ place_code maxdata place = bit_and ((place_word maxdata place + (maxdata / 2 + 1
 abbrev pub differing : (ℕ → ℕ) → (ℕ → ℕ) → ℕ → ℕ
 differing f g zero = 0
 differing f g (suc n) = differing f g n + (if nat_eq (f n) (g n) then 0 else 1)
+
+-- the halves of consecutive places
+abbrev pub front_half : Stretch → Stretch
+front_half places = record { first = places.first; count = places.count / 2 }
+
+abbrev pub back_half : Stretch → Stretch
+back_half places = record {
+  first = (places.first + places.count / 2) % 2 ^ 32;
+  count = places.count - places.count / 2;
+}
+
+-- those of the words that are given at places
+abbrev pub words_at : Stretch → List ℕ → List ℕ
+words_at places words = take places.count (drop places.first words)

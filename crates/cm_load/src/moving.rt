@@ -1,10 +1,10 @@
 // Words through rings, with a thread for each end of a ring.
-ghost use Rattle.std.specs.Prelude.{◌≡◌, ◌<◌, ◌≤◌, ◌∷◌, [], length, take, drop, true, false, IfOk};
+ghost use Rattle.std.specs.Prelude.{◌≡◌, ◌<◌, ◌≤◌, length, true, IfOk};
 ghost use Rattle.cm_ring_core.specs.Lawful.{first_writer};
 ghost use Rattle.cm_client.specs.Streamed.{EndsTruly};
-ghost use Rattle.cm_load.specs.Coming.{IsFresh, HasCome};
-ghost use Rattle.cm_board.specs.declared.munge.Munge.TheVariants.{Offset};
-ghost use Rattle.cm_sample.specs.Rule.{IsRule, rule_text};
+ghost use Rattle.cm_load.specs.Coming.{HasCome, IsFresh, came_at, came_by_four, came_by_two, offset_rule};
+ghost use Rattle.cm_load.specs.Words.{words_at};
+ghost use Rattle.cm_sample.specs.Rule.{IsRule};
 
 use crate::reading::{Came, compare_all};
 use crate::words::Stretch;
@@ -26,7 +26,7 @@ use std::thread::{Threads, join};
 
 // The munge of all words: by an offset.
 fn offset_rule(alloc: Global, maxdata: u32) -> Result<MungeRule, NoMemory>
-    ensures { IfOk result (λ r. IsRule r × (r ≡ rule_text (record { kind = Offset; maxdata = maxdata } ∷ []) false false)) }
+    ensures { IfOk result (λ r. IsRule r × (r ≡ offset_rule maxdata)) }
 {
     let item = MungeItem {
         kind: Munge::Offset,
@@ -41,7 +41,7 @@ fn offset_rule(alloc: Global, maxdata: u32) -> Result<MungeRule, NoMemory>
 
 // Those of the words that are given at places.
 fn words_of<'a>(words: &'a [u32], places: Stretch) -> &'a [u32]
-    ensures words { result.now ≡ take places.count (drop places.first words.now) }
+    ensures words { result.now ≡ words_at places words.now }
     ensures few { length result.now ≤ 4294967295 }
 {
     let first = words.len().min(places.first as usize);
@@ -61,7 +61,7 @@ pub fn move_words<R: Threads + Wait + Sync>(
     maxdata: u32,
 ) -> Result<Came, NoMemory>
     requires size { (0 < size) × (size ≤ 1048576) }
-    ensures { IfOk result (λ c. (c.done ≡ true) × (c.count ≡ length (take places.count (drop places.first words.now)))) }
+    ensures { IfOk result (λ c. c ≡ came_at maxdata places words.now) }
 {
     let rule = offset_rule(alloc, maxdata)?;
     let moved = words_of(words, places);
@@ -81,7 +81,7 @@ fn stream<R: Threads + Wait + Sync, P: Planned + Send + Sync>(
 ) -> Result<Came, GaveUp<P>>
     requires writer { (writer.part ≡ first_writer) × (writer.ring.samples ≡ words.now) × (writer.ring.paced ≡ true) }
     requires reader { IsFresh reader }
-    ensures { IfOk result (λ c. HasCome reader.ring c) }
+    ensures { IfOk result (λ c. HasCome reader.ring first maxdata c) }
 {
     let (_, came) = with_worker(
         rt,
@@ -92,7 +92,7 @@ fn stream<R: Threads + Wait + Sync, P: Planned + Send + Sync>(
         { feed(rt, writer, words) },
         move |feeding| -> Result<Came, GaveUp<P>>
             requires { IsFresh reader }
-            ensures { IfOk result (λ c. HasCome reader.ring c) }
+            ensures { IfOk result (λ c. HasCome reader.ring first maxdata c) }
         { read_beside(rt, munger, reader, feeding, first, maxdata) },
     );
     came
@@ -108,7 +108,7 @@ fn read_beside<R: Threads + Wait + Sync, P: Planned + Send + Sync>(
     maxdata: u32,
 ) -> Result<Came, GaveUp<P>>
     requires { IsFresh reader }
-    ensures { IfOk result (λ c. HasCome reader.ring c) }
+    ensures { IfOk result (λ c. HasCome reader.ring first maxdata c) }
 {
     if other == Worker::Refused {
         return Err(give_up(reader));
@@ -119,7 +119,7 @@ fn read_beside<R: Threads + Wait + Sync, P: Planned + Send + Sync>(
         move || munge_work(rt, munger),
         move |munging| -> Result<Came, GaveUp<P>>
             requires { IsFresh reader }
-            ensures { IfOk result (λ c. HasCome reader.ring c) }
+            ensures { IfOk result (λ c. HasCome reader.ring first maxdata c) }
         {
             if munging == Worker::Refused {
                 return Err(give_up(reader));
@@ -143,16 +143,16 @@ fn move_by_two<R: Threads + Wait + Sync>(
     places: Stretch,
     maxdata: u32,
 ) -> Result<Came, NoMemory>
-    ensures { IfOk result (λ c. c.done ≡ true) }
+    ensures { IfOk result (λ c. c ≡ came_by_two maxdata places words.now) }
 {
     let (front, back) = places.halves();
     let (one, other) = join(
         rt,
         move || -> Result<Came, NoMemory>
-            ensures { IfOk result (λ c. c.done ≡ true) }
+            ensures { IfOk result (λ c. c ≡ came_at maxdata front words.entry.now) }
         { move_words(rt, alloc, words, front, SIZE, BASE, maxdata) },
         move || -> Result<Came, NoMemory>
-            ensures { IfOk result (λ c. c.done ≡ true) }
+            ensures { IfOk result (λ c. c ≡ came_at maxdata back words.entry.now) }
         { move_words(rt, alloc, words, back, SIZE, BASE, maxdata) },
     );
     Ok(one?.and(other?))
@@ -166,16 +166,16 @@ pub fn move_by_four<R: Threads + Wait + Sync>(
     places: Stretch,
     maxdata: u32,
 ) -> Result<Came, NoMemory>
-    ensures { IfOk result (λ c. c.done ≡ true) }
+    ensures { IfOk result (λ c. c ≡ came_by_four maxdata places words.now) }
 {
     let (front, back) = places.halves();
     let (one, other) = join(
         rt,
         move || -> Result<Came, NoMemory>
-            ensures { IfOk result (λ c. c.done ≡ true) }
+            ensures { IfOk result (λ c. c ≡ came_by_two maxdata front words.entry.now) }
         { move_by_two(rt, alloc, words, front, maxdata) },
         move || -> Result<Came, NoMemory>
-            ensures { IfOk result (λ c. c.done ≡ true) }
+            ensures { IfOk result (λ c. c ≡ came_by_two maxdata back words.entry.now) }
         { move_by_two(rt, alloc, words, back, maxdata) },
     );
     Ok(one?.and(other?))

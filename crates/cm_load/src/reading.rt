@@ -1,6 +1,6 @@
 // A reader that compares each sample with what it must be.
 ghost use Rattle.std.specs.Prelude.{◌≡◌, ◌+◌, ◌-◌, ◌%◌, ◌^◌, ◌≤◌, min, IsTrue, ◌↔◌};
-ghost use Rattle.cm_load.specs.Coming.{IsFresh, HasCome};
+ghost use Rattle.cm_load.specs.Coming.{HasCome, IsFresh, IsWhole, both};
 ghost use Rattle.cm_load.specs.Words.{differing, place_code};
 ghost use Rattle.cm_ring_core.specs.Lawful.{munged_at};
 
@@ -31,15 +31,20 @@ pub struct Came {
 impl Came {
     /// What came out of this ring and another one.
     pub fn and(self, other: Came) -> Came
-        ensures count { result.count ≡ (self.count + other.count) % 2 ^ 32 }
-        ensures wrong { result.wrong ≡ min (self.wrong + other.wrong) (2 ^ 32 - 1) }
-        ensures done { IsTrue result.done ↔ (IsTrue self.done × IsTrue other.done) }
+        ensures { result ≡ both self other }
     {
         Came {
             count: self.count.wrapping_add(other.count),
             wrong: self.wrong.saturating_add(other.wrong),
             done: self.done && other.done,
         }
+    }
+
+    /// Whether all of so many samples came, each as it must be.
+    pub fn is_whole(self, samples: u32) -> bool
+        ensures { IsTrue result ↔ IsWhole self samples }
+    {
+        self.count == samples && self.wrong == 0 && self.done
     }
 }
 
@@ -84,7 +89,7 @@ pub fn compare_all<R: Wait + Sync, P: Planned>(
     maxdata: u32,
 ) -> Came
     requires { IsFresh reader }
-    ensures { HasCome reader.ring result }
+    ensures { HasCome reader.ring first maxdata result }
 {
     let backoff = Backoff::new();
     let mut came = Came {

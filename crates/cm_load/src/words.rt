@@ -1,6 +1,6 @@
 // The words that are moved, and the codes that they must be when they come.
-ghost use Rattle.std.specs.Prelude.{◌≡◌, ◌+◌, ◌-◌, ◌/◌, ◌%◌, ◌^◌, IfOk};
-ghost use Rattle.cm_load.specs.Words.{place_word, place_words, place_code};
+ghost use Rattle.std.specs.Prelude.{◌≡◌, IfOk};
+ghost use Rattle.cm_load.specs.Words.{back_half, front_half, place_code, place_word, place_words};
 
 use std::alloc::{AllocError, Global};
 
@@ -41,8 +41,8 @@ pub struct Stretch {
 impl Stretch {
     /// The two halves.
     pub fn halves(self) -> (Stretch, Stretch)
-        ensures front { result.0 ≡ record { first = self.first; count = self.count / 2 } }
-        ensures back { result.1 ≡ record { first = (self.first + self.count / 2) % 2 ^ 32; count = self.count - self.count / 2 } }
+        ensures front { result.0 ≡ front_half self }
+        ensures back { result.1 ≡ back_half self }
     {
         let half = self.count / 2;
         let front = Stretch {

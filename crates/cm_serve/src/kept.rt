@@ -8,7 +8,8 @@ use std::marker::Model;
 use std::sync::Wait;
 
 /// Accepted commands of a session whose lines come one after another. Each stays where it is until
-/// the session is over, since a running command looks at it.
+/// the session is over, since a running command looks at it. Contracts see what a line without a
+/// command has.
 #[derive(Drop)]
 pub struct Kept {
     none: Option<BoxedAccepted>,
@@ -16,16 +17,21 @@ pub struct Kept {
 }
 
 impl Model for Kept {
-    ghost Value = { Unit };
+    ghost use Rattle.std.specs.Prelude.{◌≡◌, Option, None};
+    ghost use Rattle.cm_cmd.specs.Command.{CmdText};
 
-    ghost view = { λ k. tt };
+    ghost Value = { Option CmdText };
+
+    ghost view = { λ k. k.none };
 
     ghost invariant = { λ k. k.none ≡ None };
 }
 
 impl Kept {
     /// None is kept yet.
-    pub fn new(alloc: Global) -> Result<Kept, AllocError> {
+    pub fn new(alloc: Global) -> Result<Kept, AllocError>
+        ensures { IfOk result (λ kept. kept ≡ None) }
+    {
         Ok(Kept {
             none: None,
             commands: boxcar::Vec::new(alloc)?,
