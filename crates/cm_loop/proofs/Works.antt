@@ -1,12 +1,8 @@
 -- The filter over the first samples of a list.
-use Rattle.std.proofs.Common.{◌≡◌, ℕ, ◌+◌, ◌%◌, ◌<◌, ◌≤◌, Bool, true, cond, List, [], ◌∷◌, ◌++◌, length, take, get_or, sym, ap, ◌∙◌, subst, Option, Some, None, arith}
+use Rattle.std.proofs.Common.{◌≡◌, ℕ, ◌+◌, ◌%◌, ◌<◌, ◌≤◌, List, [], ◌∷◌, ◌++◌, length, take, get_or, sym, ap, ◌∙◌, subst, Option, Some, None, arith}
 use Rattle.std.specs.Prelude.{slice_get, slice_index}
 use Rattle.std.proofs.lemmas.List.{take_more, length-take-le}
-use Rattle.cm_sample.proofs.Mapped.{map_from-same}
-use Rattle.cm_sample.specs.Rule.{item_word_if, munged_word}
-use Rattle.cm_ring_core.specs.declared.view.RingConstants.{RingConstants}
 use Rattle.cm_ring.specs.Roles.{Writing}
-use Rattle.cm_ring.specs.Samples.{munged_plan}
 use Rattle.cm_loop.specs.declared.rule.LoopItem.{LoopItem}
 use Rattle.cm_loop.specs.Filter.{FilterText, AreWithin, filtered, all_filtered}
 use Rattle.cm_loop.specs.State.{StateText, StandsFor, IsNext}

@@ -3,14 +3,14 @@ use Rattle.std.proofs.Common.{◌≡◌, ℕ, ◌+◌, ◌-◌, ◌≤◌, Bool,
 use Rattle.std.specs.Prelude.{max, min, not, ◌&&◌, if◌then◌else◌}
 use Rattle.std.proofs.lemmas.Bool.{eq-eqb}
 use Rattle.std.proofs.lemmas.List.Elements.{All-nil, All-push}
-use Rattle.cm_board.specs.Board.{IsRange, IsSoundBoard, IsSoundChan, IsSoundSub, SubText, IsBlock, each_nanosecond, has_text, is_bits_ok, maxdata_of, munge_of, ranges_of}
+use Rattle.cm_board.specs.Board.{IsRange, IsSoundChan, IsSoundSub, SubText, IsBlock, each_nanosecond, has_text, is_bits_ok, maxdata_of, munge_of, ranges_of}
 use Rattle.cm_board.specs.Times.{down, up}
 use Rattle.cm_board.proofs.Made.{down_plain, up_plain}
 use Rattle.cm_cmd.specs.Command.{CmdText}
 use Rattle.cm_test.specs.Questions.{is_compatible, is_narrow, is_rounded, is_within, tested}
 use Rattle.cm_test.specs.Steps.{narrowed, repaired, rounded}
 use Rattle.cm_test.specs.ValidList.{is_valid_list}
-use Rattle.cm_run.specs.SoakJob.{soak_board, soak_cmd, soak_range, soak_sub}
+use Rattle.cm_run.specs.SoakJob.{soak_cmd, soak_range, soak_sub}
 
 -- a timer that can make each time makes the shortest scan and the longest
 least_scan : up each_nanosecond 1 ≡ 1
