@@ -19,6 +19,7 @@ use Rattle.cm_board.specs.declared.table.Value.{Value}
 use Rattle.cm_board.specs.declared.table.Word.{Word}
 use Rattle.cm_board_text.specs.FoundView.{found_text}
 use Rattle.cm_board_text.specs.Reading.{Found, admitted, form_of, item_after, more_said, read_word, values_after}
+use Rattle.cm_board_text.proofs.BoardPieces.{first_left}
 
 refused_is : {X : Type 0} (a b : Refused) → ◌≡◌ {A = Result X Refused} (Err a) (Err b) → a ≡ b
 refused_is a b e = cc
@@ -60,10 +61,6 @@ pub seen_stops : {X Y : Type 0} (view : X → Y) (line : ℕ) (stop : ReadStop) 
 seen_stops view line stops.NoMemory read h = tt
 seen_stops view line (stops.Refused r) (Ok x) h = cc
 seen_stops view line (stops.Refused r) (Err fault) h = ap Err (refused_is (record { line = line; cause = fault }) r h)
-
--- the first of the lines that are left
-first_left : (lines : List Line) (i : ℕ) (line d : Line) → i < length lines → line ≡ get_or lines i d → drop i lines ≡ line ∷ drop (i + 1) lines
-first_left lines i line d within is = drop_more lines i d within ∙ ap (λ (l : Line). l ∷ drop (i + 1) lines) (sym is)
 
 -- a line more is said, and those that are left after it
 line_more : {X : Type 0} (read : Result X Refused) (before new : List X) (next : List X → Result (List X) Refused) →

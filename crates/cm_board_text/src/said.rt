@@ -74,7 +74,7 @@ fn maxdata_said(item: &Item) -> u32
 fn maxdata_of(items: &[Item], row: usize) -> Option<u32>
     ensures { result ≡ first_of (map (λ item. spec.greatest (spec.number_at 1 item.values)) (of_row row items.now)) }
 {
-    first_line(items, row).map(|item| maxdata_said(item))
+    first_line(items, row).map(maxdata_said)
 }
 
 // The range that a line says from a place on.
@@ -160,7 +160,7 @@ fn fifo_said(item: &Item) -> Fifo
 fn fifo_of(items: &[Item]) -> Option<Fifo>
     ensures { result ≡ first_of (map spec.fifo_said (of_row lines.FIFO items.now)) }
 {
-    first_line(items, FIFO).map(|item| fifo_said(item))
+    first_line(items, FIFO).map(fifo_said)
 }
 
 // An order by its number among their names.
@@ -190,7 +190,7 @@ fn order_said(item: &Item) -> ListOrder
 fn order_of(items: &[Item]) -> Option<ListOrder>
     ensures { result ≡ first_of (map spec.order_said (of_row lines.ORDER items.now)) }
 {
-    first_line(items, ORDER).map(|item| order_said(item))
+    first_line(items, ORDER).map(order_said)
 }
 
 // What a list keeps.
@@ -227,7 +227,7 @@ fn way_said(item: &Item) -> Way
 fn way_of(items: &[Item]) -> Option<Way>
     ensures { result ≡ first_of (map (λ item. spec.way_named (spec.name_at 0 item.values)) (of_row lines.ROUNDS items.now)) }
 {
-    first_line(items, ROUNDS).map(|item| way_said(item))
+    first_line(items, ROUNDS).map(way_said)
 }
 
 // The counters of a line.

@@ -28,7 +28,7 @@ fn no_row() -> Row
 
 // A row as it is laid out for a channel, or for the subdevice as a whole.
 fn laid_row(row: &Row, of_channel: bool) -> Row
-    ensures { result ≡ (if of_channel then table.channel_row row.now else table.own_row row.now) }
+    ensures { result ≡ (if of_channel then table.channel_row else table.own_row) row.now }
 {
     if row.of_channel == of_channel { *row } else { no_row() }
 }
