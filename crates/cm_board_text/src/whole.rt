@@ -44,7 +44,6 @@ fn put_rows(laid: &mut Vec<Row>, rows: &[Row], of_channel: bool) -> Result<(), A
 }
 
 // The rows laid out for a block in the order in which lines are printed.
-#[tactic(auto, using(crate::proofs::Laid::laid_more))]
 fn lay_out(alloc: Global, channels: u32, rows: &[Row]) -> Result<Vec<Row>, AllocError>
     ensures { IfOk result (λ laid. laid.items ≡ table.laid channels rows.now) }
 {
