@@ -88,6 +88,10 @@ abbrev pub read_word : Head → WordText → List ℕ → Result (Option Value) 
 read_word head Divisors w = divisors_word w >>= λ d. Ok (Some (values_of.Divisors d))
 read_word head kind w = plain_word head kind w
 
+-- what is said once a word says something after the words before it
+abbrev pub word_after : Head → List Value → WordText → List ℕ → Result (List Value) Fault
+word_after head before kind w = read_word head kind w >>= λ v. Ok (before ++ option_to_list v)
+
 -- what words say after others
 abbrev pub values_after : Head → List Value → List WordText → List (List ℕ) → Result (List Value) Fault
 values_after head before [] ws = Ok before

@@ -1,5 +1,5 @@
 // The lines of a block, read by a table: the form of each, and what its words say.
-ghost use Rattle.std.specs.Prelude.{◌≡◌, ◌≤◌, ◌+◌, ◌*◌, ◌++◌, [], OnOk, length, map, option_to_list};
+ghost use Rattle.std.specs.Prelude.{◌≡◌, ◌≤◌, ◌+◌, ◌*◌, [], length, map};
 ghost use Rattle.std.specs.List.{list_any};
 ghost use Rattle.std.specs.Option.{option_map};
 ghost use Rattle.cm_base.specs.LineView.{line_view};
@@ -13,7 +13,7 @@ ghost use Rattle.cm_board.specs.Table as table;
 ghost use Rattle.cm_board.specs.Table.{form_text, may_stand, row_at, table_text, word_text};
 ghost use Rattle.cm_board.specs.Versions.{most_in};
 ghost use Rattle.cm_board_text.specs.FoundView.{found_text};
-ghost use Rattle.cm_board_text.specs.Reading.{admitted, begins_form, fixed_is, form_of, form_of_words, found_from, is_begun, is_form, item_after, items_said, more_said, number_said, place_from, plain_word, read_word, values_after};
+ghost use Rattle.cm_board_text.specs.Reading.{admitted, begins_form, fixed_is, form_of, form_of_words, found_from, is_begun, is_form, item_after, items_said, more_said, number_said, place_from, plain_word, read_word, values_after, word_after};
 
 use crate::divisors::read_divisors;
 use crate::tally::Tally;
@@ -227,11 +227,18 @@ fn read_word(
     }
 }
 
-// A value, where there is one, after others.
-fn push(values: &mut SmallVec<Value, 4>, value: Option<Value>) -> Result<(), AllocError>
-    ensures { OnOk result (values.new.items ≡ values.old.items ++ option_to_list value) }
+// Adds what a word of the line with this number says to what the words before it say.
+fn push_word(
+    alloc: Global,
+    line: u32,
+    head: &Head,
+    values: &mut SmallVec<Value, 4>,
+    kind: &Word,
+    word: &[u8],
+) -> Result<(), ReadStop>
+    ensures { Gives (λ u. values.new.items) result (at_line line (word_after head.now values.old.items (word_text kind.now) word.now)) }
 {
-    match value {
+    match read_word(alloc, line, head, kind, word)? {
         Some(value) => Ok(values.push(value)?),
         None => Ok(()),
     }
@@ -251,8 +258,7 @@ fn read_values(
     let mut values = SmallVec::new(alloc);
     let mut at = 0;
     for word in words {
-        let value = read_word(alloc, line, head, &kinds[at], word)?;
-        push(&mut values, value)?;
+        push_word(alloc, line, head, &mut values, &kinds[at], word)?;
         at += 1;
     }
     Ok(values)
