@@ -174,11 +174,12 @@ pub(crate) fn complete(
 ) -> Result<Result<Vec<Item>, Fault>, AllocError>
     ensures { IfOk result (λ r. seen (λ all. all.items) r ≡ completed (table_text table.now) head.now lines.now) }
 {
-    let rows = lay_out(alloc, head.channels, table.rows)?;
-    let takes = takes(&rows, lines);
-    if lacks(&rows, head, takes, lines) {
+    let laid = lay_out(alloc, head.channels, table.rows)?;
+    let rows: &[Row] = &laid;
+    let takes = takes(rows, lines);
+    if lacks(rows, head, takes, lines) {
         Ok(Err(Fault::Missing))
     } else {
-        Ok(Ok(whole(alloc, &rows, head, takes, lines)?))
+        Ok(Ok(whole(alloc, rows, head, takes, lines)?))
     }
 }
