@@ -1,6 +1,11 @@
 -- Texts that are written piece by piece.
-use Rattle.std.proofs.Common.{◌≡◌, ℕ, ◌+◌, ◌<◌, List, [], ◌∷◌, ◌++◌, flat_map, map, sym, ap, ◌∙◌, append_assoc, drop, get_or, length}
-use Rattle.std.proofs.lemmas.List.{drop_more}
+use Rattle.std.proofs.Common.{◌≡◌, ℕ, ◌+◌, ◌<◌, ◌≤◌, List, [], ◌∷◌, ◌++◌, flat_map, map, sym, ap, ◌∙◌, append_assoc, append-nil, drop, get_or, length}
+use Rattle.std.proofs.lemmas.List.{drop_all, drop_more}
+
+-- where nothing is left all is put
+pub all_put : {X Y : Type 0} (g : List X → List Y) (all done : List Y) (xs : List X) (i : ℕ) → g [] ≡ [] → length xs ≤ i → all ≡ done ++ g (drop i xs) → done ≡ all
+all_put {X = X} {Y = Y} g all done xs i none past e =
+    sym (e ∙ ap (λ (left : List X). done ++ g left) (drop_all i xs past) ∙ ap (λ (left : List Y). done ++ left) none ∙ append-nil done)
 
 -- two pieces, one after another
 pub two_pieces : (old one two a b : List ℕ) → one ≡ old ++ a → two ≡ one ++ b → two ≡ old ++ (a ++ b)

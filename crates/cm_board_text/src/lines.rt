@@ -329,14 +329,7 @@ fn read_item(
     let values = read_values(alloc, number, head, form.words, &line.words)?;
     let row = at_line(
         number,
-        admit(
-            head,
-            table.rows,
-            before,
-            at,
-            &form,
-            values.as_slice(),
-        ),
+        admit(head, table.rows, before, at, &form, values.as_slice()),
     )?;
     Ok(Item {
         row,

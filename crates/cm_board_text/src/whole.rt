@@ -30,7 +30,11 @@ fn no_row() -> Row
 fn laid_row(row: &Row, of_channel: bool) -> Row
     ensures { result ≡ (if of_channel then table.channel_row else table.own_row) row.now }
 {
-    if row.of_channel == of_channel { *row } else { no_row() }
+    if row.of_channel == of_channel {
+        *row
+    } else {
+        no_row()
+    }
 }
 
 // Adds the rows of a channel, or those of the subdevice as a whole.
