@@ -2,10 +2,14 @@
 use Rattle.std.proofs.Common.{◌≡◌, ℕ, ◌+◌, ◌<◌, ◌≤◌, List, [], ◌∷◌, ◌++◌, flat_map, map, sym, ap, ◌∙◌, append_assoc, append-nil, drop, get_or, length}
 use Rattle.std.proofs.lemmas.List.{drop_all, drop_more}
 
+-- what is said of the rest, where nothing is left
+pub none_left : {X Y : Type 0} (g : List X → Y) (all : Y) (xs : List X) (i : ℕ) → length xs ≤ i → all ≡ g (drop i xs) → all ≡ g []
+none_left g all xs i past e = e ∙ ap g (drop_all i xs past)
+
 -- where nothing is left all is put
 pub all_put : {X Y : Type 0} (g : List X → List Y) (all done : List Y) (xs : List X) (i : ℕ) → g [] ≡ [] → length xs ≤ i → all ≡ done ++ g (drop i xs) → done ≡ all
 all_put {X = X} {Y = Y} g all done xs i none past e =
-    sym (e ∙ ap (λ (left : List X). done ++ g left) (drop_all i xs past) ∙ ap (λ (left : List Y). done ++ left) none ∙ append-nil done)
+    sym (none_left (λ (left : List X). done ++ g left) all xs i past e ∙ ap (λ (left : List Y). done ++ left) none ∙ append-nil done)
 
 -- two pieces, one after another
 pub two_pieces : (old one two a b : List ℕ) → one ≡ old ++ a → two ≡ one ++ b → two ≡ old ++ (a ++ b)
