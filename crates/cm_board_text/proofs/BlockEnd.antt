@@ -1,5 +1,5 @@
 -- What a block says at its end.
-use Rattle.std.proofs.Common.{◌≤◌, ◌≡◌, Bool, true, false, cond, List, Result, Ok, Err, ℕ, refl, sym, ap, subst, ◌∙◌}
+use Rattle.std.proofs.Common.{◌≤◌, ◌≡◌, Bool, true, cond, List, Result, Ok, Err, ℕ, refl, sym, ap, subst, ◌∙◌}
 use Rattle.cm_base.specs.Lines.{LineText}
 use Rattle.cm_base.specs.ReadStop.{Gives, Stops}
 use Rattle.cm_base.specs.Reading.{◌>>=◌, at_line, seen}
@@ -18,7 +18,6 @@ use Rattle.cm_board.specs.Table.{TableText}
 use Rattle.cm_board.specs.declared.table.Head.{Head}
 use Rattle.cm_board_text.specs.Block.{checked, finished, is_board_ok}
 use Rattle.cm_board_text.specs.BoardPart.{block_at, head_after, whole_lines}
-use Rattle.cm_board_text.specs.Kept.{AreItems}
 use Rattle.cm_board_text.specs.Reading.{completed, items_said}
 use Rattle.cm_board_text.proofs.BoardKept.{block_keeps}
 use Rattle.cm_board_text.proofs.BoardOks.{at_line_keeps, ok_keeps}

@@ -1,4 +1,4 @@
-use Rattle.std.proofs.Common.{true, false, Ok, ap, sym, ◌∙◌}
+use Rattle.std.proofs.Common.{true, Ok, ap, sym, ◌∙◌}
 use Rattle.cm_board.specs.Board.{SubText}
 use Rattle.cm_board_text.specs.UncheckedView.{unchecked_text}
 use Rattle.cm_board_text.proofs.BlockEnd.{checked_is, sub_sound, timers_kept}
