@@ -52,7 +52,8 @@ block_at version stop count line inside =
 
 -- the lines of a block after its head, and those that hold without standing there, with the line `stop` after it
 abbrev pub whole_lines : ℕ → Head → List LineText → Result (List ItemText) Refused
-whole_lines stop head inside = items_said board_table head inside >>= λ items. at_line stop (completed board_table head items)
+whole_lines stop head inside =
+    items_said board_table head inside >>= λ items. at_line stop (completed board_table head items)
 
 -- the subdevice that a head and the lines after it up to the block's end describe
 abbrev pub next_block : ℕ → ℕ → ℕ → LineText → List LineText → Result SubText Refused

@@ -1,5 +1,6 @@
 -- A board as text.
-use Rattle.std.specs.Prelude.{ℕ, zero, suc, Bool, false, if◌then◌else◌, List, [], ◌∷◌, ◌++◌, map, flat_map, codes, decimal}
+use Rattle.std.specs.Prelude.{ℕ, zero, suc, Bool, false, if◌then◌else◌}
+use Rattle.std.specs.Prelude.{List, [], ◌∷◌, ◌++◌, map, flat_map, codes, decimal}
 use Rattle.std.specs.Fmt.{signed_decimal}
 use Rattle.cm_base.specs.SourceText.{source_text}
 use Rattle.cm_base.specs.WrittenLines.{written_line}
