@@ -3,7 +3,6 @@ use Rattle.std.proofs.Common.{◌≡◌, ℕ, suc, ◌+◌, ◌<◌, List, [], �
 use Rattle.std.proofs.lemmas.List.{drop_all, drop-map, drop-drop, length-map}
 use Rattle.std.proofs.lemmas.Bool.{cases_lt, true≢false}
 use Rattle.cm_base.specs.ReadStop.{Stops}
-use Rattle.cm_base.specs.declared.faults.Fault.TheVariants.{Missing}
 use Rattle.cm_base.specs.declared.faults.ReadStop.{ReadStop}
 use Rattle.cm_base.specs.declared.faults.ReadStop.TheVariants as stops
 use Rattle.std.specs.List.{list_all, position_or_len}
@@ -127,12 +126,6 @@ block_stops version end count prefix lines at inside head (stops.Refused r) s sa
 pub at_signals : (version end count : ℕ) (prefix : List SubText) (lines : List LineText) → is_part_end lines ≡ true → 0 < length lines → with_prefix prefix (blocks_from version end count lines) ≡ Ok prefix
 at_signals version end count prefix [] e h = absurd (omega arith)
 at_signals version end count prefix (line ∷ lines) e h = ap (λ b. with_prefix prefix (cond b (Ok []) (cond (is_subdevice line) (next_block version end count line lines >>= λ sub. blocks_from version end (count + 1) lines >>= λ subs. Ok (sub ∷ subs)) (blocks_from version end count lines)))) e ∙ ap Ok (append-nil prefix)
-
--- past the last line the `signals` line is missing
-pub at_end : (version end count : ℕ) (prefix : List SubText) (lines : List Line) (at : ℕ) → length lines ≤ at →
-    with_prefix prefix (blocks_from version end count (map line_view (drop at lines))) ≡ Err (record { line = end; cause = Missing })
-at_end version end count prefix lines at past =
-    ap (λ (ls : List Line). with_prefix prefix (blocks_from version end count (map line_view ls))) (drop_all at lines past)
 
 -- one subdevice more
 pub sub_pushed : (version end : ℕ) (subs all : List SubText) (sub : SubText) (lines : List LineText) → all ≡ subs ++ sub ∷ [] → with_prefix (subs ++ sub ∷ []) (blocks_from version end (length subs + 1) lines) ≡ with_prefix all (blocks_from version end (length all) lines)

@@ -1,12 +1,11 @@
-use Rattle.std.proofs.Common.{◌≡◌, ℕ, ◌+◌, ◌<◌, List, ap, ap₂, sym, ◌∙◌, map, drop, Ok, length, arith, length-drop, false, subst, true}
+use Rattle.std.proofs.Common.{◌≡◌, ℕ, ◌+◌, ◌<◌, List, ap, ap₂, sym, ◌∙◌, map, drop, Ok, length, arith, length-drop, false, true}
 use Rattle.std.specs.List.{position_or_len}
 use Rattle.cm_base.specs.LineView.{line_view}
 use Rattle.cm_base.specs.ReadStop.{Stops}
-use Rattle.cm_base.specs.declared.faults.ReadStop.{ReadStop}
 use Rattle.cm_base.specs.declared.lines.Line.{Line}
 use Rattle.cm_base.proofs.Each.{stops-along}
-use Rattle.cm_board_text.specs.BoardPart.{blocks_from, ends_block, is_part_end, next_block}
-use Rattle.cm_board_text.proofs.Blocks.{Stands, at_end, at_signals, block_between, block_stops, block_reported, left_over, sub_pushed, within_lines}
+use Rattle.cm_board_text.specs.BoardPart.{ends_block, is_part_end, next_block}
+use Rattle.cm_board_text.proofs.Blocks.{Stands, at_signals, block_between, block_stops, block_reported, left_over, sub_pushed, within_lines}
 use Rattle.cm_board_text.proofs.reading.read_blocks.Goals as goal
 
 pub returns-in-Err : goal.returns-in-Err
@@ -55,9 +54,3 @@ returns c =
     let end : is_part_end (map line_view (drop c.loop-alloc.at c.args.lines.now)) ≡ true =
     ap (λ (ls : List Line). is_part_end (map line_view ls)) (sym c.lines_from.ensures.lines) ∙ sym c.is_part_end.ensures ∙ c.loop-alloc-test.false in
     c.loop-alloc.invariant.reported ∙ at_signals c.args.version c.args.end (length c.loop-alloc.subs.items) (c.loop-alloc.subs.items) (map line_view (drop c.loop-alloc.at c.args.lines.now)) end (left_over c.args.lines.now c.loop-alloc.at c.loop-alloc.invariant.within c.if-at-lines.false)
-
-pub returns-then-at-lines : goal.returns-then-at-lines
-returns-then-at-lines c =
-    subst (λ (stop : ReadStop). Stops stop (blocks_from c.args.version c.args.end 0 (map line_view c.args.lines.now))) (sym c.refused.ensures)
-    (c.loop-alloc.invariant.reported
-    ∙ at_end c.args.version c.args.end (length c.loop-alloc.subs.items) c.loop-alloc.subs.items c.args.lines.now c.loop-alloc.at (omega (arith, c.if-at-lines.true)))
