@@ -127,10 +127,6 @@ pub at_signals : (version end count : ℕ) (prefix : List SubText) (lines : List
 at_signals version end count prefix [] e h = absurd (omega arith)
 at_signals version end count prefix (line ∷ lines) e h = ap (λ b. with_prefix prefix (cond b (Ok []) (cond (is_subdevice line) (next_block version end count line lines >>= λ sub. blocks_from version end (count + 1) lines >>= λ subs. Ok (sub ∷ subs)) (blocks_from version end count lines)))) e ∙ ap Ok (append-nil prefix)
 
-pub stops_same : (stop : ReadStop) (a b : Result SubText Refused) → a ≡ b → Stops stop b → Stops stop a
-stops_same stops.NoMemory a b e said = tt
-stops_same (stops.Refused r) a b e said = e ∙ said
-
 -- one subdevice more
 pub sub_pushed : (version end : ℕ) (subs all : List SubText) (sub : SubText) (lines : List LineText) → all ≡ subs ++ sub ∷ [] → with_prefix (subs ++ sub ∷ []) (blocks_from version end (length subs + 1) lines) ≡ with_prefix all (blocks_from version end (length all) lines)
 sub_pushed version end subs all sub lines e =

@@ -37,11 +37,11 @@ unfolding AreCounts
 count_few counts items row n d h below e = let few = of_row_few row items in omega (arith, e, get_or_default_zero counts row d below, h row below, few)
 
 -- it is that of its row
-pub counted : (counts now : List ℕ) (items : List ItemText) (at n d : ℕ) → counts ≡ now → at < length counts → n ≡ get_or counts at d → AreCounts now items →
-    n ≡ length (of_row at items)
+pub counted : (counts : List ℕ) (items now : List ItemText) (at n d : ℕ) → items ≡ now → at < length counts → n ≡ get_or counts at d → AreCounts counts items →
+    n ≡ length (of_row at now)
 unfolding AreCounts
-counted counts now items at n d same below e h =
-    e ∙ get_or_default_zero counts at d below ∙ ap (λ (cs : List ℕ). slice_index cs at) same ∙ h at (omega (arith, below, ap (λ (cs : List ℕ). length cs) same))
+counted counts items now at n d same below e h =
+    e ∙ get_or_default_zero counts at d below ∙ h at below ∙ ap (λ (items : List ItemText). length (of_row at items)) same
 
 pub counts_none : (n : ℕ) → AreCounts (replicate n 0) []
 unfolding AreCounts
@@ -69,11 +69,11 @@ grown counts items item n within e h = λ at below. by at (item.row == at) refl 
         let more : length (of_row at (items ++ item ∷ [])) ≡ length (of_row at items) + 0 = of_row_more at items item ∙ ap (λ (b : Bool). length (of_row at items) + cond b 1 0) t in
         get_or-set_other counts item.row at (n + 1) 0 (apart at t) ∙ omega (arith, k, more)
 
-pub counts_more : (counts now : List ℕ) (items : List ItemText) (item : ItemText) (row n d : ℕ) → counts ≡ now → row ≡ item.row → row < length counts →
-    n ≡ get_or counts row d → AreCounts now items → AreCounts (slice_set counts row (n + 1)) (items ++ item ∷ [])
-counts_more counts now items item row n d same at within e h =
+pub counts_more : (counts : List ℕ) (items : List ItemText) (item : ItemText) (row n d : ℕ) → row ≡ item.row → row < length counts →
+    n ≡ get_or counts row d → AreCounts counts items → AreCounts (slice_set counts row (n + 1)) (items ++ item ∷ [])
+counts_more counts items item row n d at within e h =
     subst (λ (r : ℕ). AreCounts (slice_set counts r (n + 1)) (items ++ item ∷ [])) (sym at)
-    (grown counts items item n (subst (λ (r : ℕ). r < length counts) at within) (e ∙ get_or_default_zero counts row d within ∙ ap (slice_index counts) at) (subst (λ (cs : List ℕ). AreCounts cs items) (sym same) h))
+    (grown counts items item n (subst (λ (r : ℕ). r < length counts) at within) (e ∙ get_or_default_zero counts row d within ∙ ap (slice_index counts) at) h)
 
 -- and none does where the row is past the counts
 pub counts_past : (counts : List ℕ) (items : List ItemText) (item : ItemText) → length counts ≤ item.row → AreCounts counts items →

@@ -1,13 +1,16 @@
 -- What a word says of divisors is within their limits.
-use Rattle.std.proofs.Common.{◌≡◌, ℕ, ◌+◌, ◌≤◌, Bool, true, false, cond, List, [], ◌∷◌, ◌++◌, length, take, drop, Option, Some, None, Result, Ok, Err, refl, sym, ◌∙◌, arith, nat_lt, ◌==◌}
+use Rattle.std.proofs.Common.{◌≡◌, ℕ, ◌+◌, ◌≤◌, Bool, true, false, cond, Bor, List, [], ◌∷◌, ◌++◌, length, get_or, map, ap, subst, ◌<◌, take, drop, Option, Some, None, Result, Ok, Err, refl, sym, ◌∙◌, arith, nat_lt, ◌==◌}
 use Rattle.std.specs.Result.{IfOk}
 use Rattle.std.specs.List.{list_all, slice_split}
 use Rattle.std.specs.Option.{is_some}
 use Rattle.std.proofs.lemmas.Bool.{le-leb}
 use Rattle.std.proofs.lemmas.List.Folds.{list_all-append}
 use Rattle.std.proofs.lemmas.List.Splits.{length-slice_split}
-use Rattle.cm_base.specs.Reading.{◌>>=◌}
+use Rattle.std.proofs.lemmas.List.{drop_more}
+use Rattle.cm_base.specs.ReadStop.{Stops}
+use Rattle.cm_base.specs.Reading.{◌>>=◌, at_line}
 use Rattle.cm_base.specs.Words.{up_to, values}
+use Rattle.cm_base.specs.declared.faults.ReadStop.{ReadStop}
 use Rattle.cm_base.specs.declared.faults.Fault.{Fault}
 use Rattle.cm_base.specs.declared.faults.Fault.TheVariants as faults
 use Rattle.cm_base.proofs.Bools.{and_true}
@@ -16,6 +19,7 @@ use Rattle.cm_board.specs.Times.{are_divisors, is_divisor}
 use Rattle.cm_board.specs.declared.board.Divisors.TheVariants as divisors_of
 use Rattle.cm_board_text.specs.DivisorsText.{divided, divisor_of, divisors_word, listed_of, points_from, span_of}
 use Rattle.cm_board_text.proofs.BoardOks.{number_ok, then_ok}
+use Rattle.cm_board_text.proofs.ItemRead.{stops_first}
 
 -- a number that is read is one that a counter can divide by
 divisor_ok : (w : List ℕ) → IfOk (divisor_of w) (λ n. is_divisor n ≡ true)
@@ -66,3 +70,13 @@ divisors_ok w = by (points_from 0 w)
     by : (o : Option ℕ) → IfOk (divided w o) (λ d. are_divisors d ≡ true)
     by None = list_ok w
     by (Some at) = span_ok (take at w) (drop (at + 2) w)
+
+-- a number isn't read, nor then the numbers from it on
+pub numbers_stop : (line : ℕ) (stop : ReadStop) (before : List ℕ) (words : List (Bor (List ℕ))) (i n : ℕ) (w : Bor (List ℕ)) (all : Result (List ℕ) Fault) →
+    i < length words → n ≡ length before → all ≡ values 32 divisor_of before (map (λ word. word.now) (drop i words)) →
+    Stops stop (at_line line (up_to 32 divisor_of n (get_or words i w).now)) → Stops stop (at_line line all)
+numbers_stop line stop before words i n w all within long e h =
+    subst (λ r. Stops stop (at_line line r)) (sym (e ∙ ap (λ (ws : List (Bor (List ℕ))). values 32 divisor_of before (map (λ word. word.now) ws)) (drop_more words i w within)))
+    (stops_first line stop (up_to 32 divisor_of (length before) (get_or words i w).now)
+    (λ x. values 32 divisor_of (before ++ x ∷ []) (map (λ word. word.now) (drop (i + 1) words)))
+    (subst (λ (m : ℕ). Stops stop (at_line line (up_to 32 divisor_of m (get_or words i w).now))) long h))

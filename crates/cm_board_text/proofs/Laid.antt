@@ -107,6 +107,10 @@ laid_more channels rows =
     ap (λ (m : ℕ). laid m rows) more ∙ ap (λ (xs : List Row). map own_row rows ++ xs) (each_more 0 channels rows)
     ∙ sym (append_assoc (map own_row rows) (flat_map (λ chan. map channel_row rows) (range_with_len 0 channels)) (map channel_row rows))
 
+-- at first the rows of the subdevice are laid out
+pub laid_first : (rows start new : List Row) → start ≡ [] → new ≡ start ++ map own_row rows → new ≡ laid 0 rows
+laid_first rows start new none e = e ∙ ap (λ (xs : List Row). xs ++ map own_row rows) none ∙ sym (append-nil (map own_row rows))
+
 -- the first value of a form about a channel is one of the subdevice's
 channel_below : (head : Head) (kinds : List WordText) (vs : List Value) → is_of_channel kinds ≡ true → are_kept head kinds vs ≡ true →
     channel_of vs < head.channels

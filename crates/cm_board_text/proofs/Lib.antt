@@ -1,29 +1,29 @@
-pub mod Back
-pub mod BlockEnd
-pub mod Blocks
-pub mod BoardBack
-pub mod BoardKept
-pub mod BoardOks
-pub mod BoardPieces
-pub mod Counting
-pub mod DivisorsBack
-pub mod DivisorsSaid
-pub mod Filled
-pub mod Good
-pub mod HeadsBack
-pub mod ItemRead
-pub mod Laid
-pub mod MostIn
-pub mod OfRow
-pub mod Points
-pub mod Prefix
-pub mod Refusal
-pub mod Shapes
-pub mod Sound
-pub mod SoundBlock
-pub mod SoundChan
-pub mod SoundRows
-pub mod TableAt
-pub mod TableIs
-pub mod WordsBack
-pub mod Written
+mod Back
+mod BlockEnd
+mod Blocks
+mod BoardBack
+mod BoardKept
+mod BoardOks
+mod BoardPieces
+mod Counting
+mod DivisorsBack
+mod DivisorsSaid
+mod Filled
+mod Good
+mod HeadsBack
+mod ItemRead
+mod Laid
+mod MostIn
+mod OfRow
+mod Points
+mod Prefix
+mod Refusal
+mod Shapes
+mod Sound
+mod SoundBlock
+mod SoundChan
+mod SoundRows
+mod TableAt
+mod TableIs
+mod WordsBack
+mod Written

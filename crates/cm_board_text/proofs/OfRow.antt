@@ -1,5 +1,5 @@
 -- The rows of a table, and the lines of each.
-use Rattle.std.proofs.Common.{◌≡◌, ℕ, zero, suc, ◌+◌, ◌<◌, ◌≤◌, Bool, true, false, cond, List, [], ◌∷◌, length, refl, ap, ◌∙◌, arith, ◌==◌, nat_le}
+use Rattle.std.proofs.Common.{◌≡◌, ℕ, zero, suc, ◌+◌, ◌<◌, ◌≤◌, Bool, true, false, cond, List, [], ◌∷◌, ◌++◌, append_assoc, append-nil, drop, get_or, length, map, refl, sym, ap, ◌∙◌, arith, ◌==◌, nat_le}
 use Rattle.std.specs.List.{list_all}
 use Rattle.std.proofs.lemmas.Bool.{leb-true, le-leb}
 use Rattle.std.proofs.lemmas.Bool.Decides.{nat_tests}
@@ -8,8 +8,10 @@ use Rattle.cm_board.specs.Items.{ItemText}
 use Rattle.cm_board.specs.Kept.{is_few}
 use Rattle.cm_board.specs.Table.{row_at}
 use Rattle.cm_board.specs.declared.table.Row.{Row}
-use Rattle.cm_board.specs.Slots.{of_row, slots_from}
+use Rattle.cm_board.specs.Slots.{filled, of_row, slots_from, whole}
+use Rattle.cm_board.specs.declared.table.Head.{Head}
 use Rattle.cm_board_text.specs.Reading.{most_of}
+use Rattle.cm_board_text.proofs.BoardPieces.{first_left}
 
 -- no row has too many lines
 pub few_at : (version n k : ℕ) (rows : List Row) (items : List ItemText) → list_all (is_few version) (slots_from n rows items) ≡ true → k < length rows →
@@ -79,3 +81,26 @@ all_row p n (item ∷ items) h = let b = both (p item) (list_all p items) h in b
     by : (t : Bool) → p item ≡ true → list_all p (of_row n items) ≡ true → list_all p (cond t (item ∷ of_row n items) (of_row n items)) ≡ true
     by true e later = and_true _ _ e later
     by false e later = later
+
+-- what the lines of a row say goes on with the first of those that are left
+pub said_next : {Y : Type 0} (f : ItemText → Y) (row : ℕ) (done new : List Y) (items : List ItemText) (i : ℕ) (item d : ItemText) → i < length items →
+    item ≡ get_or items i d → new ≡ done ++ map f (of_row row (item ∷ [])) →
+    done ++ map f (of_row row (drop i items)) ≡ new ++ map f (of_row row (drop (i + 1) items))
+said_next {Y = Y} f row done new items i item d within is e =
+    ap (λ (left : List ItemText). done ++ map f (of_row row left)) (first_left items i item d within is) ∙ by (own row item) e
+  where
+    after : List ItemText
+    after = of_row row (drop (i + 1) items)
+
+    by : (b : Bool) → new ≡ done ++ map f (cond b (item ∷ []) []) → done ++ map f (cond b (item ∷ after) after) ≡ new ++ map f after
+    by true e = sym (append_assoc done (f item ∷ []) (map f after)) ∙ ap (λ (said : List Y). said ++ map f after) (sym e)
+    by false e = ap (λ (said : List Y). said ++ map f after) (sym (append-nil done) ∙ sym e)
+
+-- the lines of a block in the order of its rows go on with those of the first row that is left
+pub whole_next : (head : Head) (takes : Bool) (items done new : List ItemText) (rows : List Row) (i n : ℕ) (row d : Row) → i < length rows →
+    row ≡ get_or rows i d → new ≡ done ++ filled head takes (record { at = n; row = row; items = of_row n items }) →
+    done ++ whole head takes (slots_from n (drop i rows) items) ≡ new ++ whole head takes (slots_from (n + 1) (drop (i + 1) rows) items)
+whole_next head takes items done new rows i n row d within is e =
+    ap (λ (left : List Row). done ++ whole head takes (slots_from n left items)) (first_left rows i row d within is)
+    ∙ sym (append_assoc done (filled head takes (record { at = n; row = row; items = of_row n items })) (whole head takes (slots_from (n + 1) (drop (i + 1) rows) items)))
+    ∙ ap (λ (all : List ItemText). all ++ whole head takes (slots_from (n + 1) (drop (i + 1) rows) items)) (sym e)

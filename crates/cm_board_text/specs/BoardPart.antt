@@ -12,10 +12,11 @@ use Rattle.cm_base.specs.declared.faults.Fault.TheVariants.{Missing}
 use Rattle.cm_base.specs.declared.faults.Refused.{Refused}
 use Rattle.cm_board.specs.Board.{BoardText, SubText}
 use Rattle.cm_board.specs.BoardTable.{board_table}
+use Rattle.cm_board.specs.Items.{ItemText}
 use Rattle.cm_board.specs.declared.table.Head.{Head}
 use Rattle.cm_board_text.specs.Block.{finished}
 use Rattle.cm_board_text.specs.Heads.{head_words}
-use Rattle.cm_board_text.specs.Reading.{items_said}
+use Rattle.cm_board_text.specs.Reading.{completed, items_said}
 
 -- a line that starts the block of a subdevice
 abbrev pub is_subdevice : LineText → Bool
@@ -48,6 +49,11 @@ block_at version stop count line inside =
     at_line line.number (head_after version count line) >>= λ head.
     items_said board_table head inside >>= λ items.
     at_line stop (finished head items)
+
+-- the lines of a block after its head, and those that hold without standing there, with the line `stop` after it
+abbrev pub whole_lines : ℕ → Head → List LineText → Result (List ItemText) Refused
+whole_lines stop head inside =
+    items_said board_table head inside >>= λ items. at_line stop (completed board_table head items)
 
 -- the subdevice that a head and the lines after it up to the block's end describe
 abbrev pub next_block : ℕ → ℕ → ℕ → LineText → List LineText → Result SubText Refused

@@ -1,5 +1,6 @@
 -- A board as text.
-use Rattle.std.specs.Prelude.{ℕ, zero, suc, if◌then◌else◌, List, [], ◌∷◌, ◌++◌, map, flat_map, codes, decimal}
+use Rattle.std.specs.Prelude.{ℕ, zero, suc, Bool, false, if◌then◌else◌}
+use Rattle.std.specs.Prelude.{List, [], ◌∷◌, ◌++◌, map, flat_map, codes, decimal}
 use Rattle.std.specs.Fmt.{signed_decimal}
 use Rattle.cm_base.specs.SourceText.{source_text}
 use Rattle.cm_base.specs.WrittenLines.{written_line}
@@ -43,6 +44,15 @@ words_text [] vs = []
 words_text (Fixed key ∷ kinds) vs = key ∷ words_text kinds vs
 words_text (kind ∷ kinds) [] = []
 words_text (kind ∷ kinds) (v ∷ vs) = value_text kind v ∷ words_text kinds vs
+
+-- the space before a word, but the first of a line has none
+abbrev pub space_before : Bool → List ℕ
+space_before first = if first then [] else 32 ∷ []
+
+-- words with spaces between them, the first of a line or others
+abbrev pub spaced : Bool → List (List ℕ) → List ℕ
+spaced first [] = []
+spaced first (word ∷ words) = (space_before first ++ word) ++ spaced false words
 
 -- the words of a line
 abbrev pub item_words : TableText → ItemText → List (List ℕ)

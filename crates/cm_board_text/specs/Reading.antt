@@ -4,7 +4,7 @@ use Rattle.std.specs.Prelude.{Err, if◌then◌else◌, List, [], ◌∷◌, ◌
 use Rattle.std.specs.List.{list_any}
 use Rattle.std.specs.Str.{bytes_eq}
 use Rattle.cm_base.specs.Lines.{LineText}
-use Rattle.cm_base.specs.Reading.{◌>>=◌, read_each}
+use Rattle.cm_base.specs.Reading.{◌>>=◌, at_line, read_each}
 use Rattle.cm_base.specs.Words.{number_below, number_in, or_fault, signed_number, source_in, sources_in}
 use Rattle.cm_base.specs.declared.faults.Fault.{Fault}
 use Rattle.cm_base.specs.declared.faults.Fault.TheVariants.{Bad, BadLine, Double, Limit, Missing, Unknown}
@@ -69,17 +69,28 @@ abbrev pub place_from : ℕ → List ℕ → List (List ℕ) → Option ℕ
 place_from n word [] = None
 place_from n word (name ∷ names) = if bytes_eq word name then Some n else place_from (n + 1) word names
 
+-- a number that is said
+abbrev pub number_said : Result ℕ Fault → Result (Option Value) Fault
+number_said read = read >>= λ n. Ok (Some (values_of.Number n))
+
+-- what a word says that is no divisors
+abbrev pub plain_word : Head → WordText → List ℕ → Result (Option Value) Fault
+plain_word head (Number l) w = number_said (number_in l.least (most_in head.version l.most l.wide) w)
+plain_word head Signed w = signed_number w >>= λ z. Ok (Some (values_of.Signed z))
+plain_word head (Sources sets) w = number_said (sources_in (set_in head.version sets) w)
+plain_word head Source w = number_said (source_in 511 w)
+plain_word head (Name names) w = or_fault Unknown (place_from 0 w names) >>= λ n. Ok (Some (values_of.Name n))
+plain_word head Channel w = number_said (number_below head.channels w)
+plain_word head other w = Ok None
+
 -- what a word says
 abbrev pub read_word : Head → WordText → List ℕ → Result (Option Value) Fault
-read_word head (Fixed key) w = Ok None
-read_word head (Number l) w =
-    number_in l.least (most_in head.version l.most l.wide) w >>= λ n. Ok (Some (values_of.Number n))
-read_word head Signed w = signed_number w >>= λ z. Ok (Some (values_of.Signed z))
-read_word head (Sources sets) w = sources_in (set_in head.version sets) w >>= λ n. Ok (Some (values_of.Number n))
-read_word head Source w = source_in 511 w >>= λ n. Ok (Some (values_of.Number n))
-read_word head (Name names) w = or_fault Unknown (place_from 0 w names) >>= λ n. Ok (Some (values_of.Name n))
-read_word head Channel w = number_below head.channels w >>= λ n. Ok (Some (values_of.Number n))
 read_word head Divisors w = divisors_word w >>= λ d. Ok (Some (values_of.Divisors d))
+read_word head kind w = plain_word head kind w
+
+-- what is said once a word says something after the words before it
+abbrev pub word_after : Head → List Value → WordText → List ℕ → Result (List Value) Fault
+word_after head before kind w = read_word head kind w >>= λ v. Ok (before ++ option_to_list v)
 
 -- what words say after others
 abbrev pub values_after : Head → List Value → List WordText → List (List ℕ) → Result (List Value) Fault
@@ -107,6 +118,10 @@ item_after t head before line =
     form_of t head line >>= λ f.
     values_after head [] f.form.words line.words >>= λ values.
     admitted head t.rows before f values
+
+-- what is said once a line says something after the lines before it
+abbrev pub more_said : TableText → Head → List ItemText → LineText → Result (List ItemText) Refused
+more_said t head before line = at_line line.number (item_after t head before line) >>= λ item. Ok (before ++ item ∷ [])
 
 -- what the lines of a block say
 abbrev pub items_said : TableText → Head → List LineText → Result (List ItemText) Refused

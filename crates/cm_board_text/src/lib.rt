@@ -1,14 +1,14 @@
 // A board as a text: read, refused at its first failing line, and printed.
 #![tactic(auto)]
 
-pub mod divisors;
-pub mod heads;
+mod divisors;
+mod heads;
 pub mod law;
-pub mod line_text;
-pub mod lines;
+mod line_text;
+mod lines;
 pub mod printing;
 pub mod reading;
-pub mod said;
+mod said;
 mod tally;
-pub mod unchecked;
-pub mod whole;
+mod unchecked;
+mod whole;

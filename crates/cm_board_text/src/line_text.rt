@@ -1,7 +1,7 @@
 // The lines of a block, written as text.
-ghost use Rattle.std.specs.Prelude.{◌≡◌, ◌++◌, ◌∷◌, OnOk, flat_map, map};
+ghost use Rattle.std.specs.Prelude.{◌≡◌, ◌++◌, OnOk, map};
 ghost use Rattle.cm_base.specs.WrittenLines.{written_line};
-ghost use Rattle.cm_board_text.specs.Printed.{item_words, items_text, name_at, name_text, number_text, value_text, words_text};
+ghost use Rattle.cm_board_text.specs.Printed.{item_words, items_text, name_at, name_text, number_text, space_before, spaced, value_text, words_text};
 ghost use Rattle.cm_board.specs.Table.{form_at, form_text, table_text, word_text};
 
 use crate::divisors::put_divisors;
@@ -52,67 +52,52 @@ fn put_value(out: &mut Vec<u8>, kind: &Word, value: &Value) -> Result<(), NoMemo
     }
 }
 
-// Words, each after a space.
-fn put_words(out: &mut Vec<u8>, kinds: &[Word], values: &[Value]) -> Result<(), NoMemory>
-    ensures { OnOk result (out.new.items ≡ out.old.items ++ flat_map (λ word. 32 ∷ word) (words_text (map word_text kinds.now) values.now)) }
+// The space before a word, but the first of a line has none.
+fn put_space(out: &mut Vec<u8>, first: bool) -> Result<(), NoMemory>
+    ensures { OnOk result (out.new.items ≡ out.old.items ++ space_before first) }
+{
+    if first { Ok(()) } else { Ok(out.push(b' ')?) }
+}
+
+// A fixed word.
+fn put_key(out: &mut Vec<u8>, first: bool, key: &[u8]) -> Result<(), NoMemory>
+    ensures { OnOk result (out.new.items ≡ out.old.items ++ (space_before first ++ key.now)) }
+{
+    put_space(out, first)?;
+    Ok(out.extend_from_slice(key)?)
+}
+
+// A word that says something.
+fn put_said(out: &mut Vec<u8>, first: bool, kind: &Word, value: &Value) -> Result<(), NoMemory>
+    ensures { OnOk result (out.new.items ≡ out.old.items ++ (space_before first ++ value_text (word_text kind.now) value.now)) }
+{
+    put_space(out, first)?;
+    put_value(out, kind, value)
+}
+
+// Words with spaces between them, the first of a line or others.
+#[tactic(auto, using(crate::proofs::Written::word_written, crate::proofs::Written::none_written))]
+fn put_words(
+    out: &mut Vec<u8>,
+    first: bool,
+    kinds: &[Word],
+    values: &[Value],
+) -> Result<(), NoMemory>
+    ensures { OnOk result (out.new.items ≡ out.old.items ++ spaced first (words_text (map word_text kinds.now) values.now)) }
 {
     match kinds {
         [] => Ok(()),
         [kind, kinds @ ..] => match kind {
             Word::Fixed(key) => {
-                out.push(b' ')?;
-                out.extend_from_slice(key)?;
-                put_words(out, kinds, values)
+                put_key(out, first, key)?;
+                put_words(out, false, kinds, values)
             }
             _ => match values {
                 [] => Ok(()),
                 [value, values @ ..] => {
-                    out.push(b' ')?;
-                    put_value(out, kind, value)?;
-                    put_words(out, kinds, values)
+                    put_said(out, first, kind, value)?;
+                    put_words(out, false, kinds, values)
                 }
-            },
-        },
-    }
-}
-
-// A fixed word and the words after it.
-#[tactic(auto, using(crate::proofs::Written::written))]
-fn put_key(out: &mut Vec<u8>, key: &[u8], kinds: &[Word], values: &[Value]) -> Result<(), NoMemory>
-    ensures { OnOk result (out.new.items ≡ out.old.items ++ written_line (key.now ∷ words_text (map word_text kinds.now) values.now)) }
-{
-    out.extend_from_slice(key)?;
-    put_words(out, kinds, values)?;
-    Ok(out.push(b'\n')?)
-}
-
-// A word that says something, and the words after it.
-#[tactic(auto, using(crate::proofs::Written::written))]
-fn put_said(
-    out: &mut Vec<u8>,
-    kind: &Word,
-    value: &Value,
-    kinds: &[Word],
-    values: &[Value],
-) -> Result<(), NoMemory>
-    ensures { OnOk result (out.new.items ≡ out.old.items ++ written_line (value_text (word_text kind.now) value.now ∷ words_text (map word_text kinds.now) values.now)) }
-{
-    put_value(out, kind, value)?;
-    put_words(out, kinds, values)?;
-    Ok(out.push(b'\n')?)
-}
-
-// One line of a form.
-fn put_line(out: &mut Vec<u8>, kinds: &[Word], values: &[Value]) -> Result<(), NoMemory>
-    ensures { OnOk result (out.new.items ≡ out.old.items ++ written_line (words_text (map word_text kinds.now) values.now)) }
-{
-    match kinds {
-        [] => Ok(out.push(b'\n')?),
-        [kind, kinds @ ..] => match kind {
-            Word::Fixed(key) => put_key(out, key, kinds, values),
-            _ => match values {
-                [] => Ok(out.push(b'\n')?),
-                [value, values @ ..] => put_said(out, kind, value, kinds, values),
             },
         },
     }
@@ -135,11 +120,13 @@ fn form_at(forms: &[Form], at: usize) -> Form
 }
 
 // One line.
+#[tactic(auto, using(crate::proofs::Written::line_written))]
 fn put_item(out: &mut Vec<u8>, table: &Table, item: &Item) -> Result<(), NoMemory>
     ensures { OnOk result (out.new.items ≡ out.old.items ++ written_line (item_words (table_text table.now) item.now)) }
 {
     let form = form_at(table.forms, item.form);
-    put_line(out, form.words, item.values.as_slice())
+    put_words(out, true, form.words, item.values.as_slice())?;
+    Ok(out.push(b'\n')?)
 }
 
 /// The lines of a block as text.

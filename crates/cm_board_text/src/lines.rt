@@ -1,5 +1,5 @@
 // The lines of a block, read by a table: the form of each, and what its words say.
-ghost use Rattle.std.specs.Prelude.{◌≡◌, ◌≤◌, ◌+◌, ◌*◌, ◌++◌, [], OnOk, length, map, option_to_list};
+ghost use Rattle.std.specs.Prelude.{◌≡◌, ◌≤◌, ◌+◌, ◌*◌, [], length, map};
 ghost use Rattle.std.specs.List.{list_any};
 ghost use Rattle.std.specs.Option.{option_map};
 ghost use Rattle.cm_base.specs.LineView.{line_view};
@@ -12,10 +12,8 @@ ghost use Rattle.cm_board.specs.Slots.{of_row};
 ghost use Rattle.cm_board.specs.Table as table;
 ghost use Rattle.cm_board.specs.Table.{form_text, may_stand, row_at, table_text, word_text};
 ghost use Rattle.cm_board.specs.Versions.{most_in};
-ghost use Rattle.cm_board_text.specs.Counts.{AreCounts};
 ghost use Rattle.cm_board_text.specs.FoundView.{found_text};
-ghost use Rattle.cm_board_text.specs.Reading as spec;
-ghost use Rattle.cm_board_text.specs.Reading.{admitted, begins_form, fixed_is, form_of, form_of_words, found_from, is_begun, is_form, item_after, items_said, place_from, values_after};
+ghost use Rattle.cm_board_text.specs.Reading.{admitted, begins_form, fixed_is, form_of, form_of_words, found_from, is_begun, is_form, item_after, items_said, more_said, number_said, place_from, plain_word, read_word, values_after, word_after};
 
 use crate::divisors::read_divisors;
 use crate::tally::Tally;
@@ -188,6 +186,31 @@ fn read_sources(head: &Head, sets: &Sets, word: &[u8]) -> Result<u32, Fault>
     sources_in(word, set_in(head.version, sets))
 }
 
+// A number that is said.
+fn number_said(read: Result<u32, Fault>) -> Result<Option<Value>, Fault>
+    ensures { result ≡ number_said read }
+{
+    match read {
+        Ok(number) => Ok(Some(Value::Number(number))),
+        Err(fault) => Err(fault),
+    }
+}
+
+// What a word says that is no divisors.
+fn plain_word(head: &Head, kind: &Word, word: &[u8]) -> Result<Option<Value>, Fault>
+    ensures { result ≡ plain_word head.now (word_text kind.now) word.now }
+{
+    match kind {
+        Word::Number(limits) => number_said(read_number(head, limits, word)),
+        Word::Signed => Ok(Some(Value::Signed(signed_number(word)?))),
+        Word::Sources(sets) => number_said(read_sources(head, sets, word)),
+        Word::Source => number_said(source_in(word, 511)),
+        Word::Name(names) => Ok(Some(Value::Name(read_name(names, word)?))),
+        Word::Channel => number_said(number_below(word, head.channels)),
+        Word::Fixed(_) | Word::Divisors => Ok(None),
+    }
+}
+
 // What a word of the line with this number says.
 fn read_word(
     alloc: Global,
@@ -196,25 +219,26 @@ fn read_word(
     kind: &Word,
     word: &[u8],
 ) -> Result<Option<Value>, ReadStop>
-    ensures { Gives (λ value. value) result (at_line line (spec.read_word head.now (word_text kind.now) word.now)) }
+    ensures { Gives (λ value. value) result (at_line line (read_word head.now (word_text kind.now) word.now)) }
 {
-    Ok(Some(match kind {
-        Word::Fixed(_) => return Ok(None),
-        Word::Number(limits) => Value::Number(at_line(line, read_number(head, limits, word))?),
-        Word::Signed => Value::Signed(at_line(line, signed_number(word))?),
-        Word::Sources(sets) => Value::Number(at_line(line, read_sources(head, sets, word))?),
-        Word::Source => Value::Number(at_line(line, source_in(word, 511))?),
-        Word::Name(names) => Value::Name(at_line(line, read_name(names, word))?),
-        Word::Channel => Value::Number(at_line(line, number_below(word, head.channels))?),
-        Word::Divisors => Value::Divisors(read_divisors(alloc, line, word)?),
-    }))
+    match kind {
+        Word::Divisors => Ok(Some(Value::Divisors(read_divisors(alloc, line, word)?))),
+        _ => at_line(line, plain_word(head, kind, word)),
+    }
 }
 
-// A value, where there is one, after others.
-fn push(values: &mut SmallVec<Value, 4>, value: Option<Value>) -> Result<(), AllocError>
-    ensures { OnOk result (values.new.items ≡ values.old.items ++ option_to_list value) }
+// Adds what a word of the line with this number says to what the words before it say.
+fn push_word(
+    alloc: Global,
+    line: u32,
+    head: &Head,
+    values: &mut SmallVec<Value, 4>,
+    kind: &Word,
+    word: &[u8],
+) -> Result<(), ReadStop>
+    ensures { Gives (λ u. values.new.items) result (at_line line (word_after head.now values.old.items (word_text kind.now) word.now)) }
 {
-    match value {
+    match read_word(alloc, line, head, kind, word)? {
         Some(value) => Ok(values.push(value)?),
         None => Ok(()),
     }
@@ -234,8 +258,7 @@ fn read_values(
     let mut values = SmallVec::new(alloc);
     let mut at = 0;
     for word in words {
-        let value = read_word(alloc, line, head, &kinds[at], word)?;
-        push(&mut values, value)?;
+        push_word(alloc, line, head, &mut values, &kinds[at], word)?;
         at += 1;
     }
     Ok(values)
@@ -267,19 +290,17 @@ fn place_of(rows: &[Row], form: &Form, values: &[Value]) -> usize
 fn admit(
     head: &Head,
     rows: &[Row],
-    before: &[Item],
-    tally: &Tally,
+    before: &Tally,
     at: usize,
     form: &Form,
     values: &[Value],
 ) -> Result<usize, Fault>
-    requires rows { length rows.now ≤ 1000 }
-    requires counts { AreCounts tally.now before.now }
+    requires { length rows.now ≤ 1000 }
     ensures { seen (λ row. record { row = row; form = at; values = values.now }) result ≡ admitted head.now rows.now before.now (found_text (at, form.now)) values.now }
 {
     let most = row_at(rows, form.row).most_in(head.version);
     let place = place_of(rows, form, values);
-    if tally.count(before, place) < most as usize {
+    if before.count(place) < most as usize {
         if form.rule.is_kept(values) {
             Ok(place)
         } else {
@@ -297,12 +318,10 @@ fn read_item(
     alloc: Global,
     table: &Table,
     head: &Head,
-    before: &[Item],
-    tally: &Tally,
+    before: &Tally,
     line: &Line<'_>,
 ) -> Result<Item, ReadStop>
-    requires rows { length table.now.rows.now ≤ 1000 }
-    requires counts { AreCounts tally.now before.now }
+    requires { length table.now.rows.now ≤ 1000 }
     ensures { Gives (λ item. item) result (at_line line.now.number (item_after (table_text table.now) head.now before.now (line_view line.now))) }
 {
     let number = line.number;
@@ -310,15 +329,7 @@ fn read_item(
     let values = read_values(alloc, number, head, form.words, &line.words)?;
     let row = at_line(
         number,
-        admit(
-            head,
-            table.rows,
-            before,
-            tally,
-            at,
-            &form,
-            values.as_slice(),
-        ),
+        admit(head, table.rows, before, at, &form, values.as_slice()),
     )?;
     Ok(Item {
         row,
@@ -335,22 +346,34 @@ fn laid_len(channels: u32, rows: &[Row]) -> usize
     (channels as usize + 1) * rows.len()
 }
 
+// Adds what a line says to what the lines before it say.
+fn add_line(
+    alloc: Global,
+    table: &Table,
+    head: &Head,
+    said: &mut Tally,
+    line: &Line<'_>,
+) -> Result<(), ReadStop>
+    requires { length table.now.rows.now ≤ 1000 }
+    ensures { Gives (λ u. said.new) result (more_said (table_text table.now) head.now said.old (line_view line.now)) }
+{
+    let item = read_item(alloc, table, head, said, line)?;
+    Ok(said.push(item)?)
+}
+
 /// What the lines of a block say, or the first line that fails.
 pub(crate) fn read_items(
     alloc: Global,
     table: &Table,
     head: &Head,
     lines: &[Line<'_>],
-) -> Result<Vec<Item>, ReadStop>
+) -> Result<Tally, ReadStop>
     requires { length table.now.rows.now ≤ 1000 }
-    ensures { Gives (λ items. items.items) result (items_said (table_text table.now) head.now (map line_view lines.now)) }
+    ensures { Gives (λ said. said) result (items_said (table_text table.now) head.now (map line_view lines.now)) }
 {
-    let mut items = Vec::new(alloc);
-    let mut tally = Tally::new(alloc, laid_len(head.channels, table.rows))?;
+    let mut said = Tally::new(alloc, laid_len(head.channels, table.rows))?;
     for line in lines {
-        let item = read_item(alloc, table, head, &items, &tally, line)?;
-        tally.add(&items, &item);
-        items.push(item)?;
+        add_line(alloc, table, head, &mut said, line)?;
     }
-    Ok(items)
+    Ok(said)
 }

@@ -5,12 +5,13 @@ ghost use Rattle.cm_base.specs.Refusal.{next_number};
 ghost use Rattle.cm_base.specs.LineView.{line_view};
 ghost use Rattle.cm_base.specs.ReadStop.{Gives};
 ghost use Rattle.cm_base.specs.Reading.{at_line, read_each, seen};
-ghost use Rattle.cm_board_text.specs.Block.{finished};
+ghost use Rattle.cm_board_text.specs.Block.{checked};
 ghost use Rattle.cm_base.specs.Parts as parts;
-ghost use Rattle.cm_board_text.specs.BoardPart.{block_at, block_lines, blocks_from, is_between, is_part_end, lines_after, next_block, board_of, any_words, ends_block, head_after, begins_wide, is_name, is_signals, name_words, version_of, version_words, wide_words};
+ghost use Rattle.cm_board_text.specs.BoardPart.{block_at, block_lines, blocks_from, is_between, is_part_end, lines_after, next_block, board_of, any_words, ends_block, head_after, begins_wide, is_name, is_signals, name_words, version_of, version_words, whole_lines, wide_words};
 ghost use Rattle.cm_board.specs.Board.{IsSoundBoard, has_channels};
 ghost use Rattle.cm_board.specs.BoardTable.{board_table};
-ghost use Rattle.cm_board_text.specs.Kept.{AreItems};
+ghost use Rattle.cm_board.specs.Kept.{IsWhole};
+ghost use Rattle.cm_board.specs.Said.{sub_of};
 ghost use Rattle.cm_base.specs.Lines.{is_word};
 
 use crate::heads::read_head;
@@ -95,27 +96,36 @@ fn read_block(
 {
     let line = head.number;
     let head = at_line(line, head_after(version, count, head))?;
-    let items = read_items(alloc, &board_table(), &head, inside)?;
-    let sub = finish(alloc, &head, &items)?;
-    at_line(stop, sub)
+    let all = whole_block(alloc, stop, &head, inside)?;
+    finish(alloc, stop, &head, all)
 }
 
-// What a block says at its end.
-fn finish(alloc: Global, head: &Head, items: &[Item]) -> Result<Result<Sub, Fault>, AllocError>
-    requires items { AreItems board_table head.now items.now }
+// The lines of a block after its head, and those that hold without standing there, with the line `stop` after it.
+fn whole_block(
+    alloc: Global,
+    stop: u32,
+    head: &Head,
+    inside: &[Line<'_>],
+) -> Result<Vec<Item>, ReadStop>
+    ensures { Gives (λ all. all.items) result (whole_lines stop head.now (map line_view inside.now)) }
+{
+    let table = board_table();
+    let lines = read_items(alloc, &table, head, inside)?;
+    at_line(stop, complete(alloc, &table, head, &lines)?)
+}
+
+// The subdevice that the lines of a whole block describe, where it keeps the rules over them.
+fn finish(alloc: Global, stop: u32, head: &Head, all: Vec<Item>) -> Result<Sub, ReadStop>
+    requires whole { IsWhole board_table head.now all.items }
     requires channels { IsTrue (has_channels head.now.version head.now.kind head.now.channels) }
     requires version { 1 ≤ head.now.version }
-    ensures { IfOk result (λ sub. sub ≡ finished head.now items.now) }
+    ensures { Gives (λ sub. sub) result (at_line stop (checked (sub_of head.now all.items))) }
 {
-    let all = match complete(alloc, &board_table(), head, items)? {
-        Ok(all) => all,
-        Err(fault) => return Ok(Err(fault)),
-    };
     let sub = describe_sub(alloc, head, all)?;
     if sub.is_board_ok() {
-        Ok(Ok(sub.into_sub()))
+        Ok(sub.into_sub())
     } else {
-        Ok(Err(Fault::Bad))
+        Err(refused(stop, Fault::Bad))
     }
 }
 

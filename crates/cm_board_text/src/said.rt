@@ -74,7 +74,7 @@ fn maxdata_said(item: &Item) -> u32
 fn maxdata_of(items: &[Item], row: usize) -> Option<u32>
     ensures { result ≡ first_of (map (λ item. spec.greatest (spec.number_at 1 item.values)) (of_row row items.now)) }
 {
-    first_line(items, row).map(|item| maxdata_said(item))
+    first_line(items, row).map(maxdata_said)
 }
 
 // The range that a line says from a place on.
@@ -160,7 +160,7 @@ fn fifo_said(item: &Item) -> Fifo
 fn fifo_of(items: &[Item]) -> Option<Fifo>
     ensures { result ≡ first_of (map spec.fifo_said (of_row lines.FIFO items.now)) }
 {
-    first_line(items, FIFO).map(|item| fifo_said(item))
+    first_line(items, FIFO).map(fifo_said)
 }
 
 // An order by its number among their names.
@@ -190,7 +190,7 @@ fn order_said(item: &Item) -> ListOrder
 fn order_of(items: &[Item]) -> Option<ListOrder>
     ensures { result ≡ first_of (map spec.order_said (of_row lines.ORDER items.now)) }
 {
-    first_line(items, ORDER).map(|item| order_said(item))
+    first_line(items, ORDER).map(order_said)
 }
 
 // What a list keeps.
@@ -227,7 +227,7 @@ fn way_said(item: &Item) -> Way
 fn way_of(items: &[Item]) -> Option<Way>
     ensures { result ≡ first_of (map (λ item. spec.way_named (spec.name_at 0 item.values)) (of_row lines.ROUNDS items.now)) }
 {
-    first_line(items, ROUNDS).map(|item| way_said(item))
+    first_line(items, ROUNDS).map(way_said)
 }
 
 // The counters of a line.
@@ -365,34 +365,35 @@ pub(crate) fn describe_sub(
 ) -> Result<Unchecked, AllocError>
     ensures { IfOk result (λ sub. unchecked_text sub ≡ sub_of head.now block.items) }
 {
-    let ranges = ranges_of(alloc, &block, RANGE, 0)?;
-    let forbidden = forbidden_of(alloc, &block)?;
-    let chans = sets_said(alloc, head.channels, &block)?;
-    let timers = timers_said(alloc, &block)?;
+    let items: &[Item] = &block;
+    let ranges = ranges_of(alloc, items, RANGE, 0)?;
+    let forbidden = forbidden_of(alloc, items)?;
+    let chans = sets_said(alloc, head.channels, items)?;
+    let timers = timers_said(alloc, items)?;
     Ok(Unchecked {
         version: head.version,
         kind: head.kind,
         channels: head.channels,
-        maxdata: greatest(number_of(&block, BITS, 0, 1)),
-        munge: munge_of_all(&block),
+        maxdata: greatest(number_of(items, BITS, 0, 1)),
+        munge: munge_of_all(items),
         ranges,
-        sources: masks_said(&block),
+        sources: masks_said(items),
         timers,
-        scan_min: number_of(&block, SCAN, 0, 1),
-        scan_max: number_of(&block, SCAN, 1, 1),
-        conv_min: number_of(&block, CONVERT, 0, 1),
-        conv_max: number_of(&block, CONVERT, 1, 1),
-        list_max: number_of(&block, LIST, 0, 1),
-        scans_max: number_of(&block, SCANS, 0, 1),
-        lines: number_of(&block, LINES, 0, 0),
-        buffer: number_of(&block, BUFFER, 0, 1),
-        rounding: rounding_said(&block),
-        least_scan: least_scan_said(&block),
-        lists: lists_said(&block),
+        scan_min: number_of(items, SCAN, 0, 1),
+        scan_max: number_of(items, SCAN, 1, 1),
+        conv_min: number_of(items, CONVERT, 0, 1),
+        conv_max: number_of(items, CONVERT, 1, 1),
+        list_max: number_of(items, LIST, 0, 1),
+        scans_max: number_of(items, SCANS, 0, 1),
+        lines: number_of(items, LINES, 0, 0),
+        buffer: number_of(items, BUFFER, 0, 1),
+        rounding: rounding_said(items),
+        least_scan: least_scan_said(items),
+        lists: lists_said(items),
         forbidden,
         chans,
-        invert: has_line(&block, INVERT),
-        fifo: fifo_of(&block),
+        invert: has_line(items, INVERT),
+        fifo: fifo_of(items),
         block,
     })
 }

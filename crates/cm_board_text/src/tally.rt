@@ -1,75 +1,74 @@
-// How many lines of each row stand in a block, so that no row's lines are counted again and again.
-ghost use Rattle.std.specs.Prelude.{◌≡◌, ◌++◌, ◌∷◌, [], length, IfOk};
+// Lines of a block with how many there are of each row, so that no row's lines are counted again and again.
+ghost use Rattle.std.specs.Prelude.{◌≡◌, length};
 ghost use Rattle.cm_board.specs.Slots.{of_row};
-ghost use Rattle.cm_board_text.specs.Counts.{AreCounts};
 
 use cm_board::items::Item;
 use std::alloc::{AllocError, Global};
 use std::marker::Model;
 
-/// A count for each of the first rows.
+/// Lines, with a count for each of the first rows.
 #[derive(Drop)]
 pub(crate) struct Tally {
+    items: Vec<Item>,
     counts: Vec<usize>,
 }
 
 impl Model for Tally {
-    ghost use Rattle.std.specs.Prelude.{List, ℕ};
+    ghost use Rattle.std.specs.Prelude.{List};
+    ghost use Rattle.cm_board.specs.Items.{ItemText};
+    ghost use Rattle.cm_board_text.specs.Counts.{AreCounts};
 
-    ghost Value = { List ℕ };
+    ghost Value = { List ItemText };
 
-    ghost view = { λ t. t.counts.items };
+    ghost view = { λ t. t.items.items };
+
+    ghost invariant = { λ t. AreCounts t.counts.items t.items.items };
 }
 
 impl Tally {
-    ghost use Rattle.std.specs.Prelude.{◌≡◌, ◌++◌, ◌∷◌, [], length, IfOk};
+    ghost use Rattle.std.specs.Prelude.{◌≡◌, ◌++◌, ◌∷◌, [], length, IfOk, OnOk};
     ghost use Rattle.cm_board.specs.Slots.{of_row};
-    ghost use Rattle.cm_board_text.specs.Counts.{AreCounts};
 
-    /// No lines of so many rows.
+    /// No lines, with counts for so many rows.
     pub(crate) fn new(alloc: Global, rows: usize) -> Result<Tally, AllocError>
-        ensures { IfOk result (λ tally. AreCounts tally []) }
+        ensures { IfOk result (λ tally. tally ≡ []) }
     {
+        let counts = vec![in alloc; 0usize; rows]?;
         Ok(Tally {
-            counts: vec![in alloc; 0usize; rows]?,
+            items: Vec::new(alloc),
+            counts,
         })
     }
 
-    /// How many of these lines are of the row at a place.
-    pub(crate) fn count(&self, items: &[Item], at: usize) -> usize
-        requires { AreCounts self.now items.now }
-        ensures { result ≡ length (of_row at items.now) }
+    /// The lines.
+    pub(crate) fn items(&self) -> &[Item]
+        ensures { result.now ≡ self.now }
+    {
+        &self.items
+    }
+
+    /// How many of them are of the row at a place.
+    pub(crate) fn count(&self, at: usize) -> usize
+        ensures { result ≡ length (of_row at self.now) }
     {
         if at < self.counts.len() {
             self.counts[at]
         } else {
-            count(items, at)
+            count(&self.items, at)
         }
     }
 
-    /// Counts another line after these.
-    pub(crate) fn add(&mut self, items: &[Item], item: &Item)
-        requires { AreCounts self.old items.now }
-        ensures { AreCounts self.new (items.now ++ item.now ∷ []) }
+    /// Adds a line.
+    pub(crate) fn push(&mut self, item: Item) -> Result<(), AllocError>
+        ensures { OnOk result (self.new ≡ self.old ++ item ∷ []) }
     {
         let row = item.row;
+        self.items.push(item)?;
         if row < self.counts.len() {
             self.counts[row] += 1;
         }
+        Ok(())
     }
-}
-
-/// The counts of these lines.
-pub(crate) fn tally_of(alloc: Global, rows: usize, items: &[Item]) -> Result<Tally, AllocError>
-    ensures { IfOk result (λ tally. AreCounts tally items.now) }
-{
-    let mut tally = Tally::new(alloc, rows)?;
-    let mut at = 0;
-    for item in items {
-        tally.add(&items[..at], item);
-        at += 1;
-    }
-    Ok(tally)
 }
 
 // How many of these lines are of the row at a place.

@@ -1,13 +1,12 @@
 // The lines of a block together: the rows that are laid out for it, and what holds without a line.
-ghost use Rattle.std.specs.Prelude.{◌≡◌, ◌++◌, IfOk, OnOk, map};
+ghost use Rattle.std.specs.Prelude.{◌≡◌, ◌++◌, ◌∷◌, [], IfOk, OnOk, if◌then◌else◌, map};
 ghost use Rattle.cm_base.specs.Reading.{seen};
 ghost use Rattle.cm_board.specs.Slots.{default_of, filled, lacks, of_row, slots_from, takes, whole};
 ghost use Rattle.cm_board.specs.Table as table;
 ghost use Rattle.cm_board.specs.Table.{table_text};
-ghost use Rattle.cm_board_text.specs.Counts.{AreCounts};
 ghost use Rattle.cm_board_text.specs.Reading.{completed};
 
-use crate::tally::{Tally, tally_of};
+use crate::tally::Tally;
 use cm_base::faults::Fault;
 use cm_board::items::Item;
 use cm_board::table::{Absent, Head, Place, Row, Table, Value};
@@ -27,61 +26,46 @@ fn no_row() -> Row
     }
 }
 
-// A row as it is laid out for the subdevice as a whole.
-fn own_row(row: &Row) -> Row
-    ensures { result ≡ table.own_row row.now }
+// A row as it is laid out for a channel, or for the subdevice as a whole.
+fn laid_row(row: &Row, of_channel: bool) -> Row
+    ensures { result ≡ (if of_channel then table.channel_row else table.own_row) row.now }
 {
-    if row.of_channel { no_row() } else { *row }
-}
-
-// A row as it is laid out for a channel.
-fn channel_row(row: &Row) -> Row
-    ensures { result ≡ table.channel_row row.now }
-{
-    if row.of_channel { *row } else { no_row() }
-}
-
-// Adds the rows of the subdevice as a whole.
-fn put_own_rows(laid: &mut Vec<Row>, rows: &[Row]) -> Result<(), AllocError>
-    ensures { OnOk result (laid.new.items ≡ laid.old.items ++ map table.own_row rows.now) }
-{
-    for row in rows {
-        laid.push(own_row(row))?;
+    if row.of_channel == of_channel {
+        *row
+    } else {
+        no_row()
     }
-    Ok(())
 }
 
-// Adds the rows of a channel.
-fn put_channel_rows(laid: &mut Vec<Row>, rows: &[Row]) -> Result<(), AllocError>
-    ensures { OnOk result (laid.new.items ≡ laid.old.items ++ map table.channel_row rows.now) }
+// Adds the rows of a channel, or those of the subdevice as a whole.
+fn put_rows(laid: &mut Vec<Row>, rows: &[Row], of_channel: bool) -> Result<(), AllocError>
+    ensures { OnOk result (laid.new.items ≡ laid.old.items ++ map (if of_channel then table.channel_row else table.own_row) rows.now) }
 {
     for row in rows {
-        laid.push(channel_row(row))?;
+        laid.push(laid_row(row, of_channel))?;
     }
     Ok(())
 }
 
 // The rows laid out for a block in the order in which lines are printed.
-#[tactic(auto, using(crate::proofs::Laid::laid_more))]
 fn lay_out(alloc: Global, channels: u32, rows: &[Row]) -> Result<Vec<Row>, AllocError>
     ensures { IfOk result (λ laid. laid.items ≡ table.laid channels rows.now) }
 {
     let mut laid = Vec::new(alloc);
-    put_own_rows(&mut laid, rows)?;
+    put_rows(&mut laid, rows, false)?;
     for _ in 0..channels {
-        put_channel_rows(&mut laid, rows)?;
+        put_rows(&mut laid, rows, true)?;
     }
     Ok(laid)
 }
 
 // Whether a block has a line of commands.
-fn takes(rows: &[Row], items: &[Item], tally: &Tally) -> bool
-    requires { AreCounts tally.now items.now }
-    ensures { result ≡ takes (slots_from 0 rows.now items.now) }
+fn takes(rows: &[Row], lines: &Tally) -> bool
+    ensures { result ≡ takes (slots_from 0 rows.now lines.now) }
 {
     let mut at = 0;
     for row in rows {
-        if row.is_command() && tally.count(items, at) != 0 {
+        if row.is_command() && lines.count(at) != 0 {
             return true;
         }
         at += 1;
@@ -90,18 +74,31 @@ fn takes(rows: &[Row], items: &[Item], tally: &Tally) -> bool
 }
 
 // Whether a needed line is missing.
-fn lacks(rows: &[Row], head: &Head, takes: bool, items: &[Item], tally: &Tally) -> bool
-    requires { AreCounts tally.now items.now }
-    ensures { result ≡ lacks head.now takes (slots_from 0 rows.now items.now) }
+fn lacks(rows: &[Row], head: &Head, takes: bool, lines: &Tally) -> bool
+    ensures { result ≡ lacks head.now takes (slots_from 0 rows.now lines.now) }
 {
     let mut at = 0;
     for row in rows {
-        if row.is_needed(head, takes) && tally.count(items, at) == 0 {
+        if row.is_needed(head, takes) && lines.count(at) == 0 {
             return true;
         }
         at += 1;
     }
     false
+}
+
+// Adds a line of a form with these values.
+fn put_line(
+    out: &mut Vec<Item>,
+    alloc: Global,
+    row: usize,
+    form: usize,
+    values: &[Value],
+) -> Result<(), AllocError>
+    ensures { OnOk result (out.new.items ≡ out.old.items ++ record { row = row; form = form; values = values.now } ∷ []) }
+{
+    let item = Item::new(alloc, row, form, values)?;
+    Ok(out.push(item)?)
 }
 
 // The lines of one row after others.
@@ -110,8 +107,7 @@ fn copy(out: &mut Vec<Item>, alloc: Global, items: &[Item], at: usize) -> Result
 {
     for item in items {
         if item.row == at {
-            let copy = Item::new(alloc, at, item.form, item.values.as_slice())?;
-            out.push(copy)?;
+            put_line(out, alloc, item.row, item.form, item.values.as_slice())?;
         }
     }
     Ok(())
@@ -125,14 +121,12 @@ fn fill(
     takes: bool,
     at: usize,
     row: &Row,
-    items: &[Item],
-    tally: &Tally,
+    lines: &Tally,
 ) -> Result<(), AllocError>
-    requires { AreCounts tally.now items.now }
-    ensures { OnOk result (out.new.items ≡ out.old.items ++ filled head.now takes (record { at = at; row = row.now; items = of_row at items.now })) }
+    ensures { OnOk result (out.new.items ≡ out.old.items ++ filled head.now takes (record { at = at; row = row.now; items = of_row at lines.now })) }
 {
-    if tally.count(items, at) != 0 {
-        copy(out, alloc, items, at)
+    if lines.count(at) != 0 {
+        copy(out, alloc, lines.items(), at)
     } else if row.may_stand(head) && (takes || !row.is_command()) {
         put_default(out, alloc, at, row.absent)
     } else {
@@ -150,14 +144,8 @@ fn put_default(
     ensures { OnOk result (out.new.items ≡ out.old.items ++ default_of at absent) }
 {
     match absent {
-        Absent::Stands(form) => {
-            let item = Item::new(alloc, at, form, &[])?;
-            Ok(out.push(item)?)
-        }
-        Absent::Says(form, number) => {
-            let item = Item::new(alloc, at, form, &[Value::Number(number)])?;
-            Ok(out.push(item)?)
-        }
+        Absent::Stands(form) => put_line(out, alloc, at, form, &[]),
+        Absent::Says(form, number) => put_line(out, alloc, at, form, &[Value::Number(number)]),
         _ => Ok(()),
     }
 }
@@ -168,16 +156,14 @@ fn whole(
     rows: &[Row],
     head: &Head,
     takes: bool,
-    items: &[Item],
-    tally: &Tally,
+    lines: &Tally,
 ) -> Result<Vec<Item>, AllocError>
-    requires { AreCounts tally.now items.now }
-    ensures { IfOk result (λ all. all.items ≡ whole head.now takes (slots_from 0 rows.now items.now)) }
+    ensures { IfOk result (λ all. all.items ≡ whole head.now takes (slots_from 0 rows.now lines.now)) }
 {
     let mut all = Vec::new(alloc);
     let mut at = 0;
     for row in rows {
-        fill(&mut all, alloc, head, takes, at, row, items, tally)?;
+        fill(&mut all, alloc, head, takes, at, row, lines)?;
         at += 1;
     }
     Ok(all)
@@ -188,16 +174,16 @@ pub(crate) fn complete(
     alloc: Global,
     table: &Table,
     head: &Head,
-    items: &[Item],
+    lines: &Tally,
 ) -> Result<Result<Vec<Item>, Fault>, AllocError>
-    ensures { IfOk result (λ r. seen (λ all. all.items) r ≡ completed (table_text table.now) head.now items.now) }
+    ensures { IfOk result (λ r. seen (λ all. all.items) r ≡ completed (table_text table.now) head.now lines.now) }
 {
-    let rows = lay_out(alloc, head.channels, table.rows)?;
-    let tally = tally_of(alloc, rows.len(), items)?;
-    let takes = takes(&rows, items, &tally);
-    if lacks(&rows, head, takes, items, &tally) {
+    let laid = lay_out(alloc, head.channels, table.rows)?;
+    let rows: &[Row] = &laid;
+    let takes = takes(rows, lines);
+    if lacks(rows, head, takes, lines) {
         Ok(Err(Fault::Missing))
     } else {
-        Ok(Ok(whole(alloc, &rows, head, takes, items, &tally)?))
+        Ok(Ok(whole(alloc, rows, head, takes, lines)?))
     }
 }

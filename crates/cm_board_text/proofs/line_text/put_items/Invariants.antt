@@ -1,9 +1,10 @@
-use Rattle.std.proofs.Common.{◌≡◌, ◌++◌, flat_map, take}
-use Rattle.cm_base.specs.WrittenLines.{written_line}
-use Rattle.cm_board_text.specs.Printed.{item_words}
+use Rattle.std.proofs.Common.{◌≡◌, ◌++◌, drop}
+use Rattle.cm_board_text.specs.Printed.{items_text}
 use Rattle.cm_board.specs.Table.{table_text}
 use Rattle.cm_board_text.proofs.line_text.put_items.Given as goal
 
--- the lines so far
+-- the lines so far, and those that are left
 abbrev pub invariant-loop-item : goal.invariant-loop-item
-invariant-loop-item l = l.out.items ≡ l.initial.out.items ++ flat_map (λ item. written_line (item_words (table_text l.table) item)) (take l.item-index l.items)
+invariant-loop-item l =
+    l.initial.out.items ++ items_text (table_text l.table) l.items
+    ≡ l.out.items ++ items_text (table_text l.table) (drop l.item-index l.items)

@@ -3,8 +3,9 @@ use Rattle.std.specs.List.{position_or_len}
 use Rattle.cm_base.specs.LineView.{line_view}
 use Rattle.cm_base.specs.ReadStop.{Stops}
 use Rattle.cm_base.specs.declared.lines.Line.{Line}
+use Rattle.cm_base.proofs.Each.{stops-along}
 use Rattle.cm_board_text.specs.BoardPart.{ends_block, is_part_end, next_block}
-use Rattle.cm_board_text.proofs.Blocks.{Stands, at_signals, block_between, block_stops, block_reported, left_over, stops_same, sub_pushed, within_lines}
+use Rattle.cm_board_text.proofs.Blocks.{Stands, at_signals, block_between, block_stops, block_reported, left_over, sub_pushed, within_lines}
 use Rattle.cm_board_text.proofs.reading.read_blocks.Goals as goal
 
 pub returns-in-Err : goal.returns-in-Err
@@ -20,7 +21,7 @@ returns-in-Err c =
     } in
     let counted : length c.loop-alloc.subs.items ≡ c.len.result = omega (arith, c.len.ensures) in
     let said : Stops c.in-Err.stop (next_block c.args.version c.args.end (length c.loop-alloc.subs.items) (line_view c.index-lines-at.result) (map line_view (drop (c.loop-alloc.at + 1) c.args.lines.now))) =
-    stops_same c.in-Err.stop _ _ (ap₂ (λ (n : ℕ) (ls : List Line). next_block c.args.version c.args.end n (line_view c.index-lines-at.result) (map line_view ls)) counted (sym c.lines_from-after.ensures.lines)) c.in-Err.ensures in
+    stops-along c.in-Err.stop _ _ (ap₂ (λ (n : ℕ) (ls : List Line). next_block c.args.version c.args.end n (line_view c.index-lines-at.result) (map line_view ls)) counted (sym c.lines_from-after.ensures.lines)) c.in-Err.ensures in
     rw c.loop-alloc.invariant.reported (block_stops c.args.version c.args.end (length c.loop-alloc.subs.items) (c.loop-alloc.subs.items) c.args.lines.now c.loop-alloc.at c.block_len-inside.result c.index-lines-at.result c.in-Err.stop stands said)
 
 pub loop-alloc-preserved : goal.loop-alloc-preserved

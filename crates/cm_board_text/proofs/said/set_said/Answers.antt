@@ -1,4 +1,4 @@
-use Rattle.std.proofs.Common.{◌≡◌, ℕ, ◌+◌, ◌-◌, List, map, ap, ◌∙◌, arith}
+use Rattle.std.proofs.Common.{◌≡◌, ℕ, ◌+◌, List, map, ap, ◌∙◌, arith}
 use Rattle.cm_board.specs.Items.{ItemText}
 use Rattle.cm_board.specs.Said.{channel_place, first_of, greatest, munge_said, number_at, range_said}
 use Rattle.cm_board.specs.Slots.{of_row}

@@ -1,0 +1,12 @@
+use Rattle.std.proofs.Common.{List, map, sym}
+use Rattle.std.specs.List.{list_any}
+use Rattle.cm_board.specs.Table.{form_text}
+use Rattle.cm_board.specs.declared.table.Form.{Form}
+use Rattle.cm_board_text.specs.Reading.{is_begun}
+use Rattle.cm_board_text.proofs.BoardPieces.{none_left}
+use Rattle.cm_board_text.proofs.lines.is_begun.Goals as goal
+
+pub returns : goal.returns
+returns c =
+    sym (none_left (λ (forms : List Form). list_any (is_begun c.args.table.now.rows.now c.args.head.now (map (λ word. word.now) c.args.words.now)) (map form_text forms)) _
+    c.args.table.now.forms.now c.loop-form.form-index c.loop-form-test.false c.loop-form.invariant)
