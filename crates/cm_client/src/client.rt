@@ -1,5 +1,5 @@
 // The client's worker, and the munger's beside it.
-ghost use Rattle.std.specs.Prelude.{◌≡◌, [], IfOk, IfErr, OnErr, true};
+ghost use Rattle.std.specs.Prelude.{◌≡◌, [], IfErr, IfOk, IsErr, OnErr, true};
 ghost use Rattle.cm_client.specs.Progress.{Accepts, IsSameRing};
 ghost use Rattle.cm_client.specs.Streamed.{HasAsked, IsFresh, StreamsTo};
 
@@ -105,6 +105,7 @@ fn read_line<R: Wait + Sync, P: Planned, C: Consumer, W: Waiting, G: Gate>(
     requires accepts { Accepts (C.accepts consumer) reader.ring }
     ensures streamed { IfOk result (λ s. StreamsTo (C.made s.samples) (C.makes consumer) reader.ring reads.take s.end s.reader) }
     ensures gave_up { IfErr result (λ g. HasAsked reader g.reader) }
+    ensures refused { other ≡ Worker.Refused → IsErr result }
 {
     if other == Worker::Refused {
         return Err(give_up(reader));
@@ -140,6 +141,7 @@ pub fn run_client<
     requires accepts { Accepts (C.accepts consumer) side.reader.ring }
     ensures streamed { IfOk result (λ s. StreamsTo (C.made s.samples) (C.makes consumer) side.reader.ring reads.take s.end s.reader) }
     ensures gave_up { IfErr result (λ g. HasAsked side.reader g.reader) }
+    ensures refused { other ≡ Worker.Refused → IsErr result }
 {
     let ClientSide { munger, reader } = side;
     if other == Worker::Refused {
@@ -200,6 +202,7 @@ pub fn run_munging_client<R: Wait + Sync, P: Planned, C: Consumer, G: Gate>(
     requires accepts { Accepts (C.accepts consumer) side.reader.ring }
     ensures streamed { IfOk result (λ s. StreamsTo (C.made s.samples) (C.makes consumer) side.reader.ring reads.take s.end s.reader) }
     ensures gave_up { IfErr result (λ g. HasAsked side.reader g.reader) }
+    ensures refused { other ≡ Worker.Refused → IsErr result }
 {
     let ClientSide { munger, reader } = side;
     let waiting = OwnMunger::new(munger);
