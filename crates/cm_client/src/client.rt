@@ -1,5 +1,5 @@
 // The client's worker, and the munger's beside it.
-ghost use Rattle.std.specs.Prelude.{◌≡◌, [], IfOk, IfErr, OnErr, true};
+ghost use Rattle.std.specs.Prelude.{◌≡◌, [], IfErr, IfOk, IsErr, OnErr, true};
 ghost use Rattle.cm_client.specs.Progress.{Accepts, IsSameRing};
 ghost use Rattle.cm_client.specs.Streamed.{HasAsked, IsFresh, StreamsTo};
 

@@ -1,5 +1,6 @@
 -- What is asked of a run, and how many samples it moves.
-use Rattle.std.specs.Prelude.{◌≡◌, ℕ, ◌+◌, ◌*◌, ◌/◌, ◌%◌, ◌^◌, ◌<◌, max, true, false, List, [], ◌∷◌, Option, Some, None, String, codes}
+use Rattle.std.specs.Prelude.{◌≡◌, ℕ, ◌+◌, ◌*◌, ◌/◌, ◌%◌, ◌^◌, ◌<◌, max}
+use Rattle.std.specs.Prelude.{true, false, List, [], ◌∷◌, Option, Some, None, String, codes}
 use Rattle.std.specs.Option.{SomeIff}
 use Rattle.std.specs.String.{string_bytes}
 use Rattle.std.specs.Str.Parse.{IsNumeral, digits_value, without_leading_plus}
@@ -29,10 +30,11 @@ Asks (samples ∷ rounds ∷ times ∷ []) asked =
     (record { samples = number_of (string_bytes samples); rounds = number_of (string_bytes rounds); times = true })
 Asks words asked = asked ≡ None
 
--- how many samples go through a ring of a few cells, and of 64
+-- how many samples go through a ring of one to three cells
 abbrev pub few_of : ℕ → ℕ
 few_of samples = max (samples / 1000) 1
 
+-- and through one of 64
 abbrev pub some_of : ℕ → ℕ
 some_of samples = max (samples / 10) 1
 

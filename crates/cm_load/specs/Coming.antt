@@ -48,11 +48,12 @@ both one other = record {
   done = one.done && other.done;
 }
 
--- what comes of the words at places, by two rings and by four
+-- what comes of the words at places through two rings
 abbrev pub came_by_two : ℕ → Stretch → List ℕ → Came
 came_by_two maxdata places words =
     both (came_at maxdata (front_half places) words) (came_at maxdata (back_half places) words)
 
+-- and through four
 abbrev pub came_by_four : ℕ → Stretch → List ℕ → Came
 came_by_four maxdata places words =
     both (came_by_two maxdata (front_half places) words) (came_by_two maxdata (back_half places) words)

@@ -1,5 +1,6 @@
 -- The words that are moved, and what is compared.
-use Rattle.std.specs.Prelude.{◌≡◌, ◌⊎◌, ℕ, zero, suc, ◌+◌, ◌-◌, ◌*◌, ◌/◌, ◌%◌, ◌^◌, bit_and, nat_eq, List, [], ◌∷◌, ◌++◌, take, drop}
+use Rattle.std.specs.Prelude.{◌≡◌, ◌⊎◌, ℕ, zero, suc, ◌+◌, ◌-◌, ◌*◌, ◌/◌}
+use Rattle.std.specs.Prelude.{◌%◌, ◌^◌, bit_and, nat_eq, List, [], ◌∷◌, ◌++◌, take, drop}
 use Rattle.std.specs.Prelude.{if◌then◌else◌}
 use Rattle.cm_load.specs.declared.words.Stretch.{Stretch}
 
@@ -25,10 +26,11 @@ abbrev pub differing : (ℕ → ℕ) → (ℕ → ℕ) → ℕ → ℕ
 differing f g zero = 0
 differing f g (suc n) = differing f g n + (if nat_eq (f n) (g n) then 0 else 1)
 
--- the halves of consecutive places
+-- the first half of consecutive places
 abbrev pub front_half : Stretch → Stretch
 front_half places = record { first = places.first; count = places.count / 2 }
 
+-- the other half
 abbrev pub back_half : Stretch → Stretch
 back_half places = record {
   first = (places.first + places.count / 2) % 2 ^ 32;
