@@ -1,11 +1,21 @@
 -- The lines of a job beside each other.
-use Rattle.std.specs.Prelude.{◌≡◌, ℕ, List, length, slice_get, Some}
+use Rattle.std.specs.Prelude.{◌≡◌, ℕ, List, length, slice_get, IfSome, Some}
 use Rattle.cm_board.specs.Board.{BoardText}
-use Rattle.cm_sub.specs.Owning.{OwnersText}
+use Rattle.cm_job.specs.Calls.{cmd_of}
+use Rattle.cm_job.specs.declared.line.RunLine.{RunLine}
+use Rattle.cm_sub.specs.Owning.{Holds, OwnersText, SeatText}
 
 -- the owners have a place for each subdevice of the board
 abbrev pub HasPlaces : BoardText → OwnersText → Type 0
 HasPlaces board owners = length owners.channels ≡ length board.subs
+
+-- the number of the subdevice of the line at a place
+abbrev pub IsSub : List RunLine → ℕ → ℕ → Type 0
+IsSub lines place sub = IfSome (slice_get lines place) (λ line. sub ≡ (cmd_of line).sub)
+
+-- the seat holds the subdevice of the line at a place
+abbrev pub HoldsLine : List RunLine → ℕ → SeatText → Type 0
+HoldsLine lines place seat = IfSome (slice_get lines place) (λ line. Holds (cmd_of line).sub seat.holds)
 
 -- so many are made, each of which may be what is made at its place
 pub record AreMade {D : Type 0} (may : ℕ → D → Type 0) (count : ℕ) (made : List D) : Type 0 where

@@ -2,7 +2,7 @@
 ghost use Rattle.std.specs.Prelude.{◌≡◌, ◌<◌, ◌≤◌, ℕ, [], length, IfOk, Ok};
 ghost use Rattle.std.specs.Thread.{IsSend, IsSync};
 ghost use Rattle.cm_client.specs.Idle.{IsIdle};
-ghost use Rattle.cm_run.specs.Lines.{AreMade, HasPlaces};
+ghost use Rattle.cm_run.specs.Lines.{AreMade, HasPlaces, HoldsLine, IsSub};
 
 use cm_base::transfer::NoMemory;
 use cm_client::claiming::{another_seat, claim_waiting};
@@ -16,18 +16,19 @@ use std::thread::{Threads, join};
 // The subdevice of the line at a place.
 fn sub_at(job: &RunJob, place: usize) -> u32
     requires place { place < length job.now.lines }
-    ensures { result < length job.now.board.subs }
+    ensures sub { IsSub job.now.lines place result }
+    ensures place { result < length job.now.board.subs }
 {
     job.lines[place].sub()
 }
 
-// The thread of the line at a place: it has its subdevice from before its ring is opened until its
-// workers have ended. Its stream borrows what the subdevice keeps, which the claim gave and which goes back
-// with it.
+// The thread of the line at a place: its seat holds its subdevice from before its ring is opened until its
+// workers have ended. Its stream borrows the seat, and what the subdevice keeps, which the claim gave and which
+// goes back with it.
 fn line_work<
     R: Threads + Wait + Sync,
     D: Send + Drop,
-    F: Fn(usize, &SubState) -> Result<D, NoMemory> + Sync,
+    F: Fn(usize, &OwnerSeat, &SubState) -> Result<D, NoMemory> + Sync,
 >(
     rt: &R,
     owners: &Owners,
@@ -39,25 +40,24 @@ fn line_work<
     requires idle { IsIdle owners.now seat.old }
     requires places { HasPlaces job.now.board owners.now }
     requires place { place < length job.now.lines }
-    requires can { (held : _) → F.pre stream.now place held }
-    ensures made { (held : _) × F.post stream.now place held result }
+    requires can { (by held : _) → HoldsLine job.now.lines place by.now → F.pre stream.now place by held }
+    ensures made { (by held : _) × F.post stream.now place by held result }
     ensures idle { IsIdle owners.now seat.new }
 {
     let sub = sub_at(job, place);
     let state = claim_waiting(rt, owners, seat, sub);
-    let made = stream(place, &state);
+    let made = stream(place, seat, &state);
     owners.give_back(seat, sub, state);
     made
 }
 
-/// Streams the first `count` lines of a job beside each other, each by a call of `stream` with its place
-/// and what its subdevice keeps, and answers after all have ended: what the calls have made, in the order of
+/// Streams the first `count` lines of a job beside each other, each by a call of `stream` with its place, a
+/// seat that holds its subdevice and what that keeps, and answers after all have ended: what the calls have made, in the order of
 /// the lines.
-#[tactic(auto, using(crate::proofs::Made::made_more))]
 pub(crate) fn lines_up_to<
     R: Threads + Wait + Sync,
     D: Send + Drop,
-    F: Fn(usize, &SubState) -> Result<D, NoMemory> + Sync,
+    F: Fn(usize, &OwnerSeat, &SubState) -> Result<D, NoMemory> + Sync,
 >(
     rt: &R,
     alloc: Global,
@@ -70,8 +70,8 @@ pub(crate) fn lines_up_to<
     requires idle { IsIdle owners.now seat }
     requires places { HasPlaces job.now.board owners.now }
     requires count { count ≤ length job.now.lines }
-    requires can { (place : ℕ) → place < count → (held : _) → F.pre stream.now place held }
-    ensures { IfOk result (λ made. AreMade (λ place one. (held : _) × F.post stream.now place held (Ok one)) count made.items) }
+    requires can { (place : ℕ) → place < count → (by held : _) → HoldsLine job.now.lines place by.now → F.pre stream.now place by held }
+    ensures { IfOk result (λ made. AreMade (λ place one. (by held : _) × F.post stream.now place by held (Ok one)) count made.items) }
 {
     if count == 0 {
         return Ok(Vec::new(alloc));
@@ -81,15 +81,15 @@ pub(crate) fn lines_up_to<
     let (one, before) = join(
         rt,
         move || -> Result<D, NoMemory>
-            requires { IsIdle owners.now theirs × HasPlaces job.now.board owners.now × (last < length job.now.lines) × ((held : _) → F.pre stream.now last held) }
-            ensures { (held : _) × F.post stream.entry.now last held result }
+            requires { IsIdle owners.now theirs × HasPlaces job.now.board owners.now × (last < length job.now.lines) × ((by held : _) → HoldsLine job.now.lines last by.now → F.pre stream.now last by held) }
+            ensures { (by held : _) × F.post stream.entry.now last by held result }
         {
             let mut seat = theirs;
             line_work(rt, owners, &mut seat, job, last, stream)
         },
         move || -> Result<Vec<D>, NoMemory>
-            requires { IsSync R.row × IsSync F.row × IsSend D.row × IsIdle owners.now seat × HasPlaces job.now.board owners.now × (last ≤ length job.now.lines) × ((place : ℕ) → place < last → (held : _) → F.pre stream.now place held) }
-            ensures { IfOk result (λ made. AreMade (λ place one. (held : _) × F.post stream.entry.now place held (Ok one)) last made.items) }
+            requires { IsSync R.row × IsSync F.row × IsSend D.row × IsIdle owners.now seat × HasPlaces job.now.board owners.now × (last ≤ length job.now.lines) × ((place : ℕ) → place < last → (by held : _) → HoldsLine job.now.lines place by.now → F.pre stream.now place by held) }
+            ensures { IfOk result (λ made. AreMade (λ place one. (by held : _) × F.post stream.entry.now place by held (Ok one)) last made.items) }
         { lines_up_to(rt, alloc, owners, seat, job, last, stream) },
     );
     let mut made = before?;

@@ -2,7 +2,7 @@
 ghost use Rattle.std.specs.Prelude.{◌≡◌, ◌<◌, ℕ, length, slice_get, IfOk, IfSome, Ok};
 ghost use Rattle.std.specs.List.{AllZip};
 ghost use Rattle.cm_block.specs.RunText.{IsRunText};
-ghost use Rattle.cm_run.specs.Lines.{AreMade};
+ghost use Rattle.cm_run.specs.Lines.{AreMade, HoldsLine};
 ghost use Rattle.cm_run.specs.Ran.{HaveRun, LineRan, as_list};
 ghost use Rattle.cm_job.specs.RunLines.{CanRun};
 
@@ -19,22 +19,22 @@ use cm_expand::call::plan_of;
 use cm_job::job::RunJob;
 use cm_job::line::RunLine;
 use cm_signal::signals::Signals;
-use cm_sub::owners::Owners;
+use cm_sub::owners::{OwnerSeat, Owners};
 use cm_sub::state::SubState;
 use std::alloc::Global;
 use std::sync::Wait;
 use std::thread::Threads;
 
 /// Streams the lines of a job beside each other, each over its own subdevice and by a call of `stream`
-/// with its place and what the subdevice keeps, and answers after all have ended: what the calls have made, in
+/// with its place, a seat that holds the subdevice and what that keeps, and answers after all have ended: what the calls have made, in
 /// the order of the lines.
 pub(crate) fn stream_lines<
     R: Threads + Wait + Sync,
     D: Send + Drop,
-    F: Fn(usize, &SubState) -> Result<D, NoMemory> + Sync,
+    F: Fn(usize, &OwnerSeat, &SubState) -> Result<D, NoMemory> + Sync,
 >(rt: &R, alloc: Global, job: &RunJob, stream: &F) -> Result<Vec<D>, NoMemory>
-    requires { (place : ℕ) → place < length job.now.lines → (held : _) → F.pre stream.now place held }
-    ensures { IfOk result (λ made. AreMade (λ place one. (held : _) × F.post stream.now place held (Ok one)) (length job.now.lines) made.items) }
+    requires { (place : ℕ) → place < length job.now.lines → (by held : _) → HoldsLine job.now.lines place by.now → F.pre stream.now place by held }
+    ensures { IfOk result (λ made. AreMade (λ place one. (by held : _) × F.post stream.now place by held (Ok one)) (length job.now.lines) made.items) }
 {
     let states = states_of(alloc, &job.board.subs)?;
     let (owners, seat) = Owners::open(alloc, states)?;
@@ -100,7 +100,10 @@ fn run_lines<'a, R: Threads + Wait + Sync, G: Gate + Sync>(
 ) -> Result<Vec<LineDone<'a>>, NoMemory>
     ensures { IfOk result (λ made. AllZip (λ line d. LineRan job.now.board job.now.signals line d.block.items (as_list d.reader)) job.now.lines made.items) }
 {
-    let stream = move |place: usize, _held: &SubState| -> Result<LineDone<'_>, NoMemory>
+    let stream = move |place: usize, _by: &OwnerSeat, _held: &SubState| -> Result<
+        LineDone<'_>,
+        NoMemory,
+    >
         requires { place < length job.now.lines }
         ensures { IfSome (slice_get job.entry.now.lines place) (λ line. IfOk result (λ d. LineRan job.entry.now.board job.entry.now.signals line d.block.items (as_list d.reader))) }
     { line_at(rt, alloc, job, place, gate) };

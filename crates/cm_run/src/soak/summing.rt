@@ -20,6 +20,7 @@ use cm_job::job::RunJob;
 use cm_job::line::{Mode, RunLine};
 use cm_ring::reader::Reader;
 use cm_signal::signals::Signals;
+use cm_sub::owners::OwnerSeat;
 use cm_sub::state::SubState;
 use std::alloc::Global;
 use std::sync::Wait;
@@ -106,7 +107,10 @@ pub(crate) fn summed_lines<'a, R: Threads + Wait + Sync, G: Gate + Sync>(
     requires { All spec.IsSoakLine job.now.lines }
     ensures { IfOk result (λ made. AllZip (λ line d. spec.HasSummed (calls.plan_of job.now.board job.now.signals line) d.part d.reader) job.now.lines made.items) }
 {
-    let stream = move |place: usize, _held: &SubState| -> Result<Summed<'_>, NoMemory>
+    let stream = move |place: usize, _by: &OwnerSeat, _held: &SubState| -> Result<
+        Summed<'_>,
+        NoMemory,
+    >
         requires { (place < length job.now.lines) × All spec.IsSoakLine job.now.lines }
         ensures { IfSome (slice_get job.entry.now.lines place) (λ line. IfOk result (λ d. spec.HasSummed (calls.plan_of job.entry.now.board job.entry.now.signals line) d.part d.reader)) }
     { line_at(rt, alloc, job, place, gate) };
