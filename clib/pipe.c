@@ -116,7 +116,7 @@ static char *next_line(void)
 
 static int is_last(const char *line)
 {
-	static const char *const words[] = { "ok", "err", "step", "refused" };
+	static const char *const words[] = { "ok", "err", "refused" };
 	for (size_t i = 0; i < sizeof words / sizeof *words; i++) {
 		size_t length = strlen(words[i]);
 		if (!strncmp(line, words[i], length) && (line[length] == ' ' || !line[length]))
