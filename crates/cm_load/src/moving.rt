@@ -108,7 +108,8 @@ fn read_beside<R: Threads + Wait + Sync, P: Planned + Send + Sync>(
     maxdata: u32,
 ) -> Result<Came, GaveUp<P>>
     requires { IsFresh reader }
-    ensures { IfOk result (λ c. HasCome reader.ring first maxdata c) }
+    ensures come { IfOk result (λ c. HasCome reader.ring first maxdata c) }
+    ensures started { IfOk result (λ _. other ≡ Worker.Started) }
 {
     if other == Worker::Refused {
         return Err(give_up(reader));
@@ -119,7 +120,7 @@ fn read_beside<R: Threads + Wait + Sync, P: Planned + Send + Sync>(
         move || munge_work(rt, munger),
         move |munging| -> Result<Came, GaveUp<P>>
             requires { IsFresh reader }
-            ensures { IfOk result (λ c. HasCome reader.ring first maxdata c) }
+            ensures { IfOk result (λ c. HasCome reader.ring first maxdata c) × IfOk result (λ _. munging ≡ Worker.Started) }
         {
             if munging == Worker::Refused {
                 return Err(give_up(reader));
