@@ -58,12 +58,6 @@ abbrev pub came_by_four : ℕ → Stretch → List ℕ → Came
 came_by_four maxdata places words =
     both (came_by_two maxdata (front_half places) words) (came_by_two maxdata (back_half places) words)
 
--- all of so many samples came, each as it must be
-pub record IsWhole (came : Came) (samples : ℕ) : Type 0 where
-  pub count : came.count ≡ samples
-  pub right : came.wrong ≡ 0
-  pub done : came.done ≡ true
-
--- the same as what came
+-- what comes where all of so many samples come, each as it must be
 abbrev pub all_of : ℕ → Came
 all_of samples = record { count = samples; wrong = 0; done = true }

@@ -1,6 +1,6 @@
 // A reader that compares each sample with what it must be.
 ghost use Rattle.std.specs.Prelude.{◌≡◌, ◌+◌, ◌-◌, ◌%◌, ◌^◌, ◌≤◌, min, IsTrue, ◌↔◌};
-ghost use Rattle.cm_load.specs.Coming.{HasCome, IsFresh, IsWhole, both};
+ghost use Rattle.cm_load.specs.Coming.{HasCome, IsFresh, all_of, both};
 ghost use Rattle.cm_load.specs.Words.{differing, place_code};
 ghost use Rattle.cm_ring_core.specs.Lawful.{munged_at};
 
@@ -14,7 +14,7 @@ use std::sync::Wait;
 // How many samples are mapped at once.
 const PIECE: u32 = 256;
 
-// After fewer samples the reader steps back, so that the munger gets ahead.
+// After fewer samples the reader steps back.
 const SMALL: u32 = 16;
 
 /// What came out of a ring.
@@ -42,7 +42,7 @@ impl Came {
 
     /// Whether all of so many samples came, each as it must be.
     pub fn is_whole(self, samples: u32) -> bool
-        ensures { IsTrue result ↔ IsWhole self samples }
+        ensures { IsTrue result ↔ (self ≡ all_of samples) }
     {
         self.count == samples && self.wrong == 0 && self.done
     }
@@ -80,6 +80,13 @@ fn read_piece<P: Planned>(reader: &mut Reader<P>, came: &mut Came, first: u32, m
     count
 }
 
+// Lets the munger get ahead after a small piece.
+fn step_back(backoff: &Backoff, count: u32) {
+    if count < SMALL {
+        backoff.snooze();
+    }
+}
+
 /// Reads to the end, and compares each sample with that of its place: the first one is that of the
 /// place `first`.
 pub fn compare_all<R: Wait + Sync, P: Planned>(
@@ -104,9 +111,8 @@ pub fn compare_all<R: Wait + Sync, P: Planned>(
                 break;
             }
         }
-        if read_piece(&mut reader, &mut came, first, maxdata) < SMALL {
-            backoff.snooze();
-        }
+        let count = read_piece(&mut reader, &mut came, first, maxdata);
+        step_back(&backoff, count);
     }
     came
 }

@@ -40,8 +40,8 @@ fn line_work<
     requires idle { IsIdle owners.now seat.old }
     requires places { HasPlaces job.now.board owners.now }
     requires place { place < length job.now.lines }
-    requires can { (by held : _) → HoldsLine job.now.lines place by.now → F.pre stream.now place by held }
-    ensures made { (by held : _) × F.post stream.now place by held result }
+    requires can { (holder held : _) → HoldsLine job.now.lines place holder.now → F.pre stream.now place holder held }
+    ensures made { (holder held : _) × F.post stream.now place holder held result }
     ensures idle { IsIdle owners.now seat.new }
 {
     let sub = sub_at(job, place);
@@ -52,8 +52,8 @@ fn line_work<
 }
 
 /// Streams the first `count` lines of a job beside each other, each by a call of `stream` with its place, a
-/// seat that holds its subdevice and what that keeps, and answers after all have ended: what the calls have made, in the order of
-/// the lines.
+/// seat that holds its subdevice and what that keeps. Answers after all have ended: what the calls have
+/// made, in the order of the lines.
 pub(crate) fn lines_up_to<
     R: Threads + Wait + Sync,
     D: Send + Drop,
@@ -70,8 +70,8 @@ pub(crate) fn lines_up_to<
     requires idle { IsIdle owners.now seat }
     requires places { HasPlaces job.now.board owners.now }
     requires count { count ≤ length job.now.lines }
-    requires can { (place : ℕ) → place < count → (by held : _) → HoldsLine job.now.lines place by.now → F.pre stream.now place by held }
-    ensures { IfOk result (λ made. AreMade (λ place one. (by held : _) × F.post stream.now place by held (Ok one)) count made.items) }
+    requires can { (place : ℕ) → place < count → (holder held : _) → HoldsLine job.now.lines place holder.now → F.pre stream.now place holder held }
+    ensures { IfOk result (λ made. AreMade (λ place one. (holder held : _) × F.post stream.now place holder held (Ok one)) count made.items) }
 {
     if count == 0 {
         return Ok(Vec::new(alloc));
@@ -81,15 +81,15 @@ pub(crate) fn lines_up_to<
     let (one, before) = join(
         rt,
         move || -> Result<D, NoMemory>
-            requires { IsIdle owners.now theirs × HasPlaces job.now.board owners.now × (last < length job.now.lines) × ((by held : _) → HoldsLine job.now.lines last by.now → F.pre stream.now last by held) }
-            ensures { (by held : _) × F.post stream.entry.now last by held result }
+            requires { IsIdle owners.now theirs × HasPlaces job.now.board owners.now × (last < length job.now.lines) × ((holder held : _) → HoldsLine job.now.lines last holder.now → F.pre stream.now last holder held) }
+            ensures { (holder held : _) × F.post stream.entry.now last holder held result }
         {
             let mut seat = theirs;
             line_work(rt, owners, &mut seat, job, last, stream)
         },
         move || -> Result<Vec<D>, NoMemory>
-            requires { IsSync R.row × IsSync F.row × IsSend D.row × IsIdle owners.now seat × HasPlaces job.now.board owners.now × (last ≤ length job.now.lines) × ((place : ℕ) → place < last → (by held : _) → HoldsLine job.now.lines place by.now → F.pre stream.now place by held) }
-            ensures { IfOk result (λ made. AreMade (λ place one. (by held : _) × F.post stream.entry.now place by held (Ok one)) last made.items) }
+            requires { IsSync R.row × IsSync F.row × IsSend D.row × IsIdle owners.now seat × HasPlaces job.now.board owners.now × (last ≤ length job.now.lines) × ((place : ℕ) → place < last → (holder held : _) → HoldsLine job.now.lines place holder.now → F.pre stream.now place holder held) }
+            ensures { IfOk result (λ made. AreMade (λ place one. (holder held : _) × F.post stream.entry.now place holder held (Ok one)) last made.items) }
         { lines_up_to(rt, alloc, owners, seat, job, last, stream) },
     );
     let mut made = before?;

@@ -26,15 +26,15 @@ use std::sync::Wait;
 use std::thread::Threads;
 
 /// Streams the lines of a job beside each other, each over its own subdevice and by a call of `stream`
-/// with its place, a seat that holds the subdevice and what that keeps, and answers after all have ended: what the calls have made, in
-/// the order of the lines.
+/// with its place, a seat that holds the subdevice and what that keeps. Answers after all have ended: what
+/// the calls have made, in the order of the lines.
 pub(crate) fn stream_lines<
     R: Threads + Wait + Sync,
     D: Send + Drop,
     F: Fn(usize, &OwnerSeat, &SubState) -> Result<D, NoMemory> + Sync,
 >(rt: &R, alloc: Global, job: &RunJob, stream: &F) -> Result<Vec<D>, NoMemory>
-    requires { (place : ℕ) → place < length job.now.lines → (by held : _) → HoldsLine job.now.lines place by.now → F.pre stream.now place by held }
-    ensures { IfOk result (λ made. AreMade (λ place one. (by held : _) × F.post stream.now place by held (Ok one)) (length job.now.lines) made.items) }
+    requires { (place : ℕ) → place < length job.now.lines → (holder held : _) → HoldsLine job.now.lines place holder.now → F.pre stream.now place holder held }
+    ensures { IfOk result (λ made. AreMade (λ place one. (holder held : _) × F.post stream.now place holder held (Ok one)) (length job.now.lines) made.items) }
 {
     let states = states_of(alloc, &job.board.subs)?;
     let (owners, seat) = Owners::open(alloc, states)?;
@@ -100,7 +100,7 @@ fn run_lines<'a, R: Threads + Wait + Sync, G: Gate + Sync>(
 ) -> Result<Vec<LineDone<'a>>, NoMemory>
     ensures { IfOk result (λ made. AllZip (λ line d. LineRan job.now.board job.now.signals line d.block.items (as_list d.reader)) job.now.lines made.items) }
 {
-    let stream = move |place: usize, _by: &OwnerSeat, _held: &SubState| -> Result<
+    let stream = move |place: usize, _holder: &OwnerSeat, _held: &SubState| -> Result<
         LineDone<'_>,
         NoMemory,
     >

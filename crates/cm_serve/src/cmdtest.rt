@@ -7,7 +7,7 @@ use cm_board::board::BoardDesc;
 use cm_cmd::command::Cmd;
 use cm_running::text::put_spaced;
 use cm_sub::errno::put_refused;
-use cm_test::testing::test_copy;
+use cm_test::testing::test_on;
 use std::alloc::Global;
 
 // The step that a command fails, or 0, and its triggers.
@@ -44,8 +44,9 @@ pub(crate) fn put_cmdtest(
     requires { length cmd.now.list ≤ 1024 }
     ensures { OnOk result (text.new.items ≡ text.old.items ++ cmdtest_text board.now cmd.now) }
 {
-    match test_copy(alloc, board, cmd)? {
-        Ok((step, left)) => put_step(text, step, &left),
+    let mut left = cmd.copy(alloc)?;
+    match test_on(board, &mut left) {
+        Ok(step) => put_step(text, step, &left),
         Err(error) => put_refused(text, error),
     }
 }

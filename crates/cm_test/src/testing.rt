@@ -1,5 +1,5 @@
 // Answers to commands that are tested.
-ghost use Rattle.std.specs.Prelude.{◌≡◌, ◌++◌, ◌≤◌, length, IfOk, OnOk};
+ghost use Rattle.std.specs.Prelude.{◌≡◌, ◌++◌, ◌≤◌, length, IfErr, IfOk, OnOk, Ok, Err};
 ghost use Rattle.std.specs.Result.{result_err};
 ghost use Rattle.cm_sub.specs.Checks.{first_refusal};
 ghost use Rattle.cm_test.specs.Accepting.{sub_at};
@@ -30,28 +30,20 @@ fn commanded(board: &BoardDesc, number: u32) -> Result<&Sub, Errno>
     Ok(sub)
 }
 
-/// Tests a copy of a command on its subdevice: the step that it fails, or 0, and the command as the test
-/// leaves it (Comedi: `comedi_command_test`). It is refused with NoDev (`ENODEV`) where there is no such
-/// subdevice, and then with Io (`EIO`) where that takes no commands.
-pub fn test_copy(
-    alloc: Global,
-    board: &BoardDesc,
-    cmd: &Cmd,
-) -> Result<Result<(u8, Cmd), Errno>, NoMemory>
-    requires { length cmd.now.list ≤ 1024 }
-    ensures { IfOk result (λ test. test ≡ tested_on board.now cmd.now) }
+/// Tests a command on its subdevice: the step that it fails, or 0, and the command is left as the test leaves
+/// it (Comedi: `comedi_command_test`). It is refused with NoDev (`ENODEV`) where there is no such
+/// subdevice, and then with Io (`EIO`) where that takes no commands, and is left as it was.
+pub fn test_on(board: &BoardDesc, cmd: &mut Cmd) -> Result<u8, Errno>
+    requires { length cmd.old.list ≤ 1024 }
+    ensures tested { IfOk result (λ step. tested_on board.now cmd.old ≡ Ok (step, cmd.new)) }
+    ensures refused { IfErr result (λ error. tested_on board.now cmd.old ≡ Err error) }
+    ensures same { IfErr result (λ error. cmd.new ≡ cmd.old) }
 {
-    match commanded(board, cmd.sub) {
-        Err(error) => Ok(Err(error)),
-        Ok(sub) => {
-            let mut copy = cmd.copy(alloc)?;
-            let step = command_test(sub, &mut copy);
-            Ok(Ok((step, copy)))
-        }
-    }
+    let sub = commanded(board, cmd.sub)?;
+    Ok(command_test(sub, cmd))
 }
 
-/// Appends the answer to a command that is tested on its subdevice, as `test_copy` has it.
+/// Appends the answer to a command that is tested on its subdevice, as `test_on` has it.
 pub fn put_answer(
     alloc: Global,
     text: &mut Vec<u8>,
@@ -61,8 +53,9 @@ pub fn put_answer(
     requires { length cmd.now.list ≤ 1024 }
     ensures { OnOk result (text.new.items ≡ text.old.items ++ test_answer board.now cmd.now) }
 {
-    match test_copy(alloc, board, cmd)? {
-        Ok((step, left)) => put_step(text, step, &left),
+    let mut left = cmd.copy(alloc)?;
+    match test_on(board, &mut left) {
+        Ok(step) => put_step(text, step, &left),
         Err(error) => put_refused(text, error),
     }
 }

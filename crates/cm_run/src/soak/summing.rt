@@ -107,7 +107,7 @@ pub(crate) fn summed_lines<'a, R: Threads + Wait + Sync, G: Gate + Sync>(
     requires { All spec.IsSoakLine job.now.lines }
     ensures { IfOk result (λ made. AllZip (λ line d. spec.HasSummed (calls.plan_of job.now.board job.now.signals line) d.part d.reader) job.now.lines made.items) }
 {
-    let stream = move |place: usize, _by: &OwnerSeat, _held: &SubState| -> Result<
+    let stream = move |place: usize, _holder: &OwnerSeat, _held: &SubState| -> Result<
         Summed<'_>,
         NoMemory,
     >
