@@ -1,5 +1,5 @@
 // The subdevices of the lines that stream, each of which one thread has at a time.
-ghost use Rattle.std.specs.Prelude.{◌≡◌, ◌<◌, [], ◌∷◌, length, slice_index, IfOk};
+ghost use Rattle.std.specs.Prelude.{◌≡◌, ◌<◌, [], ◌∷◌, length, map, slice_index, IfOk};
 ghost use Rattle.cm_sub.specs.Owning.{channel_count};
 ghost use Rattle.cm_client.specs.Idle.{IsIdle};
 
@@ -34,9 +34,10 @@ pub fn claim_waiting<R: Wait + Sync>(
     unreachable!()
 }
 
-/// The first states of subdevices.
+/// The first states of subdevices: each of as many channels as its subdevice has.
 pub fn states_of(alloc: Global, subs: &[Sub]) -> Result<Vec<SubState>, NoMemory>
-    ensures { IfOk result (λ v. length v.items ≡ length subs.now) }
+    ensures count { IfOk result (λ v. length v.items ≡ length subs.now) }
+    ensures channels { IfOk result (λ v. map channel_count v.items ≡ map (λ sub. sub.channels) subs.now) }
 {
     let mut states = Vec::new(alloc);
     for i in 0..subs.len() {

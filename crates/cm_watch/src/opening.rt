@@ -4,6 +4,7 @@ ghost use Rattle.std.specs.List.{All};
 ghost use Rattle.cm_client.specs.Progress.{Accepts};
 ghost use Rattle.cm_text.specs.SampleText.{CanReport, no_lines};
 ghost use Rattle.cm_block.specs.Whole.{line_format};
+ghost use Rattle.cm_job.specs.Calls.{cmd_of};
 ghost use Rattle.cm_job.specs.RunLines.{CanRun};
 ghost use Rattle.cm_job.specs.WatchLines.{IsWatched};
 ghost use Rattle.cm_watch.specs.Opened.{AreFor, line_start, stream_start};
@@ -65,6 +66,7 @@ fn open_line<'a>(
     requires run { CanRun board.now signals.now line.now }
     requires watch { IsWatched board.now line.now }
     ensures side { IfOk result (λ o. o.side.board.sub < length board.entry.now.subs) }
+    ensures own { IfOk result (λ o. o.side.board.sub ≡ (cmd_of line.entry.now).sub) }
     ensures munger { IfOk result (λ o. o.side.munger.table ≡ o.stream.reader.table) }
     ensures events { IfOk result (λ o. o.events.every ≡ every_of board.entry.now signals.entry.now line.entry.now) }
     ensures stream { IfOk result (λ o. stream_start o.stream ≡ line_start board.entry.now signals.entry.now line.entry.now) }
@@ -104,6 +106,7 @@ pub(crate) fn open_lines<'a>(
     requires run { All (CanRun board.now signals.now) lines.now }
     requires watched { All (IsWatched board.now) lines.now }
     ensures sides { IfOk result (λ o. All (λ side. side.board.sub < length board.entry.now.subs) o.sides.items) }
+    ensures own { IfOk result (λ o. map (λ side. side.board.sub) o.sides.items ≡ map (λ line. (cmd_of line).sub) lines.entry.now) }
     ensures count { IfOk result (λ o. length o.sides.items ≡ length lines.entry.now) }
     ensures mungers { IfOk result (λ o. map (λ side. side.munger.table) o.sides.items ≡ map (λ s. s.reader.table) o.streams.items) }
     ensures events { IfOk result (λ o. length o.events.items ≡ length lines.entry.now) }

@@ -1,6 +1,8 @@
 use Rattle.std.proofs.Common.{◌<◌, length, map, sym, ap, ◌∙◌, subst, arith}
 use Rattle.std.specs.List.{All}
 use Rattle.cm_block.specs.Whole.{line_format}
+use Rattle.cm_job.specs.Calls.{cmd_of}
+use Rattle.cm_job.specs.declared.line.RunLine.{RunLine}
 use Rattle.cm_watch.specs.Opened.{line_start, stream_start}
 use Rattle.cm_watch.specs.Watched.{text_format}
 use Rattle.cm_base.proofs.Elements.{all_more, same_more}
@@ -18,6 +20,8 @@ loop-i-preserved c =
     let is = c.in_ok-side.ensures in
     record {
       sides = subst (All (λ side. side.board.sub < length board.subs)) (sym c.in_ok-push.ensures.items) (all_more (λ side. side.board.sub < length board.subs) _ _ have.sides is.side);
+      own = ap (map _) c.in_ok-push.ensures.items
+          ∙ same_more _ (λ (line : RunLine). (cmd_of line).sub) opened.sides.items _ lines c.loop-i.i c.index-lines-i.result c.loop-i-test.true have.own (is.own ∙ ap (λ (line : RunLine). (cmd_of line).sub) c.index-lines-i.is);
       count = (let e = c.in_ok-push.ensures.len in let n = have.count in omega arith);
       mungers = ap (map _) c.in_ok-push.ensures.items ∙ (both_more _ _ _ _ _ _ have.mungers is.munger ∙ sym (ap (map _) c.in_ok-push-2.ensures.items));
       events = (let e = c.in_ok-push-4.ensures.len in let n = have.events in omega arith);
