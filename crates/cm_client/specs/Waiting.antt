@@ -1,11 +1,16 @@
 -- What contracts see of how a worker waits.
-use Rattle.std.specs.Prelude.{◌≡◌, ℕ, ◌+◌, ◌-◌, ◌<◌, ◌≤◌, min, Bool, false, not}
+use Rattle.std.specs.Prelude.{◌≡◌, ℕ, ◌+◌, ◌-◌, ◌<◌, ◌≤◌, List, min, Bool, false, not}
+use Rattle.std.specs.List.{All}
 use Rattle.cm_ring.specs.Roles.{Munging}
 
 -- after how many samples a worker is woken, and how many came since it was woken last
 pub record AlarmText : Type 0 where
   pub every : ℕ
   pub count : ℕ
+
+-- alarms that have woken the others for all samples
+abbrev pub HaveRung : List AlarmText → Type 0
+HaveRung alarms = All (λ alarm. alarm.count ≡ 0) alarms
 
 -- a worker that sleeps goes on, and the next one was woken where so many more were enough
 pub record HasHandedOn (more : ℕ) (old : AlarmText) (announced : Bool) (new : AlarmText) : Type 0 where

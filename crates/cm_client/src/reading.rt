@@ -241,8 +241,9 @@ fn read_up_to<R: Wait + Sync, P: Planned, C: Consumer, W: Waiting, G: Gate>(
     unreachable!()
 }
 
-// Waits for the end.
+// Waits for the end, which was asked for.
 fn wait_for_end<R: Wait + Sync, P: Planned>(rt: &R, reader: &mut Reader<P>) -> End
+    requires { reader.old.part.asked ≡ true }
     ensures same { reader.new ≡ record reader.old { part = record reader.old.part { found = Some result; end_looks = reader.new.part.end_looks } } }
     ensures above { reader.old.part.released ≤ result.count }
     ensures says { IsFoundEnd reader.old.ring reader.old.part result.kind result.count }

@@ -1,8 +1,10 @@
 // How the workers of a ring wait for each other.
 
+use cm_base::prover::shows;
 use crossbeam_utils::Backoff;
 use crossbeam_utils::sync::{EventCount, Key};
 use std::marker::Model;
+use std::slice;
 use std::sync::Wait;
 
 /// How a worker of a ring waits for the others, and lets them know of what it has done. It decides when
@@ -68,6 +70,7 @@ impl<'a> Model for Sleeper<'a> {
 
 impl<'a> Sleeper<'a> {
     ghost use Rattle.std.specs.Prelude.{◌≡◌, false, not};
+    ghost use Rattle.cm_client.specs.Waiting.{HaveRung};
 
     /// A worker that has looked for nothing yet.
     pub fn new(event: &'a EventCount) -> Sleeper<'a>
@@ -83,11 +86,14 @@ impl<'a> Sleeper<'a> {
         self.key = None;
     }
 
-    /// The worker has found nothing to do. It is announced first, so that it looks once more. Where it
-    /// finds nothing then, it sleeps until an event that comes after it was announced.
-    pub fn wait<R: Wait>(&mut self, rt: &R)
+    /// The worker has found nothing to do, and has woken the others by its alarms. It is announced first, so
+    /// that it looks once more. Where it finds nothing then, it sleeps until an event that comes after it was
+    /// announced.
+    pub fn wait<R: Wait>(&mut self, rt: &R, alarms: &[Alarm<'_>])
+        requires { HaveRung alarms.now }
         ensures { self.new ≡ not self.old }
     {
+        shows(&alarms);
         match self.key.take() {
             None => self.key = Some(self.event.prepare_wait()),
             Some(key) => key.wait(rt),
@@ -196,7 +202,7 @@ impl Waiting for Relay<'_> {
 
     fn wait<R: Wait>(&mut self, rt: &R) {
         self.alarm.wake_for_rest();
-        self.sleeper.wait(rt);
+        self.sleeper.wait(rt, slice::from_ref(&self.alarm));
     }
 
     fn end(&mut self) {

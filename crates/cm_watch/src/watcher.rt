@@ -96,7 +96,7 @@ impl<'a> Watcher<'a> {
         shows(merge);
         self.idle = false;
         wake_all(&mut self.boards);
-        self.sleeper.wait(rt);
+        self.sleeper.wait(rt, &self.boards);
     }
 }
 
