@@ -34,4 +34,4 @@ came_line b old new line e h = subst (λ (b : Bool). HearsNext (Ok b) old new li
 
 -- and where none was
 pub came_last : (b : Bool) (old new : Option (List (List ℕ))) (line : List ℕ) → b ≡ false → HearsNext (Ok b) old new line → AreAhead [] old
-came_last b old new line e h = subst (λ (b : Bool). HearsNext (Ok b) old new line) e h
+came_last b old new line e h = (subst (λ (b : Bool). HearsNext (Ok b) old new line) e h).0

@@ -76,13 +76,19 @@ hearing-ends old now new line more ended e m h =
 some_byte : (c : ℕ) (bytes : List ℕ) → not (length (c ∷ bytes) == 0) ≡ true
 some_byte c bytes = grind (arith, nat_tests)
 
+-- nothing is left where nothing waits and the reader is at its end
+none_ahead : (left : Option (List ℕ)) (waiting : List ℕ) → waiting ≡ [] → IsAtEnd left → AreAhead [] (option_map raw_lines (prepend_known waiting left))
+none_ahead None waiting w e = tt
+none_ahead (Some rest) waiting w e = ap₂ (λ (x y : List ℕ). raw_lines (x ++ y)) w e
+
 -- the input ended
 last_by : (known left : Option (List ℕ)) (line waiting : List ℕ) → Consumes known (prepend_known waiting left) line → IsLine line → waiting ≡ [] → IsAtEnd left →
     HearsNext (Ok (not (length line == 0))) (option_map raw_lines known) (option_map raw_lines (prepend_known waiting left)) line
-last_by None left [] waiting a one w e = tt
+last_by None left [] waiting a one w e = (tt, none_ahead left waiting w e)
 last_by None left (c ∷ line) waiting a one w e = subst (λ (b : Bool). HearsNext (Ok b) None (option_map raw_lines (prepend_known waiting left)) (c ∷ line)) (sym (some_byte c line)) tt
 last_by (Some bytes) None line waiting a one w e = absurd a
-last_by (Some bytes) (Some rest) [] waiting a one w e = ap raw_lines (a ∙ ap₂ (λ (x y : List ℕ). x ++ y) w e)
+last_by (Some bytes) (Some rest) [] waiting a one w e =
+    (ap raw_lines (a ∙ ap₂ (λ (x y : List ℕ). x ++ y) w e), none_ahead (Some rest) waiting w e)
 last_by (Some bytes) (Some rest) (c ∷ line) waiting a one w e =
     subst (λ (b : Bool). HearsNext (Ok b) (Some (raw_lines bytes)) (Some (raw_lines (waiting ++ rest))) (c ∷ line)) (sym (some_byte c line))
     (ap raw_lines (a ∙ ap₂ (λ (x y : List ℕ). (c ∷ line) ++ (x ++ y)) w e ∙ append-nil (c ∷ line))

@@ -25,9 +25,10 @@ abbrev pub BeginsLong : List (List ℕ) → Type 0
 BeginsLong [] = ⊥
 BeginsLong (line ∷ lines) = 1048576 < length line
 
--- the next line is heard; the input ends where none is left; and a line is too long only where the next one is
+-- the next line is heard; the input ends where none is left, and stays at its end; and a line is too long only where
+-- the next one is
 abbrev pub HearsNext : Result Bool ReadError → Option (List (List ℕ)) → Option (List (List ℕ)) → List ℕ → Type 0
 HearsNext (Ok true) ahead left line = Came ahead left (line ∷ [])
-HearsNext (Ok false) ahead left line = AreAhead [] ahead
+HearsNext (Ok false) ahead left line = AreAhead [] ahead × AreAhead [] left
 HearsNext (Err stop) ahead left line =
     stop ≡ TooLong → (lines : List (List ℕ)) × AreAhead lines ahead × BeginsLong lines

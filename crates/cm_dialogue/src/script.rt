@@ -30,6 +30,7 @@ pub struct Script {
 
 impl Script {
     ghost use Rattle.cm_base.specs.Lines.{raw_lines};
+    ghost use Rattle.cm_base.specs.Memory.{has_number, one_more};
     ghost use Rattle.cm_dialogue.specs.Script.{lines_left, spoken_turns};
 
     /// The calls whose numbers `fails` has fail. The first has number 1.
@@ -62,6 +63,9 @@ impl Script {
     fn fails_now(&mut self) -> bool
         ensures same { self.new.spoken ≡ self.old.spoken }
         ensures lines { lines_left self.new ≡ lines_left self.old }
+        ensures calls { self.new.calls ≡ one_more self.old.calls }
+        ensures stays { self.new.fails.items ≡ self.old.fails.items }
+        ensures named { result ≡ has_number self.old.fails.items self.new.calls }
         ensures fault { result ≡ true → Rose self.old.faults self.new.faults }
         ensures later { self.old.faults ≤ self.new.faults }
     {
