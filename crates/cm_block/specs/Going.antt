@@ -3,6 +3,7 @@ use Rattle.std.specs.Prelude.{◌≡◌, ◌<◌, ◌≤◌, ℕ, false, length,
 use Rattle.cm_cmd.specs.Command.{CmdText}
 use Rattle.cm_expand.specs.Plan.{PlanText}
 use Rattle.cm_board.specs.Board.{is_output}
+use Rattle.cm_job.specs.declared.line.Access.{Access}
 use Rattle.cm_job.specs.declared.line.Mode.{Mode}
 use Rattle.cm_job.specs.declared.line.RunLine.{RunLine}
 use Rattle.cm_job.specs.declared.line.RunLine.TheVariants.{Go, Drive}
@@ -27,6 +28,11 @@ IsGoLine (Drive t0 values cmd) = ⊥
 abbrev pub Asks : RunLine → Mode → Option ℕ → Type 0
 Asks (Go mode access t0 most cmd) its_mode its_most = (its_mode ≡ mode) × (its_most ≡ most)
 Asks (Drive t0 values cmd) its_mode its_most = ⊥
+
+-- how its client gets at the samples
+abbrev pub Reaches : RunLine → Access → Type 0
+Reaches (Go mode access t0 most cmd) its_access = its_access ≡ access
+Reaches (Drive t0 values cmd) its_access = ⊥
 
 -- a word may be the sample of a place, for each munged sample of an expansion
 abbrev pub AcceptsSamples : (ℕ → ℕ → Type 0) → PlanText → Type 0

@@ -1,5 +1,5 @@
 // The answers to the lines of `expand`.
-ghost use Rattle.std.specs.Prelude.{◌≡◌, ◌+◌, ◌≤◌, ◌∷◌, ◌++◌, drop, length, OnOk, OnErr, IsErrOf};
+ghost use Rattle.std.specs.Prelude.{◌≡◌, ◌+◌, ◌≤◌, ◌<◌, ◌∷◌, ◌++◌, drop, length, OnOk, OnErr, IsErrOf};
 ghost use Rattle.std.specs.Fmt.{decimal};
 ghost use Rattle.std.specs.List.{All, flat_map};
 ghost use Rattle.std.specs.Io.KnownBytes.{Appends};
@@ -109,6 +109,8 @@ fn pass_on<K: Sink>(
     requires few { length conversions.now ≤ 64 }
     requires room { length lines.old ≡ 4032 }
     ensures goes { OnOk result (Moves (K.text sink.old) (K.text sink.new) (text.old.items ++ flat_map spec.conversion_line conversions.now) text.new.items) }
+    ensures small { OnOk result (length text.new.items < 65536) }
+    ensures no_memory { IsErrOf result TextStop.NoMemory → sink.new ≡ sink.old }
     ensures prefix { OnErr result (AppendsPrefix (K.text sink.old) (K.text sink.new) (text.old.items ++ flat_map spec.conversion_line conversions.now)) }
     ensures fault { IsErrOf result TextStop.WriteFault → Rose (K.faults sink.old) (K.faults sink.new) }
     ensures later { K.faults sink.old ≤ K.faults sink.new }
