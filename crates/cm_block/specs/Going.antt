@@ -24,15 +24,10 @@ abbrev pub IsGoLine : RunLine → Type 0
 IsGoLine (Go mode access t0 most cmd) = ⊤
 IsGoLine (Drive t0 values cmd) = ⊥
 
--- its mode, and how many samples its client takes
-abbrev pub Asks : RunLine → Mode → Option ℕ → Type 0
-Asks (Go mode access t0 most cmd) its_mode its_most = (its_mode ≡ mode) × (its_most ≡ most)
-Asks (Drive t0 values cmd) its_mode its_most = ⊥
-
--- how its client gets at the samples
-abbrev pub Reaches : RunLine → Access → Type 0
-Reaches (Go mode access t0 most cmd) its_access = its_access ≡ access
-Reaches (Drive t0 values cmd) its_access = ⊥
+-- its mode, how its client gets at the samples, and how many of them it takes
+abbrev pub Asks : RunLine → Mode → Access → Option ℕ → Type 0
+Asks (Go mode access t0 most cmd) its_mode its_access its_most = (its_mode ≡ mode) × (its_access ≡ access) × (its_most ≡ most)
+Asks (Drive t0 values cmd) its_mode its_access its_most = ⊥
 
 -- a word may be the sample of a place, for each munged sample of an expansion
 abbrev pub AcceptsSamples : (ℕ → ℕ → Type 0) → PlanText → Type 0

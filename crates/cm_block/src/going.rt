@@ -1,7 +1,7 @@
 // What a `go` line asks, the lines of its samples, and its block.
 ghost use Rattle.std.specs.Prelude.{◌≡◌, ◌++◌, IfOk, None};
 ghost use Rattle.cm_expand.specs.PlanView.{plan_text};
-ghost use Rattle.cm_block.specs.Going.{AcceptsSamples, Asks, IsGo, IsGoLine, Reaches};
+ghost use Rattle.cm_block.specs.Going.{AcceptsSamples, Asks, IsGo, IsGoLine};
 ghost use Rattle.cm_block.specs.Whole.{TakesAll};
 ghost use Rattle.cm_job.specs.Calls as calls;
 ghost use Rattle.cm_job.specs.RunLines.{CanRun};
@@ -46,8 +46,7 @@ pub fn go_of<'a>(board: &'a BoardDesc, signals: &'a Signals, line: &'a RunLine) 
     requires reads { IsGoLine line.now }
     ensures go { IsGo (plan_text result.plan) result.cmd.now }
     ensures plan { plan_text result.plan ≡ calls.plan_of board.entry.now signals.entry.now line.entry.now }
-    ensures asks { Asks line.entry.now result.mode result.take }
-    ensures access { Reaches line.entry.now result.access }
+    ensures asks { Asks line.entry.now result.mode result.access result.take }
     ensures all { TakesAll line.entry.now → result.take ≡ None }
 {
     let plan = plan_of(board, signals, line);
