@@ -95,8 +95,9 @@ impl<'a> Watcher<'a> {
     {
         shows(merge);
         self.idle = false;
-        wake_all(&mut self.boards);
-        self.sleeper.wait(rt, &self.boards);
+        let boards = self.boards.as_mut_slice();
+        wake_all(boards);
+        self.sleeper.wait(rt, boards);
     }
 }
 
