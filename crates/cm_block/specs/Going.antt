@@ -26,7 +26,8 @@ IsGoLine (Drive t0 values cmd) = ⊥
 
 -- its mode, how its client gets at the samples, and how many of them it takes
 abbrev pub Asks : RunLine → Mode → Access → Option ℕ → Type 0
-Asks (Go mode access t0 most cmd) its_mode its_access its_most = (its_mode ≡ mode) × (its_access ≡ access) × (its_most ≡ most)
+Asks (Go mode access t0 most cmd) its_mode its_access its_most =
+    (its_mode ≡ mode) × (its_access ≡ access) × (its_most ≡ most)
 Asks (Drive t0 values cmd) its_mode its_access its_most = ⊥
 
 -- a word may be the sample of a place, for each munged sample of an expansion
