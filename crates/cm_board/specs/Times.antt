@@ -60,12 +60,12 @@ can_make timers time = is_multiple timers.tick (is_product timers.clock) time
 -- the greatest number not above another that has a property, and 0 where there is none
 abbrev pub greatest_to : (ℕ → Bool) → ℕ → ℕ
 greatest_to has zero = 0
-greatest_to has (suc n) = if has (suc n) then suc n else greatest_to has n
+greatest_to has (suc n) = let below : ℕ = greatest_to has n in if has (suc n) then suc n else below
 
 -- the least from a number on that has a property, where that many are asked, and the one after them where there is none
 abbrev pub least_from : (ℕ → Bool) → ℕ → ℕ → ℕ
 least_from has zero n = n
-least_from has (suc more) n = if has n then n else least_from has more (n + 1)
+least_from has (suc more) n = let above : ℕ = least_from has more (n + 1) in if has n then n else above
 
 -- that of the numbers of 32 bits, and 2^32 where there is none
 abbrev pub least_to : (ℕ → Bool) → ℕ → ℕ

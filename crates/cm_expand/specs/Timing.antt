@@ -31,7 +31,7 @@ pub record Timing : Type 0 where
 -- the least of `count` numbers from `from` on that passes the test
 abbrev pub least : (ℕ → Bool) → ℕ → ℕ → Option ℕ
 least test from zero = None
-least test from (suc count) = if test from then Some from else least test (suc from) count
+least test from (suc count) = let later : Option ℕ = least test (suc from) count in if test from then Some from else later
 
 -- whether a scan may begin at a time that isn't below the start
 abbrev pub may_begin : Begins → ℕ → ℕ → Bool
