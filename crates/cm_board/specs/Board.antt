@@ -290,15 +290,6 @@ abbrev pub chans_rise : ℕ → List ChanText → Bool
 chans_rise least [] = true
 chans_rise least (c ∷ more) = nat_le least c.chan && chans_rise (c.chan + 1) more
 
--- the lines of a block are whole, and the subdevice is what they say
-pub record IsSaid (sub : SubText) : Type 0 where
-  pub whole : IsWhole board_table (head_of sub) sub.block
-  pub says : sub_of (head_of sub) sub.block ≡ sub
-
--- that of a subdevice, which only its text looks at
-unfoldable pub IsBlock : SubText → Type 0
-IsBlock sub = IsSaid sub
-
 -- the limits of a block, and the rules over several of its lines
 pub record IsSoundSub (sub : SubText) : Type 0 where
   pub text : IsTrue (has_text sub)
@@ -324,6 +315,19 @@ pub record IsSoundSub (sub : SubText) : Type 0 where
   pub few_pairs : length sub.forbidden ≤ 16
   pub chans : All (IsSoundChan sub.channels) sub.chans
   pub rise : IsTrue (chans_rise 0 sub.chans)
+
+-- the lines of a block are whole, and the subdevice is what they say
+pub record IsSaid (sub : SubText) : Type 0 where
+  pub whole : IsWhole board_table (head_of sub) sub.block
+  pub says : sub_of (head_of sub) sub.block ≡ sub
+
+-- that of a subdevice, which only its text looks at
+unfoldable pub IsBlock : SubText → Type 0
+IsBlock sub = IsSaid sub
+
+-- a subdevice as a text describes it: within the limits, and what its lines say
+pub record IsSaidSub (sub : SubText) : Type 0 where
+  pub sound : IsSoundSub sub
   pub block : IsBlock sub
 
 -- what holds of the numbers of each channel

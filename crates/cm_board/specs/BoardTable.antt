@@ -1,9 +1,9 @@
 -- The lines of a block: their rows and their forms.
 use Rattle.std.specs.Prelude.{ℕ, List, [], ◌∷◌, ◌++◌, codes, true, false}
 use Rattle.cm_board.specs.Munge.{munge_forms}
+use Rattle.cm_board.specs.Rows as rows
 use Rattle.cm_board.specs.Table.{FormText, TableText, WordText, Fixed, Number, Signed, Sources, Source, Name, Channel}
 use Rattle.cm_board.specs.Table.{Divisors}
-use Rattle.cm_board.specs.declared.lines.TheConstants as lines
 use Rattle.cm_board.specs.declared.table.Absent.{Absent}
 use Rattle.cm_board.specs.declared.table.Absent.TheVariants as absents
 use Rattle.cm_board.specs.declared.table.Place.{Place}
@@ -111,15 +111,15 @@ wide = of_all 1 3 places.Commands absents.Nothing
 abbrev pub board_rows : List Row
 board_rows =
     of_all 1 1 places.Any absents.Missing
-    ∷ of_all 1 1 places.Any (absents.Stands lines.MUNGE_NONE)
+    ∷ of_all 1 1 places.Any (absents.Stands rows.munge_form)
     ∷ ranges
     ∷ needed
     ∷ needed
     ∷ needed
     ∷ needed
     ∷ needed
-    ∷ of_all 1 1 places.Commands (absents.Says lines.SCANS_FORM 1000000)
-    ∷ of_all 1 1 places.Commands (absents.Says lines.LINES_FORM 0)
+    ∷ of_all 1 1 places.Commands (absents.Says rows.scans_form 1000000)
+    ∷ of_all 1 1 places.Commands (absents.Says rows.lines_form 0)
     ∷ needed
     ∷ of_all 1 1 places.Commands absents.Nothing
     ∷ of_all 16 1 places.Commands absents.Nothing
@@ -141,35 +141,35 @@ board_rows =
 -- their forms
 abbrev pub board_forms : List FormText
 board_forms =
-    form lines.BITS (Fixed (codes "bits") ∷ from_to 1 24 ∷ []) rules_of.Free
-    ∷ munge_forms lines.MUNGE []
-    ++ form lines.RANGE (Fixed (codes "range") ∷ Signed ∷ Signed ∷ from_to 0 2 ∷ []) rules_of.Below
-    ∷ form lines.SOURCES source_words rules_of.Free
-    ∷ form lines.TICK (Fixed (codes "tick") ∷ from_to 1 1000000000 ∷ []) rules_of.Free
-    ∷ form lines.SCAN (Fixed (codes "scan") ∷ time ∷ time ∷ []) rules_of.Rising
-    ∷ form lines.CONVERT (Fixed (codes "convert") ∷ time ∷ time ∷ []) rules_of.Rising
-    ∷ form lines.LIST (Fixed (codes "list") ∷ widening 1 256 1024 ∷ []) rules_of.Free
-    ∷ form lines.SCANS (Fixed (codes "scans") ∷ time ∷ []) rules_of.Free
-    ∷ form lines.LINES (Fixed (codes "lines") ∷ widening 0 16 64 ∷ []) rules_of.Free
-    ∷ form lines.BUFFER (Fixed (codes "buffer") ∷ widening 1 65536 1048576 ∷ []) rules_of.Free
-    ∷ form lines.SAME_RANGE (Fixed (codes "samerange") ∷ []) rules_of.Free
-    ∷ form lines.FORBID (Fixed (codes "forbid") ∷ field ∷ Source ∷ field ∷ Source ∷ []) rules_of.Apart
-    ∷ form lines.INVERT (Fixed (codes "invert") ∷ []) rules_of.Free
-    ∷ form lines.FIFO (Fixed (codes "fifo") ∷ from_to 2 4096 ∷ from_to 0 1000000000 ∷ []) rules_of.Even
-    ∷ form lines.CLOCK (Fixed (codes "clock") ∷ Divisors ∷ []) rules_of.Ordered
-    ∷ form lines.CLOCK (Fixed (codes "clock") ∷ Divisors ∷ Divisors ∷ []) rules_of.Ordered
-    ∷ form lines.ROUNDS
+    form rows.bits (Fixed (codes "bits") ∷ from_to 1 24 ∷ []) rules_of.Free
+    ∷ munge_forms rows.munge []
+    ++ form rows.range (Fixed (codes "range") ∷ Signed ∷ Signed ∷ from_to 0 2 ∷ []) rules_of.Below
+    ∷ form rows.sources source_words rules_of.Free
+    ∷ form rows.tick (Fixed (codes "tick") ∷ from_to 1 1000000000 ∷ []) rules_of.Free
+    ∷ form rows.scan (Fixed (codes "scan") ∷ time ∷ time ∷ []) rules_of.Rising
+    ∷ form rows.convert (Fixed (codes "convert") ∷ time ∷ time ∷ []) rules_of.Rising
+    ∷ form rows.list (Fixed (codes "list") ∷ widening 1 256 1024 ∷ []) rules_of.Free
+    ∷ form rows.scans (Fixed (codes "scans") ∷ time ∷ []) rules_of.Free
+    ∷ form rows.lines (Fixed (codes "lines") ∷ widening 0 16 64 ∷ []) rules_of.Free
+    ∷ form rows.buffer (Fixed (codes "buffer") ∷ widening 1 65536 1048576 ∷ []) rules_of.Free
+    ∷ form rows.same_range (Fixed (codes "samerange") ∷ []) rules_of.Free
+    ∷ form rows.forbid (Fixed (codes "forbid") ∷ field ∷ Source ∷ field ∷ Source ∷ []) rules_of.Apart
+    ∷ form rows.invert (Fixed (codes "invert") ∷ []) rules_of.Free
+    ∷ form rows.fifo (Fixed (codes "fifo") ∷ from_to 2 4096 ∷ from_to 0 1000000000 ∷ []) rules_of.Even
+    ∷ form rows.clock (Fixed (codes "clock") ∷ Divisors ∷ []) rules_of.Ordered
+    ∷ form rows.clock (Fixed (codes "clock") ∷ Divisors ∷ Divisors ∷ []) rules_of.Ordered
+    ∷ form rows.rounds
     (Fixed (codes "rounds") ∷ Name (codes "nearest" ∷ codes "down" ∷ codes "up" ∷ []) ∷ []) rules_of.Free
-    ∷ form lines.HALF_DOWN (Fixed (codes "halfdown") ∷ []) rules_of.Free
-    ∷ form lines.PER_ENTRY (Fixed (codes "perchan") ∷ from_to 1 4294967295 ∷ []) rules_of.Free
-    ∷ form lines.HOLDS (Fixed (codes "scanfits") ∷ []) rules_of.Free
-    ∷ form lines.ORDER (Fixed (codes "channels") ∷ following ∷ []) rules_of.Free
-    ∷ form lines.ORDER (Fixed (codes "channels") ∷ following ∷ Name (codes "repeat" ∷ []) ∷ []) rules_of.Free
-    ∷ form lines.SAME_REFERENCE (Fixed (codes "samearef") ∷ []) rules_of.Free
-    ∷ form lines.SAME_POLARITY (Fixed (codes "samepolarity") ∷ []) rules_of.Free
-    ∷ form lines.CHAN_BITS (Fixed (codes "chan") ∷ Channel ∷ Fixed (codes "bits") ∷ from_to 1 24 ∷ []) rules_of.Free
-    ∷ munge_forms lines.CHAN_MUNGE (Fixed (codes "chan") ∷ Channel ∷ [])
-    ++ form lines.CHAN_RANGE
+    ∷ form rows.half_down (Fixed (codes "halfdown") ∷ []) rules_of.Free
+    ∷ form rows.per_entry (Fixed (codes "perchan") ∷ from_to 1 4294967295 ∷ []) rules_of.Free
+    ∷ form rows.holds (Fixed (codes "scanfits") ∷ []) rules_of.Free
+    ∷ form rows.order (Fixed (codes "channels") ∷ following ∷ []) rules_of.Free
+    ∷ form rows.order (Fixed (codes "channels") ∷ following ∷ Name (codes "repeat" ∷ []) ∷ []) rules_of.Free
+    ∷ form rows.same_reference (Fixed (codes "samearef") ∷ []) rules_of.Free
+    ∷ form rows.same_polarity (Fixed (codes "samepolarity") ∷ []) rules_of.Free
+    ∷ form rows.chan_bits (Fixed (codes "chan") ∷ Channel ∷ Fixed (codes "bits") ∷ from_to 1 24 ∷ []) rules_of.Free
+    ∷ munge_forms rows.chan_munge (Fixed (codes "chan") ∷ Channel ∷ [])
+    ++ form rows.chan_range
     (Fixed (codes "chan") ∷ Channel ∷ Fixed (codes "range") ∷ Signed ∷ Signed ∷ from_to 0 2 ∷ []) rules_of.Below
     ∷ []
 

@@ -6,8 +6,10 @@ pub mod ItemView
 pub mod Items
 pub mod Kept
 pub mod Kinds
+pub mod Law
 pub mod Munge
 pub mod Records
+pub mod Rows
 pub mod Rules
 pub mod Said
 pub mod Slots

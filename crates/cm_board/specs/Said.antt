@@ -6,6 +6,7 @@ use Rattle.cm_board.specs.BoardTable.{board_rows}
 use Rattle.cm_board.specs.Items.{ItemText}
 use Rattle.cm_board.specs.Munge.{munge_by_form}
 use Rattle.cm_board.specs.Records.{ChanText, Masks, SubText, says_any}
+use Rattle.cm_board.specs.Rows as rows
 use Rattle.cm_board.specs.Slots.{is_empty, of_row}
 use Rattle.cm_board.specs.declared.board.Divisors.{Divisors}
 use Rattle.cm_board.specs.Times.{TimersText}
@@ -22,7 +23,6 @@ use Rattle.cm_board.specs.declared.board.Range.{Range}
 use Rattle.cm_board.specs.declared.board.Rounding.{Rounding}
 use Rattle.cm_board.specs.declared.board.Way.{Way}
 use Rattle.cm_board.specs.declared.board.Way.TheVariants as ways
-use Rattle.cm_board.specs.declared.lines.TheConstants as lines
 use Rattle.cm_board.specs.declared.table.Head.{Head}
 use Rattle.cm_board.specs.declared.table.Value.{Value}
 use Rattle.cm_board.specs.declared.table.Value.TheVariants as values_of
@@ -103,15 +103,15 @@ order_named n = orders.Distinct
 
 -- the order of a list, which may be repeated
 abbrev pub order_said : ItemText → ListOrder
-order_said item = record { order = order_named (name_at 0 item.values); repeats = item.form == lines.REPEATED_FORM }
+order_said item = record { order = order_named (name_at 0 item.values); repeats = item.form == rows.repeated_form }
 
 -- what a list keeps
 abbrev pub lists_said : List ItemText → ListRules
 lists_said items = record {
-  same_range = has_line lines.SAME_RANGE items;
-  order = first_of (map order_said (of_row lines.ORDER items));
-  same_reference = has_line lines.SAME_REFERENCE items;
-  same_polarity = has_line lines.SAME_POLARITY items;
+  same_range = has_line rows.same_range items;
+  order = first_of (map order_said (of_row rows.order items));
+  same_reference = has_line rows.same_reference items;
+  same_polarity = has_line rows.same_polarity items;
 }
 
 -- a way of rounding by its number among their names
@@ -129,20 +129,20 @@ counters_in (v ∷ values) = counters_in values
 -- the timers of the board, with the counters of its clock where it has one
 abbrev pub timers_said : List ItemText → TimersText
 timers_said items = record {
-  tick = number_of lines.TICK 0 1 items;
-  clock = first_or [] (map (λ item. counters_in item.values) (of_row lines.CLOCK items));
+  tick = number_of rows.tick 0 1 items;
+  clock = first_or [] (map (λ item. counters_in item.values) (of_row rows.clock items));
 }
 
 -- how times are rounded
 abbrev pub rounding_said : List ItemText → Rounding
 rounding_said items = record {
-  own = first_of (map (λ item. way_named (name_at 0 item.values)) (of_row lines.ROUNDS items));
-  half_down = has_line lines.HALF_DOWN items;
+  own = first_of (map (λ item. way_named (name_at 0 item.values)) (of_row rows.rounds items));
+  half_down = has_line rows.half_down items;
 }
 
 -- what a timed scan holds at least
 abbrev pub least_scan_said : List ItemText → LeastScan
-least_scan_said items = record { per_entry = number_of lines.PER_ENTRY 0 0 items; holds = has_line lines.HOLDS items }
+least_scan_said items = record { per_entry = number_of rows.per_entry 0 0 items; holds = has_line rows.holds items }
 
 -- the place of a row of channels
 abbrev pub channel_place : ℕ → ℕ → ℕ
@@ -157,9 +157,9 @@ abbrev pub set_said : List ItemText → ℕ → ChanText
 set_said items chan = record {
   chan = chan;
   maxdata =
-      first_of (map (λ item. greatest (number_at 1 item.values)) (of_row (channel_place chan lines.CHAN_BITS) items));
-  munge = first_of (map (munge_said lines.CHAN_MUNGE_NONE 1) (of_row (channel_place chan lines.CHAN_MUNGE) items));
-  ranges = map (range_said 1) (of_row (channel_place chan lines.CHAN_RANGE) items);
+      first_of (map (λ item. greatest (number_at 1 item.values)) (of_row (channel_place chan rows.chan_bits) items));
+  munge = first_of (map (munge_said rows.chan_munge_form 1) (of_row (channel_place chan rows.chan_munge) items));
+  ranges = map (range_said 1) (of_row (channel_place chan rows.chan_range) items);
 }
 
 -- the channels of which something is said, out of so many
@@ -169,11 +169,11 @@ sets_said channels items = filter says_any (map (set_said items) (range_with_len
 -- the sources that each trigger may have, none where no line says it
 abbrev pub masks_said : List ItemText → Masks
 masks_said items = record {
-  start = number_of lines.SOURCES 0 0 items;
-  scan_begin = number_of lines.SOURCES 1 0 items;
-  convert = number_of lines.SOURCES 2 0 items;
-  scan_end = number_of lines.SOURCES 3 0 items;
-  stop = number_of lines.SOURCES 4 0 items;
+  start = number_of rows.sources 0 0 items;
+  scan_begin = number_of rows.sources 1 0 items;
+  convert = number_of rows.sources 2 0 items;
+  scan_end = number_of rows.sources 3 0 items;
+  stop = number_of rows.sources 4 0 items;
 }
 
 -- the subdevice that the lines of a whole block describe
@@ -182,26 +182,26 @@ sub_of head items = record {
   version = head.version;
   kind = head.kind;
   channels = head.channels;
-  maxdata = greatest (number_of lines.BITS 0 1 items);
-  munge = first_or munges.Plain (map (munge_said lines.MUNGE_NONE 0) (of_row lines.MUNGE items));
-  ranges = map (range_said 0) (of_row lines.RANGE items);
+  maxdata = greatest (number_of rows.bits 0 1 items);
+  munge = first_or munges.Plain (map (munge_said rows.munge_form 0) (of_row rows.munge items));
+  ranges = map (range_said 0) (of_row rows.range items);
   masks = masks_said items;
   timers = timers_said items;
-  scan_min = number_of lines.SCAN 0 1 items;
-  scan_max = number_of lines.SCAN 1 1 items;
-  conv_min = number_of lines.CONVERT 0 1 items;
-  conv_max = number_of lines.CONVERT 1 1 items;
-  list_max = number_of lines.LIST 0 1 items;
-  scans_max = number_of lines.SCANS 0 1 items;
-  lines = number_of lines.LINES 0 0 items;
-  buffer = number_of lines.BUFFER 0 1 items;
+  scan_min = number_of rows.scan 0 1 items;
+  scan_max = number_of rows.scan 1 1 items;
+  conv_min = number_of rows.convert 0 1 items;
+  conv_max = number_of rows.convert 1 1 items;
+  list_max = number_of rows.list 0 1 items;
+  scans_max = number_of rows.scans 0 1 items;
+  lines = number_of rows.lines 0 0 items;
+  buffer = number_of rows.buffer 0 1 items;
   rounding = rounding_said items;
   least_scan = least_scan_said items;
   lists = lists_said items;
-  forbidden = map forbid_said (of_row lines.FORBID items);
+  forbidden = map forbid_said (of_row rows.forbid items);
   chans = sets_said head.channels items;
-  invert = has_line lines.INVERT items;
-  fifo = first_of (map fifo_said (of_row lines.FIFO items));
+  invert = has_line rows.invert items;
+  fifo = first_of (map fifo_said (of_row rows.fifo items));
   block = items;
 }
 

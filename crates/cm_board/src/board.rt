@@ -210,7 +210,7 @@ pub struct Sub {
 }
 
 impl Model for Sub {
-    ghost use Rattle.cm_board.specs.Board.{SubText, IsSoundSub};
+    ghost use Rattle.cm_board.specs.Board.{SubText, IsSaidSub};
 
     ghost Value = { SubText };
 
@@ -218,7 +218,7 @@ impl Model for Sub {
 
     ghost view = { sub_text };
 
-    ghost invariant = { λ s. IsSoundSub (sub_text s) };
+    ghost invariant = { λ s. IsSaidSub (sub_text s) };
 }
 
 impl Sub {

@@ -7,6 +7,7 @@ pub mod channels;
 mod clock;
 pub mod items;
 pub mod kind;
+pub mod law;
 pub mod lines;
 pub mod munge;
 mod rows;

@@ -9,7 +9,7 @@ use Rattle.cm_base.specs.declared.faults.ReadStop.{ReadStop}
 use Rattle.cm_base.specs.declared.faults.ReadStop.TheVariants as stops
 use Rattle.cm_base.specs.declared.faults.Refused.{Refused}
 use Rattle.cm_base.proofs.Each.{stops-along}
-use Rattle.cm_board.specs.Board.{AreTimers, IsSoundSub, SubText, has_channels}
+use Rattle.cm_board.specs.Board.{AreTimers, IsBlock, IsSaidSub, IsSoundSub, SubText, has_channels}
 use Rattle.cm_board.specs.BoardTable.{board_table}
 use Rattle.cm_board.specs.Items.{ItemText}
 use Rattle.cm_board.specs.Kept.{IsWhole}
@@ -74,6 +74,16 @@ pub sub_sound : (head : Head) (all : List ItemText) (sub : SubText) → IsWhole 
     1 ≤ head.version → sub ≡ sub_of head all → is_board_ok sub ≡ true → IsSoundSub sub
 sub_sound head all sub w channels version same ok =
     subst IsSoundSub (sym same) (sound head all w version channels (ap is_board_ok (sym same) ∙ ok))
+
+-- and it is what its lines say
+pub sub_said : (head : Head) (all : List ItemText) (sub : SubText) → IsWhole board_table head all → has_channels head.version head.kind head.channels ≡ true →
+    1 ≤ head.version → sub ≡ sub_of head all → is_board_ok sub ≡ true → IsSaidSub sub
+unfolding IsBlock
+sub_said head all sub w channels version same ok =
+    record {
+      sound = sub_sound head all sub w channels version same ok;
+      block = subst IsBlock (sym same) (record { whole = w; says = refl });
+    }
 
 -- by those rules it is what the block says
 pub checked_is : (stop : ℕ) (head : Head) (all : List ItemText) (sub : SubText) (ok : Bool) → sub ≡ sub_of head all → is_board_ok sub ≡ ok →

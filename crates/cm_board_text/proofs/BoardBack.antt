@@ -19,7 +19,7 @@ use Rattle.cm_base.proofs.Bools.{and_true, both, not_true}
 use Rattle.cm_base.proofs.NumbersBack.{number_in-decimal, word-decimal}
 use Rattle.cm_base.proofs.RawLines.{lines_from-cons, raw_lines-cons}
 use Rattle.cm_base.proofs.WrittenLines.{lines_from-written}
-use Rattle.cm_board.specs.Board.{BoardText, IsBlock, IsFrom1To, IsSaid, IsSoundSub, IsSoundBoard, SubText, is_wide}
+use Rattle.cm_board.specs.Board.{BoardText, IsBlock, IsFrom1To, IsSaid, IsSaidSub, IsSoundBoard, SubText, is_wide}
 use Rattle.cm_board.specs.BoardTable.{board_table}
 use Rattle.cm_board.specs.Said.{head_of, sub_of}
 use Rattle.cm_board.specs.declared.table.Head.{Head}
@@ -40,12 +40,12 @@ words_of s = map (item_words board_table) s.block
 
 -- lines at which a block doesn't end
 
--- a sound subdevice is what the lines of its block say
-is_said : (s : SubText) → IsSoundSub s → IsSaid s
+-- a subdevice of a text is what the lines of its block say
+is_said : (s : SubText) → IsSaidSub s → IsSaid s
 unfolding IsBlock
 is_said s h = h.block
 
-items_inside : (number : ℕ) (s : SubText) → IsSoundSub s → none_pass ends_block (numbered number (words_of s)) ≡ true
+items_inside : (number : ℕ) (s : SubText) → IsSaidSub s → none_pass ends_block (numbered number (words_of s)) ≡ true
 unfolding words_of
 items_inside number s h = back.lines_inside board_table (head_of s) s.block board_is_table (is_said s h).whole number
 
@@ -74,27 +74,27 @@ length-numbered : (number : ℕ) (lines : List (List (List ℕ))) → length (nu
 length-numbered number [] = refl
 length-numbered number (x ∷ lines) = ap suc (length-numbered (number + 1) lines)
 
--- a sound subdevice that a board of this version may have
+-- a subdevice that a board of this version may have
 record Fits (version : ℕ) (s : SubText) : Type 0 where
-  pub sound : IsSoundSub s
+  pub said : IsSaidSub s
   pub has_version : s.version ≡ version
 
 -- a block
 
-said_back : (number : ℕ) (s : SubText) → IsSoundSub s → items_said board_table (head_of s) (numbered number (words_of s)) ≡ Ok s.block
+said_back : (number : ℕ) (s : SubText) → IsSaidSub s → items_said board_table (head_of s) (numbered number (words_of s)) ≡ Ok s.block
 unfolding words_of
-said_back number s h = back.items_back board_table (head_of s) number s.block board_is_table (is_said s h).whole (omega (arith, h.few_channels))
+said_back number s h = back.items_back board_table (head_of s) number s.block board_is_table (is_said s h).whole (omega (arith, h.sound.few_channels))
 
-finished_back : (s : SubText) → IsSoundSub s → finished (head_of s) s.block ≡ Ok s
+finished_back : (s : SubText) → IsSaidSub s → finished (head_of s) s.block ≡ Ok s
 finished_back s h =
     ap (λ r. r >>= λ all. checked (sub_of (head_of s) all)) (back.completed_back board_table (head_of s) s.block (is_said s h).whole)
     ∙ ap checked (is_said s h).says
-    ∙ ap (λ b. cond b (Ok s) (Err faults.Bad)) (rules_back s h)
+    ∙ ap (λ b. cond b (Ok s) (Err faults.Bad)) (rules_back s h.sound)
 
-block_back : (stop count number : ℕ) (s : SubText) → count < 16 → IsSoundSub s → block_at s.version stop count (head_at number s) (numbered (number + 1) (words_of s)) ≡ Ok s
+block_back : (stop count number : ℕ) (s : SubText) → count < 16 → IsSaidSub s → block_at s.version stop count (head_at number s) (numbered (number + 1) (words_of s)) ≡ Ok s
 block_back stop count number s few h =
     let inside : List LineText = numbered (number + 1) (words_of s) in
-    ap (λ x. at_line number x >>= λ (head : Head). items_said board_table head inside >>= λ items. at_line stop (finished head items)) (head_back count number s few h)
+    ap (λ x. at_line number x >>= λ (head : Head). items_said board_table head inside >>= λ items. at_line stop (finished head items)) (head_back count number s few h.sound)
     ∙ ap (λ x. x >>= λ items. at_line stop (finished (head_of s) items)) (said_back (number + 1) s h)
     ∙ ap (at_line stop) (finished_back s h)
 
@@ -121,7 +121,7 @@ ends_after number (s ∷ subs) line rest e = record {
   ends = refl;
 }
 
-next_back : (end count number : ℕ) (s : SubText) (lines : List LineText) → Ends lines → count < 16 → IsSoundSub s → next_block s.version end count (head_at number s) (numbered (number + 1) (words_of s) ++ lines) ≡ Ok s
+next_back : (end count number : ℕ) (s : SubText) (lines : List LineText) → Ends lines → count < 16 → IsSaidSub s → next_block s.version end count (head_at number s) (numbered (number + 1) (words_of s) ++ lines) ≡ Ok s
 next_back end count number s lines e few h =
     let inside : List LineText = numbered (number + 1) (words_of s) in
     let none = items_inside (number + 1) s h in
@@ -133,9 +133,9 @@ next_back end count number s lines e few h =
 next_fits : (version end count number : ℕ) (s : SubText) (lines : List LineText) → Ends lines → count < 16 → Fits version s →
     next_block version end count (head_at number s) (numbered (number + 1) (words_of s) ++ lines) ≡ Ok s
 next_fits version end count number s lines e few h =
-    ap (λ (v : ℕ). next_block v end count (head_at number s) (numbered (number + 1) (words_of s) ++ lines)) (sym h.has_version) ∙ next_back end count number s lines e few h.sound
+    ap (λ (v : ℕ). next_block v end count (head_at number s) (numbered (number + 1) (words_of s) ++ lines)) (sym h.has_version) ∙ next_back end count number s lines e few h.said
 
-skipped : (version end count number : ℕ) (s : SubText) (lines : List LineText) → Ends lines → IsSoundSub s → blocks_from version end count (numbered number (words_of s) ++ lines) ≡ blocks_from version end count lines
+skipped : (version end count number : ℕ) (s : SubText) (lines : List LineText) → Ends lines → IsSaidSub s → blocks_from version end count (numbered number (words_of s) ++ lines) ≡ blocks_from version end count lines
 skipped version end count number s lines e h =
     let inside : List LineText = numbered number (words_of s) in
     skip_block version end count (inside ++ lines)
@@ -163,16 +163,16 @@ blocks_back version end count number (s ∷ subs) line rest h few e =
     let later = blocks_back version end (count + 1) after subs line rest (λ k d below. h (suc k) d (omega arith)) (omega arith) e in
     ap (λ (ls : List LineText). next_block version end count (head_at number s) ls >>= λ sub. blocks_from version end (count + 1) ls >>= λ more. Ok (sub ∷ more)) (cut_first (number + 1) s subs (line ∷ rest))
     ∙ ap (λ x. x >>= λ sub. blocks_from version end (count + 1) (inside ++ lines) >>= λ more. Ok (sub ∷ more)) (next_fits version end count number s lines ends (omega arith) fits)
-    ∙ ap (λ x. x >>= λ more. Ok (s ∷ more)) (skipped version end (count + 1) (number + 1) s lines ends fits.sound ∙ later)
+    ∙ ap (λ x. x >>= λ more. Ok (s ∷ more)) (skipped version end (count + 1) (number + 1) s lines ends fits.said ∙ later)
 
 -- the whole text
 
-subs_lines : (subs : List SubText) → All IsSoundSub subs → list_all is_line (flat_map sub_lines subs) ≡ true
+subs_lines : (subs : List SubText) → All IsSaidSub subs → list_all is_line (flat_map sub_lines subs) ≡ true
 subs_lines [] h = refl
 subs_lines (s ∷ subs) h =
-    let here : IsSoundSub s = h 0 s (omega arith) in
+    let here : IsSaidSub s = h 0 s (omega arith) in
     list_all-append is_line (sub_lines s) (flat_map sub_lines subs)
-    ∙ and_true _ _ (and_true _ _ (head_is_line s here) (back.lines_good board_table (head_of s) s.block board_is_table (is_said s here).whole (omega (arith, here.few_channels)))) (subs_lines subs (λ k d below. h (suc k) d (omega arith)))
+    ∙ and_true _ _ (and_true _ _ (head_is_line s here.sound) (back.lines_good board_table (head_of s) s.block board_is_table (is_said s here).whole (omega (arith, here.sound.few_channels)))) (subs_lines subs (λ k d below. h (suc k) d (omega arith)))
 
 name_word : (name : List ℕ) → 1 ≤ length name → list_all is_printable name ≡ true → is_word name ≡ true
 name_word name h p = and_true _ _ (some name h) p
@@ -191,12 +191,12 @@ version_is_line version h = by (is_wide version) refl
     by true e = refl
     by false e = and_true _ true (word-decimal version (omega (arith, h.high))) refl
 
-board_is_lines : (b : BoardText) → IsSoundBoard b → All IsSoundSub b.subs → list_all is_line (board_lines b) ≡ true
+board_is_lines : (b : BoardText) → IsSoundBoard b → All IsSaidSub b.subs → list_all is_line (board_lines b) ≡ true
 board_is_lines b h subs = and_true _ _ (version_is_line b.version h.version) (and_true _ _ (and_true _ true (name_word b.name h.name.low h.printable) refl) (subs_lines b.subs subs))
 
 -- each subdevice of a sound board is of its version
-subs_fit : (version : ℕ) (subs : List SubText) → list_all (λ sub. sub.version == version) subs ≡ true → All IsSoundSub subs → All (Fits version) subs
-subs_fit version subs v h = λ k d below. record { sound = h k d below; has_version = eqb-true _ version (AllPass-from_list_all (λ sub. sub.version == version) subs v k d below) }
+subs_fit : (version : ℕ) (subs : List SubText) → list_all (λ sub. sub.version == version) subs ≡ true → All IsSaidSub subs → All (Fits version) subs
+subs_fit version subs v h = λ k d below. record { said = h k d below; has_version = eqb-true _ version (AllPass-from_list_all (λ sub. sub.version == version) subs v k d below) }
 
 -- the text is that of its lines
 subs_text : (subs : List SubText) → flat_map block_text subs ≡ text_of (flat_map sub_lines subs)
@@ -220,7 +220,7 @@ no_signals (line ∷ lines) h =
     other true b e = cc
     other false b e = e
 
-subs_no_signals : (number : ℕ) (subs : List SubText) → All IsSoundSub subs → none_pass is_signals (numbered number (flat_map sub_lines subs)) ≡ true
+subs_no_signals : (number : ℕ) (subs : List SubText) → All IsSaidSub subs → none_pass is_signals (numbered number (flat_map sub_lines subs)) ≡ true
 unfolding words_of
 subs_no_signals number [] h = refl
 subs_no_signals number (s ∷ subs) h =
@@ -236,7 +236,7 @@ version_no_signals version = by (is_wide version)
     by true = refl
     by false = refl
 
-board_no_signals : (b : BoardText) → All IsSoundSub b.subs → none_pass is_signals (numbered 1 (board_lines b)) ≡ true
+board_no_signals : (b : BoardText) → All IsSaidSub b.subs → none_pass is_signals (numbered 1 (board_lines b)) ≡ true
 board_no_signals b h = and_true _ _ (ap not (version_no_signals b.version)) (subs_no_signals 3 b.subs h)
 
 -- the line after
@@ -290,7 +290,7 @@ version_back version end lines h = by (is_wide version) refl
         ap (λ r. at_line 1 (r >>= λ (v : ℕ). Ok v))
         (number_in-decimal 1 2 version (omega (arith, old.high)) (and_true _ _ (le-leb 1 version old.low) (le-leb version 2 old.high)))
 
-lines_back : (b : BoardText) (end : ℕ) (line : LineText) (rest : List LineText) → IsSoundBoard b → All IsSoundSub b.subs → is_signals line ≡ true → board_of end (numbered 1 (board_lines b) ++ line ∷ rest) ≡ Ok (b, length (board_lines b))
+lines_back : (b : BoardText) (end : ℕ) (line : LineText) (rest : List LineText) → IsSoundBoard b → All IsSaidSub b.subs → is_signals line ≡ true → board_of end (numbered 1 (board_lines b) ++ line ∷ rest) ≡ Ok (b, length (board_lines b))
 lines_back b end line rest h sound e =
     let blocks : List LineText = numbered 3 (flat_map sub_lines b.subs) ++ line ∷ rest in
     let place : ℕ = position_or_len is_signals (numbered 1 (board_lines b) ++ line ∷ rest) in

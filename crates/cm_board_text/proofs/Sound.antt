@@ -8,7 +8,7 @@ use Rattle.std.proofs.lemmas.List.Folds.{list_all-map}
 use Rattle.cm_base.proofs.Bools.{and_true, both}
 use Rattle.cm_base.specs.Source.{allows, ext, timer}
 use Rattle.cm_board.proofs.ChannelNumbers.{greatest}
-use Rattle.cm_board.specs.Board.{AreOnTick, AreTimers, AreTimes, FitsTimed, HasLine, HoldsEntries, HoldsList, IsBlock, IsFrom1To, IsSoundSub, SubText, down, fits_kind, fits_lines, has_channels, has_text, is_bits_ok, is_fifo, is_munge, is_pair, is_wide, most_in, up}
+use Rattle.cm_board.specs.Board.{AreOnTick, AreTimers, AreTimes, FitsTimed, HasLine, HoldsEntries, HoldsList, IsFrom1To, IsSoundSub, SubText, down, fits_kind, fits_lines, has_channels, has_text, is_bits_ok, is_fifo, is_munge, is_pair, is_wide, most_in, up}
 use Rattle.cm_board.specs.BoardTable.{board_forms, board_table}
 use Rattle.cm_board.specs.Items.{ItemText}
 use Rattle.cm_board.specs.Kept.{IsWhole}
@@ -166,7 +166,7 @@ entry_small head items h =
 -- what a whole block says keeps the rules of a subdevice
 pub sound : (head : Head) (items : List ItemText) → IsWhole board_table head items → 1 ≤ head.version → has_channels head.version head.kind head.channels ≡ true →
     is_board_ok (sub_of head items) ≡ true → IsSoundSub (sub_of head items)
-unfolding IsBlock has_text
+unfolding has_text
 sound head items w version channels ok =
     let s : SubText = sub_of head items in
     let v : nat_le 1 head.version ≡ true = le-leb 1 head.version version in
@@ -211,7 +211,6 @@ sound head items w version channels ok =
       few_pairs = omega (arith, length-map (of_row lines.FORBID items) forbid_said, few_pairs);
       chans = sets_sound head items good w.few;
       rise = sets_rise head.channels items;
-      block = record { whole = w; says = refl };
     }
 
 -- what holds where something else does

@@ -2,7 +2,7 @@
 use Rattle.std.specs.Prelude.{◌≡◌, ℕ, List, ◌++◌, length, IsTrue, Ok}
 use Rattle.std.specs.List.{All, before_first}
 use Rattle.cm_base.specs.Lines.{is_line_feed, line_text, lines_of}
-use Rattle.cm_board.specs.Board.{BoardText, IsSoundSub, IsSoundBoard}
+use Rattle.cm_board.specs.Board.{BoardText, IsSaidSub, IsSoundBoard}
 use Rattle.cm_board_text.specs.BoardPart.{board_of, is_signals}
 use Rattle.cm_board_text.specs.Printed.{board_lines, printed_board}
 
@@ -19,4 +19,4 @@ ReadsAs board text =
 -- what is printed of a board is read as the same board
 abbrev pub PrintedReads : Type 0
 PrintedReads =
-    (board : BoardText) → IsSoundBoard board → All IsSoundSub board.subs → ReadsAs board (printed_board board)
+    (board : BoardText) → IsSoundBoard board → All IsSaidSub board.subs → ReadsAs board (printed_board board)

@@ -2,7 +2,7 @@
 ghost use Rattle.std.specs.Prelude.{◌≡◌, ◌++◌, ◌∷◌, [], codes, flat_map, IfOk, OnOk, decimal};
 ghost use Rattle.std.specs.List.{All};
 ghost use Rattle.cm_base.specs.WrittenLines.{written_line};
-ghost use Rattle.cm_board.specs.Board.{IsSoundSub};
+ghost use Rattle.cm_board.specs.Board.{IsSaidSub};
 ghost use Rattle.cm_board_text.specs.PrintedReads.{ReadsAs};
 ghost use Rattle.cm_board_text.specs.Printed.{block_text, kind_text, name_line, printed_board, version_line};
 
@@ -50,7 +50,7 @@ fn put_name(out: &mut Vec<u8>, name: &[u8]) -> Result<(), NoMemory>
 // The blocks.
 fn put_subs(out: &mut Vec<u8>, subs: &[Sub]) -> Result<(), NoMemory>
     ensures text { OnOk result (out.new.items ≡ out.old.items ++ flat_map block_text subs.now) }
-    ensures sound { OnOk result (All IsSoundSub subs.now) }
+    ensures sound { OnOk result (All IsSaidSub subs.now) }
 {
     for sub in subs {
         put_sub(out, sub)?;
@@ -61,7 +61,7 @@ fn put_subs(out: &mut Vec<u8>, subs: &[Sub]) -> Result<(), NoMemory>
 // One block.
 fn put_sub(out: &mut Vec<u8>, sub: &Sub) -> Result<(), NoMemory>
     ensures text { OnOk result (out.new.items ≡ out.old.items ++ block_text sub.now) }
-    ensures sound { IsSoundSub sub.now }
+    ensures sound { IsSaidSub sub.now }
 {
     put_head(out, sub.kind, sub.channels)?;
     put_items(out, &board_table(), &sub.block)

@@ -2,12 +2,12 @@
 ghost use Rattle.std.specs.Prelude.{◌≡◌, ◌<◌, ◌-◌, ◌^◌, ◌+◌, ◌*◌, ◌++◌, ◌∷◌, [], filter, map, IfOk, OnOk};
 ghost use Rattle.std.specs.Option.{option_map};
 ghost use Rattle.cm_board.specs.Board as board;
+ghost use Rattle.cm_board.specs.Rows as rows;
 ghost use Rattle.cm_board.specs.Said as spec;
 ghost use Rattle.cm_board.specs.Said.{first_of, first_or, sub_of};
 ghost use Rattle.cm_board.specs.Slots.{of_row};
 ghost use Rattle.cm_board.specs.View.{masks_of};
 ghost use Rattle.cm_board.specs.declared.munge.Munge.TheVariants as munges;
-ghost use Rattle.cm_board.specs.declared.lines.TheConstants as lines;
 ghost use Rattle.cm_board_text.specs.UncheckedView.{unchecked_text};
 
 use crate::unchecked::Unchecked;
@@ -126,7 +126,7 @@ fn forbid_said(item: &Item) -> Forbid
 
 // Adds the sources that a line forbids.
 fn push_forbid(forbidden: &mut Vec<Forbid>, item: &Item) -> Result<(), AllocError>
-    ensures { OnOk result (forbidden.new.items ≡ forbidden.old.items ++ map spec.forbid_said (of_row lines.FORBID (item.now ∷ []))) }
+    ensures { OnOk result (forbidden.new.items ≡ forbidden.old.items ++ map spec.forbid_said (of_row rows.forbid (item.now ∷ []))) }
 {
     if item.row == FORBID {
         forbidden.push(forbid_said(item))?;
@@ -136,7 +136,7 @@ fn push_forbid(forbidden: &mut Vec<Forbid>, item: &Item) -> Result<(), AllocErro
 
 // The sources that may not stand together.
 fn forbidden_of(alloc: Global, items: &[Item]) -> Result<Vec<Forbid>, AllocError>
-    ensures { IfOk result (λ forbidden. forbidden.items ≡ map spec.forbid_said (of_row lines.FORBID items.now)) }
+    ensures { IfOk result (λ forbidden. forbidden.items ≡ map spec.forbid_said (of_row rows.forbid items.now)) }
 {
     let mut forbidden = Vec::new(alloc);
     for item in items {
@@ -158,7 +158,7 @@ fn fifo_said(item: &Item) -> Fifo
 
 // The FIFO, where a line says it.
 fn fifo_of(items: &[Item]) -> Option<Fifo>
-    ensures { result ≡ first_of (map spec.fifo_said (of_row lines.FIFO items.now)) }
+    ensures { result ≡ first_of (map spec.fifo_said (of_row rows.fifo items.now)) }
 {
     first_line(items, FIFO).map(fifo_said)
 }
@@ -188,7 +188,7 @@ fn order_said(item: &Item) -> ListOrder
 
 // The order of a list, where a line says it.
 fn order_of(items: &[Item]) -> Option<ListOrder>
-    ensures { result ≡ first_of (map spec.order_said (of_row lines.ORDER items.now)) }
+    ensures { result ≡ first_of (map spec.order_said (of_row rows.order items.now)) }
 {
     first_line(items, ORDER).map(order_said)
 }
@@ -225,7 +225,7 @@ fn way_said(item: &Item) -> Way
 
 // The way of rounding, where a line says it.
 fn way_of(items: &[Item]) -> Option<Way>
-    ensures { result ≡ first_of (map (λ item. spec.way_named (spec.name_at 0 item.values)) (of_row lines.ROUNDS items.now)) }
+    ensures { result ≡ first_of (map (λ item. spec.way_named (spec.name_at 0 item.values)) (of_row rows.rounds items.now)) }
 {
     first_line(items, ROUNDS).map(way_said)
 }
@@ -245,7 +245,7 @@ fn counters_in(alloc: Global, item: &Item) -> Result<Vec<Divisors>, AllocError>
 
 // The counters of the board's clock, where it has one.
 fn clock_said(alloc: Global, items: &[Item]) -> Result<Vec<Divisors>, AllocError>
-    ensures { IfOk result (λ clock. clock.items ≡ first_or [] (map (λ item. spec.counters_in item.values) (of_row lines.CLOCK items.now))) }
+    ensures { IfOk result (λ clock. clock.items ≡ first_or [] (map (λ item. spec.counters_in item.values) (of_row rows.clock items.now))) }
 {
     match first_line(items, CLOCK) {
         Some(item) => counters_in(alloc, item),
@@ -349,7 +349,7 @@ fn masks_said(items: &[Item]) -> [u32; 5]
 
 // The munge of the subdevice.
 fn munge_of_all(items: &[Item]) -> Munge
-    ensures { result ≡ first_or munges.Plain (map (spec.munge_said lines.MUNGE_NONE 0) (of_row lines.MUNGE items.now)) }
+    ensures { result ≡ first_or munges.Plain (map (spec.munge_said rows.munge_form 0) (of_row rows.munge items.now)) }
 {
     match munge_of(items, MUNGE, MUNGE_NONE, 0) {
         Some(munge) => munge,

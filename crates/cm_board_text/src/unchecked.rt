@@ -43,7 +43,7 @@ pub struct Unchecked {
 
 impl Unchecked {
     ghost use Rattle.cm_board_text.specs.Block.{are_on_tick, are_times_ok, fits_timed, is_board_ok, is_entries_ok, is_lines_ok, is_list_ok};
-    ghost use Rattle.cm_board.specs.Board.{AreTimers, IsSoundSub, is_bits_ok, is_channel_ok};
+    ghost use Rattle.cm_board.specs.Board.{AreTimers, IsSaidSub, is_bits_ok, is_channel_ok};
     ghost use Rattle.cm_board_text.specs.UncheckedView.{unchecked_text};
 
     /// The rules over the lines of a block.
@@ -60,7 +60,7 @@ impl Unchecked {
 
     /// The subdevice, where all rules hold.
     pub(crate) fn into_sub(self) -> Sub
-        requires { IsSoundSub (unchecked_text self) }
+        requires { IsSaidSub (unchecked_text self) }
         ensures { result ≡ unchecked_text self }
     {
         let sources = self.sources;

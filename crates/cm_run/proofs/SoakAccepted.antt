@@ -3,7 +3,7 @@ use Rattle.std.proofs.Common.{◌≡◌, ℕ, ◌+◌, ◌-◌, ◌≤◌, Bool,
 use Rattle.std.specs.Prelude.{max, min, not, ◌&&◌, if◌then◌else◌}
 use Rattle.std.proofs.lemmas.Bool.{eq-eqb}
 use Rattle.std.proofs.lemmas.List.Elements.{All-nil, All-push}
-use Rattle.cm_board.specs.Board.{IsRange, IsSoundChan, IsSoundSub, SubText, IsBlock, each_nanosecond, has_text, is_bits_ok, maxdata_of, munge_of, ranges_of}
+use Rattle.cm_board.specs.Board.{IsRange, IsSoundChan, IsSaidSub, IsSoundSub, SubText, IsBlock, each_nanosecond, has_text, is_bits_ok, maxdata_of, munge_of, ranges_of}
 use Rattle.cm_board.specs.Times.{down, up}
 use Rattle.cm_board.proofs.Made.{down_plain, up_plain}
 use Rattle.cm_cmd.specs.Command.{CmdText}
@@ -26,8 +26,8 @@ down_scan = down_plain 1 1000 (omega arith)
 up_scan : up each_nanosecond 1000 ≡ 1000
 up_scan = up_plain 1 1000 (omega arith) (omega arith)
 
-pub sub_sound : IsSoundSub soak_sub
-unfolding IsBlock has_text is_bits_ok maxdata_of munge_of
+sub_sound : IsSoundSub soak_sub
+unfolding has_text is_bits_ok maxdata_of munge_of
 sub_sound = record {
   text = refl;
   bits = refl;
@@ -52,6 +52,12 @@ sub_sound = record {
   few_pairs = omega arith;
   chans = All-nil (IsSoundChan 1);
   rise = refl;
+}
+
+pub sub_said : IsSaidSub soak_sub
+unfolding IsBlock
+sub_said = record {
+  sound = sub_sound;
   block = record { whole = record { good = refl; few = refl; full = refl; same = refl }; says = refl };
 }
 

@@ -4,7 +4,7 @@ use Rattle.std.specs.Prelude.{replicate, None, if◌then◌else◌}
 use Rattle.cm_base.specs.Source as source
 use Rattle.cm_board.specs.Board.{BoardText, SubText, any_list, any_rounding, any_scan, each_nanosecond}
 use Rattle.cm_board.specs.Items.{ItemText}
-use Rattle.cm_board.specs.declared.lines.TheConstants as lines
+use Rattle.cm_board.specs.Rows as rows
 use Rattle.cm_board.specs.declared.table.Value.TheVariants as values_of
 use Rattle.cm_board.specs.declared.board.Kind.TheVariants as kinds
 use Rattle.cm_board.specs.declared.munge.Munge.TheVariants as munges
@@ -33,11 +33,11 @@ numbers row form values = record { row = row; form = form; values = map values_o
 -- what the lines of its block say of codes: 16 bits in two's complement, and one range
 abbrev pub soak_codes : List ItemText
 soak_codes =
-    numbers lines.BITS lines.BITS_FORM (16 ∷ [])
-    ∷ numbers lines.MUNGE lines.MUNGE_OFFSET []
+    numbers rows.bits rows.bits_form (16 ∷ [])
+    ∷ numbers rows.munge rows.offset_form []
     ∷ record {
-      row = lines.RANGE;
-      form = lines.RANGE_FORM;
+      row = rows.range;
+      form = rows.range_form;
       values = values_of.Signed soak_range.min ∷ values_of.Signed soak_range.max ∷ values_of.Number 0 ∷ [];
     }
     ∷ []
@@ -45,19 +45,19 @@ soak_codes =
 -- of the sources and the times of commands
 abbrev pub soak_times : List ItemText
 soak_times =
-    numbers lines.SOURCES lines.SOURCES_FORM (source.now ∷ source.timer ∷ source.now ∷ source.count ∷ source.count ∷ [])
-    ∷ numbers lines.TICK lines.TICK_FORM (1 ∷ [])
-    ∷ numbers lines.SCAN lines.SCAN_FORM (1 ∷ 1000000 ∷ [])
-    ∷ numbers lines.CONVERT lines.CONVERT_FORM (1 ∷ 1 ∷ [])
+    numbers rows.sources rows.sources_form (source.now ∷ source.timer ∷ source.now ∷ source.count ∷ source.count ∷ [])
+    ∷ numbers rows.tick rows.tick_form (1 ∷ [])
+    ∷ numbers rows.scan rows.scan_form (1 ∷ 1000000 ∷ [])
+    ∷ numbers rows.convert rows.convert_form (1 ∷ 1 ∷ [])
     ∷ []
 
 -- of how much a command may ask for
 abbrev pub soak_sizes : List ItemText
 soak_sizes =
-    numbers lines.LIST lines.LIST_FORM (1 ∷ [])
-    ∷ numbers lines.SCANS lines.SCANS_FORM (1000000 ∷ [])
-    ∷ numbers lines.LINES lines.LINES_FORM (0 ∷ [])
-    ∷ numbers lines.BUFFER lines.BUFFER_FORM (256 ∷ [])
+    numbers rows.list rows.list_form (1 ∷ [])
+    ∷ numbers rows.scans rows.scans_form (1000000 ∷ [])
+    ∷ numbers rows.lines rows.lines_form (0 ∷ [])
+    ∷ numbers rows.buffer rows.buffer_form (256 ∷ [])
     ∷ []
 
 -- all lines of the block

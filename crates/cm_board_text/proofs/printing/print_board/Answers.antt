@@ -2,7 +2,7 @@ use Rattle.std.proofs.Common.{◌≡◌, ℕ, List, [], ◌++◌, rules, flat_ma
 use Rattle.std.specs.List.{All}
 use Rattle.cm_base.specs.Lines.{lines_of}
 use Rattle.cm_base.specs.WrittenLines.{written_line}
-use Rattle.cm_board.specs.Board.{BoardText, IsSoundSub, IsSoundBoard, SubText}
+use Rattle.cm_board.specs.Board.{BoardText, IsSaidSub, IsSoundBoard, SubText}
 use Rattle.cm_board_text.specs.BoardPart.{board_of}
 use Rattle.cm_board_text.specs.Printed.{block_text, name_line, printed_board, version_line}
 use Rattle.cm_board_text.proofs.BoardBack.{printed_reads}
@@ -25,5 +25,5 @@ pub returns-clause-reads : goal.returns-clause-reads
 returns-clause-reads c =
     let e : c.put_subs.new.out.items ≡ printed_board c.args.board.now = returns-clause-text c in
     let board : IsSoundBoard c.args.board.now = search rules in
-    let subs : All IsSoundSub c.args.board.now.subs = subst (All IsSoundSub) (c.deref-2.ensures.value ∙ ap (λ (b : BoardText). b.subs) c.board.view_is) c.in_ok-put_subs.ensures.sound in
+    let subs : All IsSaidSub c.args.board.now.subs = subst (All IsSaidSub) (c.deref-2.ensures.value ∙ ap (λ (b : BoardText). b.subs) c.board.view_is) c.in_ok-put_subs.ensures.sound in
     λ more end begins. ap (λ (text : List ℕ). board_of end (lines_of (text ++ more))) e ∙ printed_reads c.args.board.now board subs more end begins

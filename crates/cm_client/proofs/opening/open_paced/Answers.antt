@@ -13,7 +13,7 @@ rule_of-requires c = (λ i. (tested (c.sub-sub.ensures i) (sym c.requires.cmd i)
 pub open-requires-clause-rule : goal.open-requires-clause-rule
 open-requires-clause-rule c =
     let ok = (λ i. (tested (c.sub-sub.ensures i) (sym c.requires.cmd i)).0) ∙ c.args.plan.sound.passed in
-    subst IsRule (sym c.in_ok-rule.ensures.rule) (rule_sound c.sub-sub.result.now c.args.cmd.now (subst IsSoundSub c.sub.view_is c.sub.invariant) ok)
+    subst IsRule (sym c.in_ok-rule.ensures.rule) (rule_sound c.sub-sub.result.now c.args.cmd.now (subst IsSoundSub c.sub.view_is c.sub.invariant.sound) ok)
 
 pub open-requires-clause-plan : goal.open-requires-clause-plan
 open-requires-clause-plan c =

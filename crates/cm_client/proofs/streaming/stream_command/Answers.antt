@@ -16,7 +16,7 @@ rule_of-requires g c = (λ i. (tested (c.sub-sub.ensures i) (sym c.requires.cmd 
 pub stream-requires-clause-rule : goal.stream-requires-clause-rule
 stream-requires-clause-rule g c κs within =
     let ok = (λ i. (tested (c.sub-sub.ensures i) (sym c.requires.cmd i)).0) ∙ c.args.plan.sound.passed in
-    subst IsRule (sym c.in_ok-rule.ensures.rule) (rule_sound c.sub-sub.result.now c.args.cmd.now (subst IsSoundSub c.sub.view_is c.sub.invariant) ok)
+    subst IsRule (sym c.in_ok-rule.ensures.rule) (rule_sound c.sub-sub.result.now c.args.cmd.now (subst IsSoundSub c.sub.view_is c.sub.invariant.sound) ok)
 
 pub stream-requires-clause-few : goal.stream-requires-clause-few
 stream-requires-clause-few g c κs within =

@@ -11,12 +11,12 @@ use Rattle.cm_job.proofs.accepting.values_of.Goals as goal
 pub codes_of-requires-clause-some : goal.codes_of-requires-clause-some
 codes_of-requires-clause-some c =
     let same = c.deref.ensures.value ∙ ap (λ (cmd : CmdText). cmd.list) (c.cmd.view_is ∙ c.cmd-cmd.ensures) in
-    let taken = passed c.args.sub.now c.args.cmd.now (subst IsSoundSub c.sub.view_is c.sub.invariant) c.requires in
+    let taken = passed c.args.sub.now c.args.cmd.now (subst IsSoundSub c.sub.view_is c.sub.invariant.sound) c.requires in
     subst (λ (list : List ℕ). 1 ≤ length list) (sym same) taken.list.low
 
 pub codes_of-requires-clause-channels : goal.codes_of-requires-clause-channels
 codes_of-requires-clause-channels c =
-    channels_there c.args.sub.now c.args.cmd.now c.deref.result.now (subst IsSoundSub c.sub.view_is c.sub.invariant) c.requires
+    channels_there c.args.sub.now c.args.cmd.now c.deref.result.now (subst IsSoundSub c.sub.view_is c.sub.invariant.sound) c.requires
     (c.deref.ensures.value ∙ ap (λ (cmd : CmdText). cmd.list) (c.cmd.view_is ∙ c.cmd-cmd.ensures))
 
 pub returns-in_err-values : goal.returns-in_err-values

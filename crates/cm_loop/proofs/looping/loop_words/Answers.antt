@@ -30,7 +30,7 @@ new-looped-requires-clause-length g c =
 
 pub open-requires-clause-rule : goal.open-requires-clause-rule
 open-requires-clause-rule g c =
-    let sound = subst IsSoundSub (c.sub-3.ensures ∙ sym c.sub-2.ensures) (subst IsSoundSub c.behind-output.view_is c.behind-output.invariant) in
+    let sound = subst IsSoundSub (c.sub-3.ensures ∙ sym c.sub-2.ensures) (subst IsSoundSub c.behind-output.view_is c.behind-output.invariant.sound) in
     sound_rule (output_of c.args.job.now) (plan_text c.output_plan-output.result) c.sub-2.result.now _ c.output_plan-output.ensures.plan c.sub-2.ensures (ap (λ (j : LoopJobText). j.output) c.job.view_is) c.in_ok-rule.rule c.in_ok-rule.ensures.rule sound
     c.output_plan-output.ensures.job.output.call.passes
 

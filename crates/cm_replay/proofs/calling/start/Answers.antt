@@ -16,7 +16,7 @@ start-requires-clause-planned c =
     let h : Here = here_at c.args.at.now c.args.files.now c.args.seat.now in
     subst (λ (p : PlanText). IsSchedule (schedule_of p)) (sym c.new-plan.ensures)
     (planned-schedule (plan_here h c.args.cmd.now) (record {
-      sub = subst board.IsSoundSub c.sub.view_is c.sub.invariant;
+      sub = subst board.IsSoundSub c.sub.view_is c.sub.invariant.sound;
       signals = subst signals.IsSoundSignals c.signals.view_is c.signals.invariant;
       plan = record { passed = c.requires.passed; t0 = c.requires.time; given = λ t e. absurd (cc) };
     }))

@@ -11,7 +11,7 @@ use Rattle.cm_run.proofs.driving.drive_words.Goals as goal
 pub move_words-requires-clause-rule : goal.move_words-requires-clause-rule
 move_words-requires-clause-rule g c κs within =
     let ok = subst (λ (s : SubText). (tested s c.args.drive.cmd.now).0 ≡ 0) (sym c.sub-sub.ensures) c.requires.passed in
-    subst IsRule (sym c.in_ok-rule.ensures.rule) (rule_sound c.sub-sub.result.now c.args.drive.cmd.now (subst IsSoundSub c.sub.view_is c.sub.invariant) ok)
+    subst IsRule (sym c.in_ok-rule.ensures.rule) (rule_sound c.sub-sub.result.now c.args.drive.cmd.now (subst IsSoundSub c.sub.view_is c.sub.invariant.sound) ok)
 
 pub returns : goal.returns
 returns g c =

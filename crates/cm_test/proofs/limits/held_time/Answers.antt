@@ -10,7 +10,7 @@ use Rattle.cm_test.proofs.Adjusted.{moved_fits}
 use Rattle.cm_test.proofs.limits.held_time.Goals as goal
 
 sound : (c : goal.After-scan_length) → IsSoundSub c.args.sub.now
-sound c = subst IsSoundSub c.sub.view_is c.sub.invariant
+sound c = subst IsSoundSub c.sub.view_is c.sub.invariant.sound
 
 -- the conversions within their limits fit into the longest scan
 fits : (c : goal.After-scan_length) → c.repair.new.trigger.arg * c.scan_length.result ≤ c.args.sub.now.scan_max

@@ -1,7 +1,7 @@
 use Rattle.std.proofs.Common.{◌≡◌, sym, subst}
-use Rattle.cm_board.specs.Board.{IsSoundSub, SubText}
+use Rattle.cm_board.specs.Board.{IsSaidSub, SubText}
 use Rattle.cm_run.specs.SoakJob.{soak_sub}
-use Rattle.cm_run.proofs.SoakAccepted.{sub_sound}
+use Rattle.cm_run.proofs.SoakAccepted.{sub_said}
 use Rattle.cm_run.proofs.soak.job.soak_sub.Goals as goal
 
 pub invariant_of-result : goal.invariant_of-result
@@ -20,4 +20,4 @@ invariant_of-result c =
       chans = c.new-3.ensures.items i;
       block = c.in_ok-soak_block.ensures i;
     } in
-    subst IsSoundSub (sym same) sub_sound
+    subst IsSaidSub (sym same) sub_said

@@ -10,7 +10,7 @@ use Rattle.cm_running.proofs.command.Command.start.Goals as goal
 pub open-requires-clause-rule : goal.open-requires-clause-rule
 open-requires-clause-rule c =
     let p = plan_text c.args.plan in
-    let sound : IsSoundSub p.sub = subst IsSoundSub (c.sub.view_is ∙ c.sub-sub.ensures) c.sub.invariant in
+    let sound : IsSoundSub p.sub = subst IsSoundSub (c.sub.view_is ∙ c.sub-sub.ensures) c.sub.invariant.sound in
     subst IsRule (sym c.requires.rule) (rule_is p.sub p.cmd sound c.requires.planned.format.some c.requires.planned.format.channels)
 
 pub invariant_of-result : goal.invariant_of-result

@@ -9,12 +9,12 @@ use Rattle.cm_running.proofs.command.Command.trigger.Goals as goal
 
 pub new-requires : goal.new-requires
 new-requires c =
-    (trigger-planned c.triggered-plan.result (subst IsSoundSub (c.sub.view_is ∙ c.sub-sub.ensures) c.sub.invariant)
+    (trigger-planned c.triggered-plan.result (subst IsSoundSub (c.sub.view_is ∙ c.sub-sub.ensures) c.sub.invariant.sound)
     (subst signals.IsSoundSignals (c.signals.view_is ∙ c.signals-signals.ensures) c.signals.invariant)).timely.order
 
 pub invariant_of-self : goal.invariant_of-self
 invariant_of-self c =
-    let planned = trigger-planned c.triggered-plan.result (subst IsSoundSub (c.sub.view_is ∙ c.sub-sub.ensures) c.sub.invariant)
+    let planned = trigger-planned c.triggered-plan.result (subst IsSoundSub (c.sub.view_is ∙ c.sub-sub.ensures) c.sub.invariant.sound)
     (subst signals.IsSoundSignals (c.signals.view_is ∙ c.signals-signals.ensures) c.signals.invariant) in
     let none : served (running_of c.self.inside) ≡ 0 = subst (λ (r : Running). served r ≡ 0) (sym c.self.view_is) c.requires.early in
     trigger-command c.self.inside c.self.invariant c.triggered-plan.result c.in_ok-self-inside.field-0 c.args.time none c.triggered-plan.ensures planned c.in_ok-self-inside.ensures

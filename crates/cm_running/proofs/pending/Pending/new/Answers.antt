@@ -15,10 +15,10 @@ abbrev reached : PlanText → Option Fifo → ToCome
 reached p fifo = record { conversions = (reaching p fifo).arrivals; complete = is_complete p; edge = stop_edge_of p; lost_at = (reaching p fifo).lost_at }
 
 pub new-requires-in-Some-clause-low : goal.new-requires-in-Some-clause-low
-new-requires-in-Some-clause-low c = (fifo-size c.sub-sub.result.now c.in-Some.fifo (subst IsSoundSub c.sub.view_is c.sub.invariant) (sym (ap (λ (s : SubText). s.fifo) c.sub.view_is) ∙ c.in-Some.is)).0
+new-requires-in-Some-clause-low c = (fifo-size c.sub-sub.result.now c.in-Some.fifo (subst IsSoundSub c.sub.view_is c.sub.invariant.sound) (sym (ap (λ (s : SubText). s.fifo) c.sub.view_is) ∙ c.in-Some.is)).0
 
 pub new-requires-in-Some-clause-high : goal.new-requires-in-Some-clause-high
-new-requires-in-Some-clause-high c = (fifo-size c.sub-sub.result.now c.in-Some.fifo (subst IsSoundSub c.sub.view_is c.sub.invariant) (sym (ap (λ (s : SubText). s.fifo) c.sub.view_is) ∙ c.in-Some.is)).1
+new-requires-in-Some-clause-high c = (fifo-size c.sub-sub.result.now c.in-Some.fifo (subst IsSoundSub c.sub.view_is c.sub.invariant.sound) (sym (ap (λ (s : SubText). s.fifo) c.sub.view_is) ∙ c.in-Some.is)).1
 
 pub returns : goal.returns
 returns c =
