@@ -1,3 +1,4 @@
 pub mod Expansions
 pub mod Reported
 pub mod Wholes
+pub mod Streams

@@ -2,3 +2,4 @@ pub mod Going
 pub mod Whole
 pub mod RunText
 pub mod ExpandSession
+pub mod StreamLaw

@@ -3,4 +3,5 @@
 
 pub mod expanding;
 pub mod going;
+pub mod law;
 pub mod whole;

@@ -1,7 +1,9 @@
-// Tests of calls that meet the outside, and of places that seats share.
+// Tests of calls that meet the outside, of a command's text, and of places that seats share.
 #![tactic(auto)]
 
 #[cfg(test)]
 mod base;
+#[cfg(test)]
+mod cmd;
 #[cfg(test)]
 mod sub;

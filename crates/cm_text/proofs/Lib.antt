@@ -9,3 +9,4 @@ pub mod Outs
 pub mod Writing
 pub mod Counts
 pub mod Scaled
+pub mod Streams

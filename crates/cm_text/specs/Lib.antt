@@ -12,3 +12,4 @@ pub mod Ends
 pub mod SampleLines
 pub mod Repeated
 pub mod Declined
+pub mod Streams
