@@ -9,6 +9,7 @@ use Rattle.cm_base.specs.declared.faults.ReadStop.{ReadStop}
 use Rattle.cm_base.specs.declared.faults.ReadStop.TheVariants as stops
 use Rattle.cm_base.specs.declared.faults.Refused.{Refused}
 use Rattle.cm_base.proofs.Each.{stops-along}
+use Rattle.cm_base.proofs.Oks.{at_line_keeps, ok_keeps}
 use Rattle.cm_board.specs.Board.{AreTimers, IsBlock, IsSaidSub, IsSoundSub, SubText, has_channels}
 use Rattle.cm_board.specs.BoardTable.{board_table}
 use Rattle.cm_board.specs.Items.{ItemText}
@@ -20,7 +21,6 @@ use Rattle.cm_board_text.specs.Block.{checked, finished, is_board_ok}
 use Rattle.cm_board_text.specs.BoardPart.{block_at, head_after, whole_lines}
 use Rattle.cm_board_text.specs.Reading.{completed, items_said}
 use Rattle.cm_board_text.proofs.BoardKept.{block_keeps}
-use Rattle.cm_board_text.proofs.BoardOks.{at_line_keeps, ok_keeps}
 use Rattle.cm_board_text.proofs.Good.{completed_ok}
 use Rattle.cm_board_text.proofs.ItemRead.{seen_stops}
 use Rattle.cm_board_text.proofs.Sound.{sound, timers_sound}

@@ -16,6 +16,7 @@ use Rattle.cm_base.specs.declared.faults.Fault.TheVariants as faults
 use Rattle.cm_base.specs.declared.faults.Refused.{Refused}
 use Rattle.cm_base.proofs.Bools.{and_true, both}
 use Rattle.cm_base.proofs.Refusal.{keyed}
+use Rattle.cm_base.proofs.Oks.{after_any, at_line_keeps, limited_ok, ok_keeps, then_ok, weaker}
 use Rattle.cm_board.specs.Board.{IsFrom1To, IsSoundBoard, SubText, has_channels}
 use Rattle.cm_board.specs.BoardTable.{board_table}
 use Rattle.cm_board.specs.Items.{ItemText}
@@ -26,7 +27,7 @@ use Rattle.cm_board_text.specs.BoardPart.{any_words, block_lines, blocks_from, h
 use Rattle.cm_board_text.specs.Heads.{head_words}
 use Rattle.cm_board_text.specs.Kept.{AreItems}
 use Rattle.cm_board_text.specs.Reading.{completed, items_said}
-use Rattle.cm_board_text.proofs.BoardOks.{Any, IsHead, any_ok, at_line_keeps, head_may, limited_ok, ok_keeps, then_ok, weaker}
+use Rattle.cm_board_text.proofs.BoardOks.{IsHead, head_may}
 use Rattle.cm_board_text.proofs.Good.{items_ok}
 use Rattle.cm_board_text.proofs.TableIs.{board_is_table}
 
@@ -60,8 +61,8 @@ head_version number version count line head some e =
 -- what a block says at its end is of its head's version
 finished_version : (head : Head) (items : List ItemText) → IfOk (finished head items) (λ sub. sub.version ≡ head.version)
 finished_version head items =
-    then_ok Any (λ (sub : SubText). sub.version ≡ head.version) (completed board_table head items) (λ all. checked (sub_of head all)) (any_ok (completed board_table head items))
-    (λ all any. by (sub_of head all) (is_board_ok (sub_of head all)) refl)
+    after_any (λ (sub : SubText). sub.version ≡ head.version) (completed board_table head items) (λ all. checked (sub_of head all))
+    (λ all. by (sub_of head all) (is_board_ok (sub_of head all)) refl)
   where
     by : (sub : SubText) (ok : Bool) → sub.version ≡ head.version → IfOk (cond ok (Ok sub) (Err faults.Bad)) (λ sub. sub.version ≡ head.version)
     by sub true e = e
@@ -75,8 +76,8 @@ block_ok : (version end count : ℕ) (line : LineText) (rest : List LineText) �
 unfolding IsRead IsHeadAfter
 block_ok version end count line rest =
     then_ok (IsHeadAfter version count) (IsRead version count) (at_line line.number (head_after version count line)) _ (head_after_keeps line.number version count line)
-    (λ head is. then_ok Any (IsRead version count) (items_said board_table head (block_lines rest)) _ (any_ok (items_said board_table head (block_lines rest)))
-    (λ items any. at_line_keeps (IsRead version count) (next_number end (lines_after rest)) (finished head items)
+    (λ head is. after_any (IsRead version count) (items_said board_table head (block_lines rest)) _
+    (λ items. at_line_keeps (IsRead version count) (next_number end (lines_after rest)) (finished head items)
     (weaker (λ (sub : SubText). sub.version ≡ head.version) (IsRead version count) (λ sub same. (is.1, eq-eqb sub.version version (same ∙ is.0.1))) (finished head items) (finished_version head items))))
 
 one_more_room : (count : ℕ) → IsTrue (nat_lt count 16) → count + 1 ≤ 16
@@ -132,8 +133,8 @@ blocks_some version end (line ∷ rest) any e = begins_one line.bad refl e
     at_block true subdevice p q = cc
     at_block false false p q = cc
     at_block false true p q =
-        then_ok Any (λ subs. 1 ≤ length subs) (next_block version end 0 line rest) _ (any_ok _)
-        (λ sub any. then_ok Any (λ subs. 1 ≤ length subs) (blocks_from version end (0 + 1) rest) _ (any_ok _) (λ subs any. read_one subs sub))
+        after_any (λ subs. 1 ≤ length subs) (next_block version end 0 line rest) _
+        (λ sub. after_any (λ subs. 1 ≤ length subs) (blocks_from version end (0 + 1) rest) _ (λ subs. read_one subs sub))
 
     key_begins : (b : Bool) → begins (codes "subdevice") line ≡ b → any_keyed line false b ≡ Ok any → begins (codes "subdevice") line ≡ true
     key_begins true is e = is

@@ -15,10 +15,10 @@ use Rattle.cm_base.specs.declared.faults.Fault.{Fault}
 use Rattle.cm_base.specs.declared.faults.Fault.TheVariants as faults
 use Rattle.cm_base.proofs.Bools.{and_true}
 use Rattle.cm_base.proofs.Values.{AreFew, values_few}
+use Rattle.cm_base.proofs.Oks.{number_ok, then_ok}
 use Rattle.cm_board.specs.Times.{are_divisors, is_divisor}
 use Rattle.cm_board.specs.declared.board.Divisors.TheVariants as divisors_of
 use Rattle.cm_board_text.specs.DivisorsText.{divided, divisor_of, divisors_word, listed_of, points_from, span_of}
-use Rattle.cm_board_text.proofs.BoardOks.{number_ok, then_ok}
 use Rattle.cm_board_text.proofs.ItemRead.{stops_first}
 
 -- a number that is read is one that a counter can divide by

@@ -5,6 +5,7 @@ mod BoardBack
 mod BoardKept
 mod BoardOks
 mod BoardPieces
+mod BoardSound
 mod Counting
 mod DivisorsBack
 mod DivisorsSaid

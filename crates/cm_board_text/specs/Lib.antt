@@ -10,4 +10,5 @@ pub mod Printed
 pub mod PrintedReads
 pub mod Reading
 pub mod Refusal
+pub mod SoundBoards
 pub mod UncheckedView

@@ -1,3 +1,4 @@
 pub mod After
 pub mod Fewer
 pub mod Then
+pub mod SessionsSound

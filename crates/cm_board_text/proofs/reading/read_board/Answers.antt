@@ -2,8 +2,8 @@ use Rattle.std.proofs.Common.{◌≡◌, ◌+◌, ◌≤◌, ℕ, length, map, t
 use Rattle.cm_base.specs.LineView.{line_view}
 use Rattle.cm_board.specs.declared.board.BoardDesc.{BoardDesc}
 use Rattle.cm_base.specs.ReadStop.{Gives}
+use Rattle.cm_base.proofs.Oks.{weaker}
 use Rattle.cm_board_text.specs.BoardPart.{board_of}
-use Rattle.cm_board_text.proofs.BoardOks.{weaker}
 use Rattle.cm_board_text.proofs.Prefix.{prefix_board, prefix_place}
 use Rattle.cm_board_text.proofs.reading.read_board.Goals as goal
 
