@@ -1,5 +1,5 @@
 -- What each plan of a sound subdevice and sound signals keeps, over the definitions alone.
-use Rattle.std.proofs.Common.{◌≡◌, ℕ, ◌+◌, ◌-◌, ◌<◌, ◌≤◌, ◌^◌, min, Bool, true, false, List, length, Option, Some, None, refl, arith, mul-le-mul_right, mul-le-mul_left}
+use Rattle.std.proofs.Common.{◌≡◌, ℕ, ◌+◌, ◌<◌, ◌≤◌, ◌^◌, min, Bool, true, false, List, length, Option, Some, None, refl, arith, mul-le-mul_right, mul-le-mul_left}
 use Rattle.std.specs.Prelude.{◌==◌, IfSome, option_map, unwrap_or, if◌then◌else◌}
 use Rattle.std.proofs.lemmas.Bool.{eqb-true}
 use Rattle.cm_board.specs.Board as board
@@ -14,11 +14,12 @@ use Rattle.cm_test.proofs.Moved.{whole}
 use Rattle.cm_test.proofs.Passed.{passed}
 use Rattle.cm_expand.specs.Timing.{AnyTime, AreBegins, AreConverts, AtOnce, Timing, Every, OnEdges, PerEdge, Spaced, IsTiming, begins, first, times}
 use Rattle.cm_expand.specs.Fit.{IsExpansion}
-use Rattle.cm_expand.specs.Plan.{IsPlan, PlanText, timing_from, timing_of, edge_since, edges_of, first_trigger, is_edge, is_trigger, slope_of, start_of, stop_edge_from, times_if, times_of}
+use Rattle.cm_expand.specs.Plan.{IsPlan, PlanText, timing_from, timing_of, edge_since, edges_of, first_trigger, slope_of, start_of, stop_edge_from, times_if, times_of}
 use Rattle.cm_expand.proofs.Boards.{begins_short, scans_short}
 use Rattle.cm_expand.proofs.Fits.{fit}
 use Rattle.cm_expand.proofs.Order.{expansion}
-use Rattle.cm_expand.proofs.Plans.{least_within}
+use Rattle.cm_expand.proofs.Plans.{edge_by}
+use Rattle.cm_expand.proofs.Triggers.{trigger_within}
 
 -- a plan whose subdevice and signals keep their rules
 pub record IsSoundPlan (p : PlanText) : Type 0 where
@@ -33,11 +34,11 @@ start_by horizon t0 s false true a b by first second e = second e
 start_by horizon t0 s false false a b by first second e = let same : t0 ≡ s = cc in omega arith
 
 -- a command starts by the horizon
-start_within : (p : PlanText) (s : ℕ) → p.t0 ≤ p.signals.horizon → start_of p ≡ Some s → s ≤ p.signals.horizon
-start_within p s by e =
-    start_by p.signals.horizon p.t0 s (p.cmd.start.src == source.ext) (p.cmd.start.src == source.int) (edge_since p p.cmd.start.arg p.t0) (first_trigger p) by
-    (λ found. let low = least_within (is_edge (edges_of p p.cmd.start.arg)) p.t0 (p.signals.horizon + 1 - p.t0) s found in omega arith)
-    (λ found. let low = least_within (is_trigger p p.signals.ints) p.t0 (p.signals.horizon + 1 - p.t0) s found in omega arith)
+start_within : (p : PlanText) (s : ℕ) → IsSoundPlan p → start_of p ≡ Some s → s ≤ p.signals.horizon
+start_within p s sound e =
+    start_by p.signals.horizon p.t0 s (p.cmd.start.src == source.ext) (p.cmd.start.src == source.int) (edge_since p p.cmd.start.arg p.t0) (first_trigger p) sound.plan.t0
+    (λ found. edge_by p p.cmd.start.arg p.t0 s sound.signals found)
+    (λ found. trigger_within p s sound.signals sound.plan found)
     e
 
 begins_by : (horizon arg : ℕ) (timer ext : Bool) (edges : List ℕ) → (timer ≡ true → (1 ≤ arg) × (arg < 2 ^ 32)) → (ext ≡ true → signals.AreEdges horizon edges) → AreBegins horizon (if timer then Every arg else (if ext then OnEdges edges else AnyTime))
@@ -89,12 +90,10 @@ until_by horizon true (Some e) within = let up = within e refl in omega arith
 until_by horizon true None within = omega arith
 until_by horizon false edge within = omega arith
 
-until_within : (p : PlanText) (start : ℕ) → start ≤ p.signals.horizon → unwrap_or (stop_edge_from p start) (p.signals.horizon + 1) ≤ p.signals.horizon + 1
-until_within p start by =
+until_within : (p : PlanText) (start : ℕ) → signals.IsSoundSignals p.signals → unwrap_or (stop_edge_from p start) (p.signals.horizon + 1) ≤ p.signals.horizon + 1
+until_within p start sound =
     until_by p.signals.horizon (p.cmd.stop.src == source.ext) (edge_since p p.cmd.stop.arg (start + 1))
-    (λ e found. let low = least_within (is_edge (edges_of p p.cmd.stop.arg)) (start + 1) (p.signals.horizon + 1 - (start + 1)) e found in omega arith)
-
--- the edges of a line
+    (λ e found. edge_by p p.cmd.stop.arg (start + 1) e sound found)
 
 pub timing_is : (p : PlanText) (start : ℕ) → IsSoundPlan p → start_of p ≡ Some start → IsTiming (timing_from p start)
 timing_is p start sound begun =
@@ -103,8 +102,8 @@ timing_is p start sound begun =
     let most = most_by p.signals.horizon p.cmd.stop.arg (p.cmd.stop.src == source.count) sound.signals.horizon (λ counted. (fits.count counted, count_high p.sub p.cmd sound.sub inside counted)) in
     record {
       horizon = sound.signals.horizon;
-      until = until_within p start (start_within p start sound.plan.t0 begun);
-      start = start_within p start sound.plan.t0 begun;
+      until = until_within p start sound.signals;
+      start = start_within p start sound begun;
       begins = begins_by p.signals.horizon p.cmd.scan_begin.arg (p.cmd.scan_begin.src == source.timer) (p.cmd.scan_begin.src == source.ext) (edges_of p p.cmd.scan_begin.arg)
           (λ timer. (fits.period timer, period_high p.sub p.cmd sound.sub inside timer)) (λ ext. line_edges p.signals (slope_of p.sub p.cmd.scan_begin.arg) (board.external_line p.sub p.cmd.scan_begin.arg) sound.signals (fits.begin_line ext));
       converts = converts_by p.signals.horizon p.cmd.convert.arg (p.cmd.convert.src == source.timer) (p.cmd.convert.src == source.ext) (edges_of p p.cmd.convert.arg)

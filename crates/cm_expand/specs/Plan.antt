@@ -1,7 +1,6 @@
 -- What a command's expansion is made from.
-use Rattle.std.specs.Prelude.{◌≡◌, ℕ, ◌+◌, ◌-◌, ◌≤◌, ◌*◌, Bool, true, false, ◌&&◌, ◌||◌, ◌==◌, if◌then◌else◌, nat_le}
-use Rattle.std.specs.Prelude.{List, [], length, Option, Some, None, option_map, option_and_then, unwrap_or, is_some}
-use Rattle.std.specs.List.{list_any}
+use Rattle.std.specs.Prelude.{◌≡◌, ℕ, ◌+◌, ◌≤◌, ◌*◌, Bool, true, ◌&&◌, ◌==◌, if◌then◌else◌, nat_le}
+use Rattle.std.specs.Prelude.{List, [], ◌∷◌, length, map, Option, Some, None, option_map, option_and_then, unwrap_or, is_some}
 use Rattle.cm_board.specs.Board.{SubText, is_fall, external_line}
 use Rattle.cm_base.specs.Source as source
 use Rattle.cm_cmd.specs.Command.{CmdText}
@@ -10,8 +9,9 @@ use Rattle.cm_signal.specs.Signals.{SignalsText, times_at}
 use Rattle.cm_signal.specs.declared.signals.Slope.{Slope}
 use Rattle.cm_signal.specs.declared.signals.Slope.TheVariants as slopes
 use Rattle.cm_signal.specs.declared.signals.IntAt.{IntAt}
-use Rattle.cm_expand.specs.Timing.{Timing, Begins, Every, OnEdges, AnyTime, Converts, AtOnce, Spaced, PerEdge, least}
-use Rattle.cm_expand.specs.Timing.{begins, are_full, times}
+use Rattle.cm_expand.specs.Timing.{Timing, Begins, Every, OnEdges, AnyTime, Converts, AtOnce, Spaced, PerEdge}
+use Rattle.cm_expand.specs.Timing.{first_edge, begins, are_full, times}
+use Rattle.cm_expand.specs.Sooner.{sooner_of}
 
 -- a command on the subdevice at a place of its board, which is called at `t0`, and maybe given a trigger
 pub record PlanText : Type 0 where
@@ -30,34 +30,26 @@ slope_of sub arg = if is_fall sub arg then slopes.Fall else slopes.Rise
 abbrev pub edges_of : PlanText → ℕ → List ℕ
 edges_of p arg = times_at p.signals (slope_of p.sub arg) (external_line p.sub arg)
 
--- whether a line has an edge at a time
-abbrev pub is_edge : List ℕ → ℕ → Bool
-is_edge edges t = list_any (λ edge. edge == t) edges
-
 -- the first edge not below a time
 abbrev pub edge_since : PlanText → ℕ → ℕ → Option ℕ
-edge_since p arg from = least (is_edge (edges_of p arg)) from (p.signals.horizon + 1 - from)
-
--- whether the trigger that a session gives comes at a time
-abbrev pub is_given : Option ℕ → ℕ → Bool
-is_given None t = false
-is_given (Some given) t = given == t
+edge_since p arg from = first_edge (edges_of p arg) from
 
 -- an internal trigger of this subdevice with the start argument as number
 abbrev pub is_own : PlanText → IntAt → Bool
 is_own p int = int.sub == p.index && int.arg == p.cmd.start.arg
 
--- when such a trigger comes, where it isn't below the time of the call
+-- when such a trigger comes, if that isn't below the time of the call
 abbrev pub own_time : PlanText → IntAt → Option ℕ
 own_time p int = if is_own p int && nat_le p.t0 int.time then Some int.time else None
 
--- whether one of these triggers, or the given one, comes at a time
-abbrev pub is_trigger : PlanText → List IntAt → ℕ → Bool
-is_trigger p ints t = is_given p.trig t || list_any (λ int. is_own p int && int.time == t) ints
+-- the soonest of times that may be missing
+abbrev pub soonest_of : List (Option ℕ) → Option ℕ
+soonest_of [] = None
+soonest_of (time ∷ times) = sooner_of time (soonest_of times)
 
--- the first internal trigger not below the time of the call
+-- the first internal trigger not below the time of the call: the given one or one of the signals
 abbrev pub first_trigger : PlanText → Option ℕ
-first_trigger p = least (is_trigger p p.signals.ints) p.t0 (p.signals.horizon + 1 - p.t0)
+first_trigger p = soonest_of (p.trig ∷ map (own_time p) p.signals.ints)
 
 -- when the command starts, if it does
 abbrev pub start_of : PlanText → Option ℕ

@@ -1,7 +1,7 @@
 -- A conversion of a timing, with what the next one is found from.
 use Rattle.std.specs.Prelude.{◌≡◌, ℕ, ◌+◌, ◌-◌, ◌%◌, ◌<◌, ◌≤◌, Bool, true, false, List, [], ◌∷◌, ◌++◌, length, flat_map}
 use Rattle.std.specs.Prelude.{slice_index, Option, Some}
-use Rattle.cm_expand.specs.Timing.{Timing, Begins, Every, OnEdges, Converts, PerEdge, may_begin}
+use Rattle.cm_expand.specs.Timing.{Timing, Begins, Every, OnEdges, Converts, PerEdge, soonest}
 use Rattle.cm_expand.specs.Timing.{conversion, as_long_as, scan, are_full, begins_from, next_begin}
 use Rattle.cm_expand.specs.declared.timing.Next.{Next}
 use Rattle.cm_expand.specs.declared.timing.Next.TheVariants.{At, Done, Cut}
@@ -23,21 +23,17 @@ abbrev pub convert_edges : Converts → List ℕ
 convert_edges (PerEdge edges) = edges
 convert_edges other = []
 
--- the first time not below another at which a scan may begin, with the place of its edge
-pub record IsSoonest (begins : Begins) (start from time at : ℕ) : Type 0 where
-  pub low : from ≤ time
-  pub may : may_begin begins start time ≡ true
-  pub between : (u : ℕ) → from ≤ u → u < time → may_begin begins start u ≡ false
-  pub cut : IsCut (begin_edges begins) at time
-
--- no scan may begin any more
-abbrev pub IsNever : Begins → ℕ → ℕ → Type 0
-IsNever begins start from = (u : ℕ) → from ≤ u → may_begin begins start u ≡ false
-
 -- for scans that begin in a period, a time is a number of periods after the start
 abbrev pub IsTick : Begins → ℕ → ℕ → Type 0
 IsTick (Every period) start time = (time - start) % period ≡ 0
 IsTick other start time = Unit {0}
+
+-- the first time not below another at which a scan may begin, with the place of its edge
+pub record IsSoonest (begins : Begins) (start from time at : ℕ) : Type 0 where
+  pub is : soonest begins start from ≡ Some time
+  pub low : from ≤ time
+  pub tick : IsTick begins start time
+  pub cut : IsCut (begin_edges begins) at time
 
 -- a scan begins at a time, and the edges before a place are below it
 pub record IsBegin (c : Timing) (time at : ℕ) : Type 0 where

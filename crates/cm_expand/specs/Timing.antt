@@ -1,8 +1,9 @@
 -- When the scans of a command begin, and when their conversions come.
-use Rattle.std.specs.Prelude.{ℕ, zero, suc, ◌+◌, ◌-◌, ◌*◌, ◌%◌, ◌<◌, ◌≤◌, ◌^◌, Bool, true, if◌then◌else◌, nat_eq}
-use Rattle.std.specs.Prelude.{nat_le, List, [], ◌∷◌, filter, length, flat_map, slice_get, Option, Some, None}
+use Rattle.std.specs.Prelude.{ℕ, zero, suc, ◌+◌, ◌-◌, ◌*◌, ◌<◌, ◌≤◌, ◌^◌, Bool, if◌then◌else◌, nat_le, nat_lt}
+use Rattle.std.specs.Prelude.{List, [], ◌∷◌, filter, length, flat_map, slice_get, Option, Some, None}
 use Rattle.std.specs.Prelude.{option_map, option_and_then, ◌==◌}
-use Rattle.std.specs.List.{list_all, list_any}
+use Rattle.std.specs.Int.{div_ceil}
+use Rattle.std.specs.List.{list_all}
 use Rattle.cm_signal.specs.Signals.{AreEdges}
 
 -- when a scan may begin: a whole number of periods after the start, at an edge, or at any time
@@ -28,24 +29,28 @@ pub record Timing : Type 0 where
   pub until : ℕ
   pub horizon : ℕ
 
--- the least of `count` numbers from `from` on that passes the test
-abbrev pub least : (ℕ → Bool) → ℕ → ℕ → Option ℕ
-least test from zero = None
-least test from (suc count) = let later : Option ℕ = least test (suc from) count in if test from then Some from else later
-
--- whether a scan may begin at a time that isn't below the start
-abbrev pub may_begin : Begins → ℕ → ℕ → Bool
-may_begin (Every period) start time = nat_eq ((time - start) % period) 0
-may_begin (OnEdges edges) start time = list_any (λ edge. nat_eq edge time) edges
-may_begin AnyTime start time = true
-
--- the first time not below `from` at which a scan may begin
-abbrev pub first : Timing → ℕ → Option ℕ
-first c from = least (may_begin c.begins c.start) from (c.until - from)
-
 -- the edges not below a time
 abbrev pub edges_from : List ℕ → ℕ → List ℕ
 edges_from edges time = filter (nat_le time) edges
+
+-- the first edge not below a time
+abbrev pub first_edge : List ℕ → ℕ → Option ℕ
+first_edge edges time = slice_get (edges_from edges time) 0
+
+-- the first time not below `from` that is a whole number of periods after the start, an edge, or any time
+abbrev pub soonest : Begins → ℕ → ℕ → Option ℕ
+soonest (Every period) start from = Some (start + div_ceil (from - start) period * period)
+soonest (OnEdges edges) start from = first_edge edges from
+soonest AnyTime start from = Some from
+
+-- a time, if it is below a limit
+abbrev pub before : ℕ → Option ℕ → Option ℕ
+before until None = None
+before until (Some time) = if nat_lt time until then Some time else None
+
+-- the first time not below `from` at which a scan may begin
+abbrev pub first : Timing → ℕ → Option ℕ
+first c from = before c.until (soonest c.begins c.start from)
 
 -- when conversion i comes of a scan that begins at a time
 abbrev pub conversion_time : Converts → ℕ → ℕ → Option ℕ

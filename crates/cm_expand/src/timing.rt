@@ -1,7 +1,7 @@
 // When the scans of a command begin and when their conversions come.
 ghost use Rattle.std.specs.Prelude.{◌≡◌, ◌<◌, ◌≤◌, ◌+◌, ◌-◌, ◌*◌, ◌%◌, ◌^◌, ◌∷◌, ◌++◌, ℕ, suc, true, length, slice_index, slice_get, flat_map, IfSome, MatchOption, MatchResult, option_map};
 ghost use Rattle.std.specs.List.Sorted.{IsStrictlyIncreasing};
-ghost use Rattle.cm_expand.specs.Timing.{IsTiming, first, may_begin, times, scan, begins_from};
+ghost use Rattle.cm_expand.specs.Timing.{IsTiming, first, times, scan, begins_from};
 ghost use Rattle.cm_expand.specs.TimePoint.{IsCut, IsTimePoint, begin_edges, convert_edges, rest_from, rest_of};
 
 use crate::conv::TooMany;
@@ -128,10 +128,10 @@ pub(crate) fn edge_from(edges: &[u64], at: usize, from: u64) -> Option<Begin>
 }
 
 impl Timing<'_> {
-    ghost use Rattle.cm_expand.specs.Timing.{IsTiming, first, may_begin, conversion, up_to, scan_end, scan, are_full, next_begin, begins_from, begins, times};
+    ghost use Rattle.cm_expand.specs.Timing.{IsTiming, soonest, first, conversion, up_to, scan_end, scan, are_full, next_begin, begins_from, begins, times};
     ghost use Rattle.cm_expand.specs.TimingView.{timing_text};
     ghost use Rattle.cm_expand.specs.Extent.{IsExtent};
-    ghost use Rattle.cm_expand.specs.TimePoint.{IsCut, begin_edges, convert_edges, IsBegin, IsTick, IsSoonest, IsNever, IsTimePoint, IfAt, full_from, full_of, rest_from, rest_of, scans_from};
+    ghost use Rattle.cm_expand.specs.TimePoint.{IsCut, begin_edges, convert_edges, IsBegin, IsTick, IsSoonest, IsTimePoint, IfAt, full_from, full_of, rest_from, rest_of, scans_from};
 
     // The first time not below `from` at which a scan may begin, as one may at `last`.
     #[inline(always)]
@@ -144,7 +144,7 @@ impl Timing<'_> {
         requires within { at ≤ length (begin_edges (timing_text self.now).begins) }
         requires passed { (k : ℕ) → k < at → slice_index (begin_edges (timing_text self.now).begins) k < from }
         ensures { MatchOption result
-            (IsNever (timing_text self.now).begins self.now.start from)
+            (soonest (timing_text self.now).begins self.now.start from ≡ None)
             (λ b. IsSoonest (timing_text self.now).begins self.now.start from b.time b.at) }
     {
         match self.begins {
