@@ -1,6 +1,9 @@
 -- The times that timers can make.
-use Rattle.std.proofs.Common.{◌≡◌, ℕ, ◌*◌, ◌/◌, ◌^◌, ◌≤◌, [], sym, ap, ◌∙◌, min, arith}
+use Rattle.std.proofs.Common.{◌≡◌, ℕ, ◌+◌, ◌-◌, ◌*◌, ◌/◌, ◌%◌, ◌^◌, ◌≤◌, [], inl, inr, sym, ap, ◌∙◌, min, arith}
 use Rattle.std.specs.Int.{div_ceil}
+use Rattle.std.proofs.lemmas.Bool.{cases_lt}
+use Rattle.std.proofs.lemmas.Nat.{div-add-mod', div-mul-add}
+use Rattle.cm_board.specs.Law.{DownToTick, UpToTick}
 use Rattle.cm_board.specs.Times.{IsGreatest, IsLeast, TimersText, can_make, down, greatest_to, is_product, least_to, up}
 use Rattle.cm_board.proofs.Searches.{ceil_below, greatest, greatest_always, greatest_multiple, least_always, least_is, least_multiple}
 
@@ -31,3 +34,26 @@ pub up_plain : (tick time : ℕ) → 1 ≤ tick → time ≤ 2 ^ 32 → up (reco
 up_plain tick time some h =
     sym (up_product (record { tick = tick; clock = [] }) time some h)
     ∙ ap (λ n. min (n * tick) (2 ^ 32)) (sym (least_always (2 ^ 32) (div_ceil time tick) (let le = ceil_below time tick some in omega arith)))
+
+-- a quotient that is rounded up is one of a greater number
+ceil_plain : (n k : ℕ) → 1 ≤ k → div_ceil n k ≡ (n + (k - 1)) / k
+ceil_plain n k some =
+    let s = div-add-mod' n k in
+    elim (cases_lt 0 (n % k)) as (λ _. div_ceil n k ≡ (n + (k - 1)) / k) [
+      | inl l ↦
+          let e : n + (k - 1) ≡ (n / k + 1) * k + (n % k - 1) = omega arith in
+          let one : min 1 (n % k) ≡ 1 = omega arith in
+          let next : (n + (k - 1)) / k ≡ n / k + 1 = ap (λ m. m / k) e ∙ div-mul-add (n / k + 1) k (n % k - 1) (omega arith) in
+          omega arith
+      | inr l ↦
+          let e : n + (k - 1) ≡ n / k * k + (k - 1) = omega arith in
+          let none : min 1 (n % k) ≡ 0 = omega arith in
+          let same : (n + (k - 1)) / k ≡ n / k = ap (λ m. m / k) e ∙ div-mul-add (n / k) k (k - 1) (omega arith) in
+          omega arith
+    ]
+
+pub down_to_tick : DownToTick
+down_to_tick = down_plain
+
+pub up_to_tick : UpToTick
+up_to_tick tick time some h = up_plain tick time some h ∙ ap (λ n. min (n * tick) (2 ^ 32)) (ceil_plain time tick some)

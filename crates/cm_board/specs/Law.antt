@@ -1,8 +1,9 @@
 -- What holds of the definitions alone.
-use Rattle.std.specs.Prelude.{◌≡◌, ℕ, List, [], ◌∷◌, codes, take, length}
+use Rattle.std.specs.Prelude.{◌≡◌, ◌≤◌, ◌+◌, ◌-◌, ◌*◌, ◌/◌, ◌^◌, ℕ, min, List, [], ◌∷◌, codes, take, length}
 use Rattle.cm_board.specs.BoardTable.{board_forms, following}
 use Rattle.cm_board.specs.Rows as rows
 use Rattle.cm_board.specs.Table.{WordText, Channel, Fixed, Name, form_at}
+use Rattle.cm_board.specs.Times.{TimersText, down, up}
 
 -- a form by its number: the row that it is of, and the words with which it begins
 abbrev pub IsForm : ℕ → ℕ → List WordText → Type 0
@@ -29,3 +30,17 @@ pub record FormsAreAsNamed : Type 0 where
   pub chan_munge :
       IsForm rows.chan_munge_form rows.chan_munge
       (Fixed (codes "chan") ∷ Channel ∷ Fixed (codes "munge") ∷ Fixed (codes "none") ∷ [])
+
+-- timers without counters, which make each multiple of a tick
+abbrev pub multiples_of : ℕ → TimersText
+multiples_of tick = record { tick = tick; clock = [] }
+
+-- without counters a time goes down to the tick by a quotient
+abbrev pub DownToTick : Type 0
+DownToTick = (tick time : ℕ) → 1 ≤ tick → down (multiples_of tick) time ≡ time / tick * tick
+
+-- and up to it, or to 2^32, where that is less
+abbrev pub UpToTick : Type 0
+UpToTick =
+    (tick time : ℕ) → 1 ≤ tick → time ≤ 2 ^ 32
+    → up (multiples_of tick) time ≡ min ((time + (tick - 1)) / tick * tick) (2 ^ 32)

@@ -1,6 +1,6 @@
 // What holds of the definitions alone, and of the numbers that the code gives to rows and forms.
 ghost use Rattle.std.specs.Prelude.{◌≡◌, ◌∷◌, []};
-ghost use Rattle.cm_board.specs.Law.{FormsAreAsNamed};
+ghost use Rattle.cm_board.specs.Law.{DownToTick, FormsAreAsNamed, UpToTick};
 ghost use Rattle.cm_board.specs.Rows as rows;
 ghost use Rattle.cm_board.specs.declared.lines.TheConstants as lines;
 
@@ -28,4 +28,11 @@ pub fn constants_are_rows()
 /// Each form that has a name is the one in the table that its name says.
 pub fn forms_are_as_named()
     ensures { FormsAreAsNamed }
+{}
+
+/// Without counters the times that timers can make are the multiples of their tick, and the nearest
+/// below and above are quotients.
+pub fn plain_timers_divide()
+    ensures down { DownToTick }
+    ensures up { UpToTick }
 {}

@@ -4,6 +4,7 @@ pub mod Same
 pub mod Inside
 pub mod Kept
 pub mod Passed
+pub mod Plain
 pub mod Rounding
 pub mod Moved
 pub mod Walks

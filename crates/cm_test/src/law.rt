@@ -1,6 +1,6 @@
 // What holds of the definitions alone.
 ghost use Rattle.cm_test.specs.Law.{PassedIsInside, RepairedKeepsEdges, RepairedPasses, RoundedPasses, RoundedSettles};
-ghost use Rattle.cm_test.specs.Law.{RoundedIsPossible, RoundedIsTime, RoundedStaysBetween, RoundingIsAsNamed};
+ghost use Rattle.cm_test.specs.Law.{RoundedIsPossible, RoundedIsTime, RoundedStaysBetween, RoundedToTick, RoundingIsAsNamed};
 ghost use Rattle.cm_test.specs.Passed.{PassedIsTaken};
 
 /// A command that the test has adjusted passes the steps up to that one. Where lines can be inverted,
@@ -32,4 +32,11 @@ pub fn rounding_is_as_named()
     ensures made { RoundedIsTime }
     ensures possible { RoundedIsPossible }
     ensures unmoved { RoundedStaysBetween }
+{}
+
+/// On a board without counters, whose limits are multiples of its tick, a rounded time is a quotient
+/// times the tick: a time plus half a tick for the nearest one, the time alone for the one below, and
+/// the time plus a tick less one for the one above.
+pub fn plain_rounding_divides()
+    ensures { RoundedToTick }
 {}
