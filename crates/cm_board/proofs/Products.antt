@@ -53,7 +53,7 @@ all_some (y ∷ xs) x h m =
     ]
 
 -- the numbers from one to another
-in_range : (n a x : ℕ) → a ≤ x → x < a + n → is_one (range_with_len a n) x ≡ true
+pub in_range : (n a x : ℕ) → a ≤ x → x < a + n → is_one (range_with_len a n) x ≡ true
 in_range zero a x low high = absurd (omega arith)
 in_range (suc n) a x low high = elim (cases_lt a x) as (λ _. is_one (range_with_len a (suc n)) x ≡ true) [
   | inl l ↦ or_right (a == x) (is_one (range_with_len (a + 1) n) x) (in_range n (a + 1) x (omega arith) (omega arith))

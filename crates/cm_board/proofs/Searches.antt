@@ -1,9 +1,9 @@
 -- The greatest number up to a bound that has a property, and the least one from a number on.
 use Rattle.std.proofs.Common.{◌≡◌, ℕ, zero, suc, ◌+◌, ◌-◌, ◌*◌, ◌/◌, ◌%◌, ◌<◌, ◌≤◌, Bool, true, false, ◌||◌, ◌⊎◌, inl, inr, refl, sym, ap, ◌∙◌, min, max, arith, mul-le-mul_right}
-use Rattle.std.specs.Prelude.{◌==◌, if◌then◌else◌}
+use Rattle.std.specs.Prelude.{◌==◌, ◌&&◌, if◌then◌else◌, nat_lt}
 use Rattle.std.specs.Int.{div_ceil}
 use Rattle.std.proofs.Math.Nat.{mul-mod_left, mul_comm}
-use Rattle.std.proofs.lemmas.Bool.{cases_lt, eq-eqb, eqb-true}
+use Rattle.std.proofs.lemmas.Bool.{cases_lt, eq-eqb, eqb-true, lt-ltb}
 use Rattle.std.proofs.lemmas.Nat.{div-add-mod', le-div}
 use Rattle.cm_base.proofs.Bools.{and_true, both}
 use Rattle.cm_board.specs.Times.{IsGreatest, IsLeast, greatest_to, is_multiple, least_from}
@@ -215,7 +215,8 @@ least_capped has s t b low high = least_of has s b _ low (at (least_below has t 
 -- a multiple of a number is that number times its quotient
 pub multiple : (a : ℕ) (has : ℕ → Bool) (n : ℕ) → 1 ≤ a → has n ≡ true → is_multiple a has (n * a) ≡ true
 multiple a has n some h =
-    and_true (n * a % a == 0) (has (n * a / a)) (eq-eqb (n * a % a) 0 (mul-mod_left n a)) (ap has (times_over n a some) ∙ h)
+    and_true (nat_lt 0 a && n * a % a == 0) (has (n * a / a))
+    (and_true (nat_lt 0 a) (n * a % a == 0) (lt-ltb 0 a some) (eq-eqb (n * a % a) 0 (mul-mod_left n a))) (ap has (times_over n a some) ∙ h)
   where
     times_over : (n a : ℕ) → 1 ≤ a → n * a / a ≡ n
     times_over n a some =
@@ -233,8 +234,8 @@ multiple a has n some h =
 
 pub quotient : (a : ℕ) (has : ℕ → Bool) (n : ℕ) → is_multiple a has n ≡ true → (n / a * a ≡ n) × (has (n / a) ≡ true)
 quotient a has n h =
-    let b = both (n % a == 0) (has (n / a)) h in
-    let z = eqb-true (n % a) 0 b.0 in
+    let b = both (nat_lt 0 a && n % a == 0) (has (n / a)) h in
+    let z = eqb-true (n % a) 0 (both (nat_lt 0 a) (n % a == 0) b.0).1 in
     let e = div-add-mod' n a in
     (omega arith, b.1)
 

@@ -3,7 +3,7 @@ use Rattle.std.specs.Prelude.{◌≡◌, ◌≤◌, ◌+◌, ◌-◌, ◌*◌, �
 use Rattle.cm_board.specs.BoardTable.{board_forms, following}
 use Rattle.cm_board.specs.Rows as rows
 use Rattle.cm_board.specs.Table.{WordText, Channel, Fixed, Name, form_at}
-use Rattle.cm_board.specs.Times.{TimersText, down, up}
+use Rattle.cm_board.specs.Times.{IsGreatest, IsLeast, TimersText, can_make, down, up}
 
 -- a form by its number: the row that it is of, and the words with which it begins
 abbrev pub IsForm : ℕ → ℕ → List WordText → Type 0
@@ -30,6 +30,15 @@ pub record FormsAreAsNamed : Type 0 where
   pub chan_munge :
       IsForm rows.chan_munge_form rows.chan_munge
       (Fixed (codes "chan") ∷ Channel ∷ Fixed (codes "munge") ∷ Fixed (codes "none") ∷ [])
+
+-- down is the greatest time that timers can make not above another
+abbrev pub DownIsGreatest : Type 0
+DownIsGreatest = (timers : TimersText) (time : ℕ) → IsGreatest (can_make timers) time (down timers time)
+
+-- and up the least not below it
+abbrev pub UpIsLeast : Type 0
+UpIsLeast =
+    (timers : TimersText) (time : ℕ) → time ≤ 2 ^ 32 → IsLeast (can_make timers) (2 ^ 32) time (up timers time)
 
 -- timers without counters, which make each multiple of a tick
 abbrev pub multiples_of : ℕ → TimersText

@@ -1,6 +1,6 @@
 // What holds of the definitions alone, and of the numbers that the code gives to rows and forms.
 ghost use Rattle.std.specs.Prelude.{◌≡◌, ◌∷◌, []};
-ghost use Rattle.cm_board.specs.Law.{DownToTick, FormsAreAsNamed, UpToTick};
+ghost use Rattle.cm_board.specs.Law.{DownIsGreatest, DownToTick, FormsAreAsNamed, UpIsLeast, UpToTick};
 ghost use Rattle.cm_board.specs.Rows as rows;
 ghost use Rattle.cm_board.specs.declared.lines.TheConstants as lines;
 
@@ -28,6 +28,13 @@ pub fn constants_are_rows()
 /// Each form that has a name is the one in the table that its name says.
 pub fn forms_are_as_named()
     ensures { FormsAreAsNamed }
+{}
+
+/// Of the times that timers can make, `down` is the greatest one not above a time, and `up` the least
+/// one not below it.
+pub fn times_are_nearest()
+    ensures down { DownIsGreatest }
+    ensures up { UpIsLeast }
 {}
 
 /// Without counters the times that timers can make are the multiples of their tick, and the nearest

@@ -1,9 +1,9 @@
 -- Signals that are read from a text are sound, and fit their board.
-use Rattle.std.proofs.Common.{◌≡◌, ℕ, ◌+◌, ◌*◌, ◌^◌, ◌≤◌, ◌<◌, Bool, true, false, cond, List, [], ◌∷◌, ◌++◌, length, drop, Result, Ok, Err, refl, ap, sym, IsTrue, nat_le, nat_lt, arith, length-append}
+use Rattle.std.proofs.Common.{◌≡◌, ℕ, ◌^◌, ◌≤◌, ◌<◌, Bool, true, false, cond, List, [], ◌∷◌, ◌++◌, length, drop, Ok, Err, refl, nat_lt, arith, length-append}
 use Rattle.std.proofs.lemmas.Bool.Decides.{nat_tests}
 use Rattle.std.proofs.lemmas.List.Elements.{All-nil, All-push}
 use Rattle.std.specs.Prelude.{codes, slice_get, if◌then◌else◌}
-use Rattle.std.specs.List.{All, list_any}
+use Rattle.std.specs.List.{list_any}
 use Rattle.std.specs.Result.{IfOk}
 use Rattle.cm_base.specs.Lines.{LineText}
 use Rattle.cm_base.specs.Parts.{fixed}
@@ -13,24 +13,22 @@ use Rattle.cm_base.specs.Words.{or_fault}
 use Rattle.cm_base.specs.Numbers.{number_of}
 use Rattle.cm_base.specs.declared.faults.Fault.{Fault}
 use Rattle.cm_base.specs.declared.faults.Fault.TheVariants as faults
-use Rattle.cm_base.specs.declared.faults.Refused.{Refused}
 use Rattle.cm_base.proofs.Oks.{after_any, at_line_keeps, below_ok, fixed_ok, listed_ok, number_within, ok_keeps, then_ok, values_ok, weaker}
 use Rattle.cm_board.specs.Board.{BoardText, SubText}
 use Rattle.cm_board.specs.Versions.{is_wide, most_in, most_lines}
-use Rattle.cm_signal.specs.Adding.{added, checked, has_record_room, has_room, rises_from, silent, with_said}
+use Rattle.cm_signal.specs.Adding.{added, has_record_room, has_room, rises_from, silent, with_said}
 use Rattle.cm_signal.specs.Channel.{channel_words, input_word, level_channels, period_word}
 use Rattle.cm_signal.specs.Fitting.{FitBoard, Fits, HasChannel, HasSub}
 use Rattle.cm_signal.specs.Said.{IsSaid}
 use Rattle.cm_signal.specs.Signals.{IsSoundSignals, SignalsText, is_at, times_at}
 use Rattle.cm_signal.specs.declared.wave.Wave.TheVariants.{Record}
-use Rattle.cm_signal.specs.Wave.{wave_said, const_words, is_fine, kind_words, levels_words, record_words, saw_words, square_words, swing_words, table_words, wave_forms, wave_words}
+use Rattle.cm_signal.specs.Wave.{wave_said, const_words, is_fine, levels_words, record_words, saw_words, square_words, swing_words, table_words, wave_forms, wave_words}
 use Rattle.cm_signal.specs.declared.signal_line.SignalLine.{SignalLine}
 use Rattle.cm_signal.specs.declared.signal_line.SignalLine.TheVariants as said
 use Rattle.cm_signal.specs.declared.signals.IntAt.{IntAt}
 use Rattle.cm_signal.specs.declared.signals.Slope.{Slope}
 use Rattle.cm_signal.specs.declared.signals.Slope.TheVariants as slopes
-use Rattle.cm_signal.specs.declared.wave.WaveAt.{WaveAt}
-use Rattle.cm_signal.proofs.Grown.{MayStand, MayWave, edges_either, fits_with, more_waves, silent_sound}
+use Rattle.cm_signal.proofs.Grown.{edges_either, fits_with, more_waves, silent_sound}
 use Rattle.cm_signal_text.specs.SignalsPart.{edges_words, every_numbers, every_words, horizon_words, int_words, line_word, lines_after, lines_inside, said_after, said_line, said_words, signal_forms, signals_at, signals_of}
 use Rattle.cm_signal_text.specs.SoundSignals.{SignalsAreSound}
 

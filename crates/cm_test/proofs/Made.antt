@@ -1,9 +1,9 @@
 -- Times that can be made, and those that are rounded to them.
-use Rattle.std.proofs.Common.{◌≡◌, ℕ, ◌-◌, ◌<◌, ◌≤◌, ◌^◌, Bool, true, false, refl, ap, arith, inl, inr, ◌⊎◌}
-use Rattle.std.specs.Prelude.{if◌then◌else◌, nat_le, nat_lt}
+use Rattle.std.proofs.Common.{◌≡◌, ℕ, ◌-◌, ◌<◌, ◌≤◌, ◌^◌, Bool, true, false, refl, arith, inl, inr, ◌⊎◌}
+use Rattle.std.specs.Prelude.{if◌then◌else◌, max, min, nat_le, nat_lt}
 use Rattle.std.proofs.lemmas.Bool.{cases_lt}
 use Rattle.cm_board.specs.Board.{TimersText, can_make, down}
-use Rattle.cm_board.specs.Times.{least_from, up}
+use Rattle.cm_board.specs.Times.{multiple_above, product_above, up}
 use Rattle.cm_board.specs.declared.board.Way.{Way}
 use Rattle.cm_board.specs.declared.board.Way.TheVariants as ways
 use Rattle.cm_board.proofs.Made.{down_is, up_is}
@@ -25,7 +25,10 @@ down_made timers a some = elim (down_is timers a).none_or_one as (λ _. can_make
 -- a time of more bits is left as it is
 up_past : (timers : TimersText) (a : ℕ) → 2 ^ 32 ≤ a → up timers a ≡ a
 unfolding up
-up_past timers a h = let none : 2 ^ 32 - a ≡ 0 = omega arith in ap (λ more. least_from (can_make timers) more a) none
+up_past timers a h = past (multiple_above (product_above timers.clock) a timers.tick)
+  where
+    past : (n : ℕ) → max a (min (2 ^ 32) n) ≡ a
+    past n = omega arith
 
 pub up_above : (timers : TimersText) (a : ℕ) → a ≤ up timers a
 up_above timers a = elim (cases_lt a (2 ^ 32)) as (λ _. a ≤ up timers a) [

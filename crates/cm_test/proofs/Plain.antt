@@ -1,7 +1,7 @@
 -- Rounding on a board without counters is a quotient.
 use Rattle.std.proofs.Common.{◌≡◌, ℕ, ◌+◌, ◌-◌, ◌*◌, ◌/◌, ◌%◌, ◌^◌, ◌<◌, ◌≤◌, Bool, true, false, inl, inr, refl, ap, sym, ◌∙◌, arith}
-use Rattle.std.specs.Prelude.{◌==◌, if◌then◌else◌, nat_lt}
-use Rattle.std.proofs.lemmas.Bool.{cases_lt, eq-eqb}
+use Rattle.std.specs.Prelude.{◌==◌, ◌&&◌, if◌then◌else◌, nat_lt}
+use Rattle.std.proofs.lemmas.Bool.{cases_lt, eq-eqb, lt-ltb}
 use Rattle.std.proofs.lemmas.Bool.Decides.{nat_tests}
 use Rattle.std.proofs.lemmas.Nat.{div-add-mod', div-mul-add}
 use Rattle.cm_base.proofs.Bools.{and_true}
@@ -15,14 +15,14 @@ use Rattle.cm_test.specs.Steps.{nearest, rounded_by}
 use Rattle.cm_test.proofs.Kept.{rounded_between}
 
 -- a multiple of the tick can be made
-on_tick : (tick n : ℕ) → n % tick ≡ 0 → can_make (multiples_of tick) n ≡ true
-on_tick tick n e = and_true (n % tick == 0) true (eq-eqb (n % tick) 0 e) refl
+on_tick : (tick n : ℕ) → 1 ≤ tick → n % tick ≡ 0 → can_make (multiples_of tick) n ≡ true
+on_tick tick n some e = and_true (nat_lt 0 tick && n % tick == 0) true (and_true (nat_lt 0 tick) (n % tick == 0) (lt-ltb 0 tick some) (eq-eqb (n % tick) 0 e)) refl
 
 -- below a time that can be made, the one above is one, too
 up_is_plain : (tick most a : ℕ) → 1 ≤ tick → most % tick ≡ 0 → a ≤ most → most < 2 ^ 32 → up (multiples_of tick) a ≡ (a + (tick - 1)) / tick * tick
 up_is_plain tick most a some e le fits =
     let plain = up_to_tick tick a some (omega arith) in
-    let within = (up_is (multiples_of tick) a (omega arith)).least most (on_tick tick most e) le fits in
+    let within = (up_is (multiples_of tick) a (omega arith)).least most (on_tick tick most some e) le fits in
     omega arith
 
 -- the nearer one is that with half a tick more
@@ -82,5 +82,5 @@ plain_rounded ways.Up tick most a some e le fits = up_is_plain tick most a some 
 
 pub rounded_to_tick : RoundedToTick
 rounded_to_tick by tick least most a some on low high fits =
-    rounded_between false by (multiples_of tick) least most a fits (on_tick tick least on.least_ticks) (on_tick tick most on.most_ticks) low high
+    rounded_between false by (multiples_of tick) least most a fits (on_tick tick least some on.least_ticks) (on_tick tick most some on.most_ticks) low high
     ∙ plain_rounded by tick most a some on.most_ticks high fits
