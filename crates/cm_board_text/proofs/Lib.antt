@@ -15,6 +15,7 @@ mod HeadsBack
 mod ItemRead
 mod Laid
 mod MostIn
+mod Narrow
 mod OfRow
 mod Points
 mod Prefix

@@ -6,6 +6,7 @@ pub mod FoundView
 pub mod Heads
 pub mod IsTable
 pub mod Kept
+pub mod NarrowBoards
 pub mod Printed
 pub mod PrintedReads
 pub mod Reading

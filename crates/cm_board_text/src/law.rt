@@ -1,4 +1,5 @@
 // Laws about the text of a board.
+ghost use Rattle.cm_board_text.specs.NarrowBoards.{NarrowBoardsRoundByFlags};
 ghost use Rattle.cm_board_text.specs.PrintedReads.{PrintedReads};
 ghost use Rattle.cm_board_text.specs.Refusal.{FirstIsRefused};
 ghost use Rattle.cm_board_text.specs.SoundBoards.{BoardsAreSound};
@@ -17,4 +18,9 @@ pub fn first_fault_is_refused()
 /// Every subdevice of a board that is read from a text keeps the limits and rules of `IsSoundSub`.
 pub fn boards_are_sound()
     ensures { BoardsAreSound }
+{}
+
+/// A board of `comedi 1` or `comedi 2` has no counters, and rounds times as a command's flags say.
+pub fn narrow_boards_round_by_flags()
+    ensures { NarrowBoardsRoundByFlags }
 {}
