@@ -1,10 +1,10 @@
 -- The blocks of a run's lines as the samples that came, or the words that were put out.
-use Rattle.std.proofs.Common.{◌≡◌, ◌⊎◌, ℕ, List, [], ◌∷◌, Option, refl, sym, subst, inl, inr}
+use Rattle.std.proofs.Common.{◌≡◌, ℕ, Bool, true, false, List, [], ◌∷◌, Option, refl, sym, subst, inl, inr}
 use Rattle.cm_board.specs.Board.{BoardText}
 use Rattle.cm_signal.specs.Signals.{SignalsText}
 use Rattle.cm_expand.specs.Calls.{plan_at}
 use Rattle.cm_expand.specs.Plan.{PlanText}
-use Rattle.cm_text.specs.Blocks.{HasOverrun, drive_block, paced_block}
+use Rattle.cm_text.specs.Blocks.{paced_block}
 use Rattle.cm_text.specs.Streams.{StreamsInput, StreamsOutput}
 use Rattle.cm_text.proofs.Streams.{drive_streams, overrun_streams, paced_streams}
 use Rattle.cm_job.specs.Modes.{is_paced}

@@ -1,6 +1,7 @@
 -- What a command's expansion is made from.
 use Rattle.std.specs.Prelude.{◌≡◌, ℕ, ◌+◌, ◌≤◌, ◌*◌, Bool, true, ◌&&◌, ◌==◌, if◌then◌else◌, nat_le}
-use Rattle.std.specs.Prelude.{List, [], ◌∷◌, length, map, Option, Some, None, option_map, option_and_then, unwrap_or, is_some}
+use Rattle.std.specs.Prelude.{List, [], ◌∷◌, length, map, Option, Some, None, option_map, option_and_then, unwrap_or}
+use Rattle.std.specs.Prelude.{is_some}
 use Rattle.cm_board.specs.Board.{SubText, is_fall, external_line}
 use Rattle.cm_base.specs.Source as source
 use Rattle.cm_cmd.specs.Command.{CmdText}

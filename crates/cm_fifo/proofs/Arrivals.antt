@@ -1,5 +1,5 @@
 -- What holds of all that is handed over.
-use Rattle.std.proofs.Common.{◌≡◌, ℕ, zero, suc, ◌+◌, ◌-◌, ◌/◌, ◌<◌, ◌≤◌, min, List, [], ◌∷◌, ◌++◌, length, map, take, drop, refl, sym, ◌∙◌, inl, inr, arith, subst, length-append, length-drop, length-take, Option, Some, None}
+use Rattle.std.proofs.Common.{◌≡◌, ◌↔◌, ℕ, zero, suc, ◌+◌, ◌-◌, ◌/◌, ◌<◌, ◌≤◌, min, List, [], ◌∷◌, ◌++◌, length, map, take, drop, refl, sym, ◌∙◌, inl, inr, arith, subst, length-append, length-drop, length-take, Option, Some, None}
 use Rattle.std.specs.Prelude.{slice_get}
 use Rattle.std.proofs.lemmas.Bool.{cases_lt, le-leb, lt-leb}
 use Rattle.std.proofs.lemmas.List.{append-nil, length-map, length-take-le}
@@ -10,10 +10,10 @@ use Rattle.cm_expand.proofs.Come.{come-drop, come-first, come-later, come-later_
 use Rattle.cm_expand.specs.Items.{items_of}
 use Rattle.cm_expand.specs.Plan.{PlanText}
 use Rattle.cm_fifo.specs.Handed.{Handed, and_then, at_time, next_event, drain_time, handed, handed_by, handed_of, last_of, nothing, time_or, unless_lost}
-use Rattle.cm_fifo.specs.Law.{IsHanded}
+use Rattle.cm_fifo.specs.Law.{IsHanded, IsNext}
 use Rattle.cm_expand.proofs.Sound.{IsSoundPlan, expansion_of}
 use Rattle.cm_fifo.proofs.Lasts.{are_all}
-use Rattle.cm_fifo.proofs.Lists.{append-from, come-append, come-at_time, come-before_time, come-drop-all, come-drop-le, first-fields, found-come, found-from, left-from, Timeless}
+use Rattle.cm_fifo.proofs.Lists.{append-from, come-append, come-at_time, come-before_time, come-drop-all, come-drop-le, come-found, first-fields, found-come, found-from, left-from, Timeless}
 
 -- what is handed over of conversions that come from a time on
 record IsHandedFrom (low horizon : ℕ) (xs : List Conv) (h : Handed) : Type 0 where
@@ -25,6 +25,7 @@ record IsHandedFrom (low horizon : ℕ) (xs : List Conv) (h : Handed) : Type 0 w
   whole : h.lost_at ≡ None → length h.arrivals ≡ length xs
   lost : (t : ℕ) → h.lost_at ≡ Some t → (t ≤ horizon) × (come t h.arrivals ≡ length h.arrivals) × (length h.arrivals < length xs)
   after : (t : ℕ) → h.lost_at ≡ Some t → low ≤ t
+  next : (t : ℕ) → h.lost_at ≡ Some t → IsNext xs h.arrivals t
 
 none : (low horizon : ℕ) → IsHandedFrom low horizon [] nothing
 none low horizon = record {
@@ -36,6 +37,7 @@ none low horizon = record {
   whole = λ e. refl;
   lost = λ t e. absurd (cc);
   after = λ t e. absurd (cc);
+  next = λ t e. absurd (cc);
 }
 
 -- an overflow hands over all that the FIFO holds
@@ -56,6 +58,11 @@ overflows low horizon depth xs c order e early = record {
       let all : come c.time (map (at_time c.time) (take depth xs) ++ []) ≡ length (map (at_time c.time) (take depth xs) ++ []) = count c.time ∙ come-at_time c.time c.time (take depth xs) (omega arith) ∙ sym long in
       (omega arith, subst (λ n. come n (map (at_time c.time) (take depth xs) ++ []) ≡ length (map (at_time c.time) (take depth xs) ++ [])) same all, omega (arith, long, few, size));
   after = λ t is. let same : c.time ≡ t = cc in omega (arith, found-from low depth xs c e order);
+  next = λ t is s.
+      let same : c.time ≡ t = cc in
+      let place : length (map (at_time c.time) (take depth xs) ++ []) ≡ depth = long ∙ size in
+      subst (λ k. (t ≤ s) ↔ (k < come s xs)) (sym place)
+      (λ here. found-come s depth xs c (from_start low xs order) e (omega (arith, here, same)), λ some. let by = come-found s depth xs c (from_start low xs order) e some in omega (arith, same));
 }
   where
     long : length (map (at_time c.time) (take depth xs) ++ []) ≡ length (take depth xs)
@@ -92,6 +99,12 @@ drains low horizon drain xs rest order above early is = record {
       let l = is.lost t lost in
       (l.0, omega (arith, count t, whole_by t (is.after t lost), l.1, long), omega (arith, long, l.2, left, come-le drain xs));
   after = λ t lost. omega (arith, is.after t lost);
+  next = λ t lost s. (
+    λ here. let rest_come = (is.next t lost s).0 here in
+        let since = come-later drain s xs (omega (arith, is.after t lost, here)) in
+        omega (arith, long, rest_come, since, come-drop s (come drain xs) xs order since),
+    λ some. (is.next t lost s).1 (let since : come drain xs ≤ come s xs = omega (arith, some, long) in omega (arith, some, long, come-drop s (come drain xs) xs order since)),
+  );
 }
   where
     taken : length (take (come drain xs) xs) ≡ come drain xs
@@ -168,6 +181,7 @@ handed-is f last horizon more xs order by all few =
       within = is.within;
       whole = is.whole;
       lost = is.lost;
+      next = is.next;
     }
 
 -- and of the expansion of a sound plan

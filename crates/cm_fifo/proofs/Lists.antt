@@ -105,6 +105,18 @@ found-come t (suc i) (x ∷ xs) c order e early =
     let first : x.time ≤ c.time = found-from x.time i xs c e order.1 in
     omega (arith, come-first t x xs (omega arith), found-come t i xs c (from_start x.time xs order.1) e early)
 
+-- where all before it have come and it has too, it comes by then
+pub come-found : (t i : ℕ) (xs : List Conv) (c : Conv) → NeverFalls xs → slice_get xs i ≡ Some c → i < come t xs → c.time ≤ t
+come-found t i [] c order e some = absurd (cc)
+come-found t zero (x ∷ xs) c order e some = elim (cases_lt t x.time) [
+  | inl late ↦ absurd (omega (arith, some, come-later_first t x xs late, come-none t xs x.time order.1 late))
+  | inr early ↦ let same : x.time ≡ c.time = cc in omega arith
+]
+come-found t (suc i) (x ∷ xs) c order e some = elim (cases_lt t x.time) [
+  | inl late ↦ absurd (omega (arith, some, come-later_first t x xs late, come-none t xs x.time order.1 late))
+  | inr early ↦ come-found t i xs c (from_start x.time xs order.1) e (omega (arith, some, come-first t x xs early))
+]
+
 -- where as many have come as the first ones are, those have all come
 pub first-come : (t : ℕ) (xs ys : List Conv) → NeverFalls (xs ++ ys) → length xs ≤ come t (xs ++ ys) → come t xs ≡ length xs
 first-come t [] ys order some = refl

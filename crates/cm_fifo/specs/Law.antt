@@ -1,5 +1,5 @@
 -- What holds of all that a board with a FIFO hands over.
-use Rattle.std.specs.Prelude.{◌≡◌, ℕ, ◌<◌, ◌≤◌, List, length, map, take, Some, None}
+use Rattle.std.specs.Prelude.{◌≡◌, ◌↔◌, ℕ, ◌<◌, ◌≤◌, List, length, map, take, Some, None}
 use Rattle.cm_board.specs.Board.{IsSoundSub}
 use Rattle.cm_board.specs.declared.board.Fifo.{Fifo}
 use Rattle.cm_expand.specs.Items.{items_of}
@@ -24,6 +24,11 @@ pub record AreFirst (items arrivals : List Conv) : Type 0 where
   pub places : places arrivals ≡ take (length arrivals) (places items)
   pub indices : indices arrivals ≡ take (length arrivals) (indices items)
 
+-- the conversion after those that are handed over comes at a time:
+-- it has come by every time from then on, and by no other
+abbrev pub IsNext : List Conv → List Conv → ℕ → Type 0
+IsNext items arrivals t = (s : ℕ) → (t ≤ s) ↔ (length arrivals < come s items)
+
 -- what is handed over of conversions by a horizon
 pub record IsHanded (horizon : ℕ) (items : List Conv) (h : Handed) : Type 0 where
   pub are : AreFirst items h.arrivals
@@ -34,6 +39,7 @@ pub record IsHanded (horizon : ℕ) (items : List Conv) (h : Handed) : Type 0 wh
   pub whole : h.lost_at ≡ None → length h.arrivals ≡ length items
   pub lost : (t : ℕ) → h.lost_at ≡ Some t
       → (t ≤ horizon) × (come t h.arrivals ≡ length h.arrivals) × (length h.arrivals < length items)
+  pub next : (t : ℕ) → h.lost_at ≡ Some t → IsNext items h.arrivals t
 
 -- a fact of what is handed over of the expansion of each plan of a sound subdevice and sound signals
 abbrev pub OfEach : (PlanText → Handed → Type 0) → Type 0
@@ -65,6 +71,10 @@ IsAfterHanded p h t =
 -- where one is lost at a time, it is such a time
 abbrev pub LostAfterHanded : Type 0
 LostAfterHanded = OfEach (λ p h. (t : ℕ) → h.lost_at ≡ Some t → IsAfterHanded p h t)
+
+-- the conversion that is lost is the one after those that are handed over, and it is lost at its time
+abbrev pub NextIsLost : Type 0
+NextIsLost = OfEach (λ p h. (t : ℕ) → h.lost_at ≡ Some t → IsNext (items_of p) h.arrivals t)
 
 -- the same by places of the whole expansion: each drain hands over all that has come by its time,
 -- unless one comes for which the FIFO has no room

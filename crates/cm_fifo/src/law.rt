@@ -1,5 +1,5 @@
 // What holds of the definitions alone.
-ghost use Rattle.cm_fifo.specs.Law.{AllHanded, HandedAfterComing, HandedByCounts, HandedInOrder, HandedInTime, LostAfterHanded, LostByCounts};
+ghost use Rattle.cm_fifo.specs.Law.{AllHanded, HandedAfterComing, HandedByCounts, HandedInOrder, HandedInTime, LostAfterHanded, LostByCounts, NextIsLost};
 
 /// What a board with a FIFO hands over are the conversions of the expansion in order.
 pub fn handed_in_order()
@@ -24,6 +24,11 @@ pub fn all_are_handed_over()
 /// Where one is lost, all that are handed over were handed over by then, and they are not all.
 pub fn one_is_lost_after_the_others()
     ensures { LostAfterHanded }
+{}
+
+/// Where one is lost, it is the conversion after those that are handed over, and it is lost when it comes.
+pub fn the_next_one_is_lost()
+    ensures { NextIsLost }
 {}
 
 /// How many are handed over by a time, and when one is lost, by places of the whole expansion.

@@ -9,9 +9,12 @@ pub mod Foreign
 pub mod FormLaws
 pub mod Forming
 pub mod Laws
+pub mod Lost
 pub mod Mapped
 pub mod Plannable
 pub mod Prefixes
+pub mod PutsOut
+pub mod Readback
 pub mod Readiness
 pub mod Refusals
 pub mod Rows

@@ -4,7 +4,10 @@ pub mod Forms
 pub mod Job
 pub mod JobView
 pub mod Law
+pub mod Losses
 pub mod Moves
+pub mod PutOut
+pub mod Readback
 pub mod Reading
 pub mod Ready
 pub mod Refusals

@@ -1,5 +1,8 @@
 // What holds of the definitions alone.
 ghost use Rattle.cm_replay.specs.Law.{BringingLaw, NothingIsLeft, PrefixLaw, SessionLaw};
+ghost use Rattle.cm_replay.specs.Losses.{LossLaw};
+ghost use Rattle.cm_replay.specs.PutOut.{PutLaw};
+ghost use Rattle.cm_replay.specs.Readback.{ReadbackLaw};
 ghost use Rattle.cm_replay.specs.Refusals.{ForeignLaw, RefusalLaw, TiedLaw};
 
 /// At every line of a session each command is lawful, what was put out are the client's words, each
@@ -13,6 +16,25 @@ pub fn sessions_go_well()
 /// the whole where `done` or `dry` is reported, and `overrun k` follows exactly k samples of more.
 pub fn what_is_read_is_a_prefix()
     ensures { PrefixLaw }
+{}
+
+/// A sample is lost just when its conversion comes and its place isn't there: `overrun k` if a buffer
+/// has no room for sample k, `underrun k` if an output has only k words, and `fifo k` if the board's
+/// own FIFO is full when conversion k comes.
+pub fn losses_come_exactly()
+    ensures { LossLaw }
+{}
+
+/// All that an output puts out are the first words that its client marked, each munged by its place
+/// and at the time of its conversion.
+pub fn what_is_put_out_is_a_prefix()
+    ensures { PutLaw }
+{}
+
+/// The bytes of a read's answer can be read back as its samples, whatever stands after them: each has
+/// its place in the channel list and its raw word or its level in micro-units.
+pub fn reads_can_be_read_back()
+    ensures { ReadbackLaw }
 {}
 
 /// A line that is refused leaves the state as it was brought to its time. One that reports an end, as

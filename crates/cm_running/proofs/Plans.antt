@@ -51,6 +51,7 @@ reaching-is p None sound =
       within = omega arith;
       whole = λ e. refl;
       lost = λ t e. absurd (cc);
+      next = λ t e. absurd (cc);
     }
 reaching-is p (Some f) sound = handed_of-is p f sound
 
@@ -65,6 +66,7 @@ timely p sound =
       within = is.within;
       whole = is.whole;
       lost = is.lost;
+      next = is.next;
     }
 
 -- the schedule of each sound plan keeps its rules

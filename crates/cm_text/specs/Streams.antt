@@ -21,7 +21,8 @@ EndsInput paced p most (tails.Overrun k) count =
     (count ≡ k) × (paced ≡ false) × (p.sub.buffer ≤ k) × (k < length_of p)
 EndsInput paced p most (tails.Underrun k) count = ⊥
 
--- the text of an input's command: a prefix of its munged expansion in trigger order, a line for each sample, and its end
+-- the text of an input's command: a prefix of its munged expansion in trigger order, a line for each sample,
+-- and its end
 pub record StreamsInput (paced : Bool) (p : PlanText) (most : Option ℕ) (text : List ℕ) : Type 0 where
   pub samples : List ℕ
   pub tail : Tail
@@ -30,15 +31,16 @@ pub record StreamsInput (paced : Bool) (p : PlanText) (most : Option ℕ) (text 
   pub text_is : text ≡ sample_lines (format_of p) 0 samples ++ tail_text tail
 
 -- how an output's command ends after `count` words were put out of so many that were given:
--- `done` and `dry` if no conversion lacked its word, and `underrun k` if all k were put out and there are more conversions
+-- `done` and `dry` if no conversion lacked its word,
+-- and `underrun k` if all k were put out and there are more conversions
 abbrev pub EndsOutput : PlanText → ℕ → Tail → ℕ → Type 0
 EndsOutput p given tails.Done count = (count ≡ length_of p) × (is_complete p ≡ true)
 EndsOutput p given tails.Dry count = (count ≡ length_of p) × (is_complete p ≡ false)
 EndsOutput p given (tails.Underrun k) count = (count ≡ k) × (k ≡ given) × (k < length_of p)
 EndsOutput p given other count = ⊥
 
--- the text of an output's command: the words that were given, munged at their places, each at the time of its conversion,
--- and its end
+-- the text of an output's command: the words that were given, munged at their places,
+-- each at the time of its conversion, and its end
 pub record StreamsOutput (p : PlanText) (words : List ℕ) (text : List ℕ) : Type 0 where
   pub puts : List Output
   pub tail : Tail

@@ -1,0 +1,88 @@
+-- How the bytes of a read's answer are read back as samples.
+use Rattle.std.specs.Prelude.{◌≡◌, ℕ, ◌%◌, ◌<◌, ◌≤◌, ◌^◌, suc, true, false, List, [], ◌∷◌, ◌++◌, length, map, take}
+use Rattle.std.specs.Prelude.{codes, Result, Ok, Err, ℤ, if◌then◌else◌}
+use Rattle.cm_base.specs.Lines.{lines_of}
+use Rattle.cm_base.specs.Reading.{◌>>=◌}
+use Rattle.cm_base.specs.Words.{Form, is_int, keyword, number_in, signed_number}
+use Rattle.cm_base.specs.declared.faults.Fault.{Fault}
+use Rattle.cm_base.specs.declared.faults.Fault.TheVariants.{BadLine}
+use Rattle.cm_board.specs.Board.{maxdata_of, range_of}
+use Rattle.cm_cmd.specs.Entry.{chan, range}
+use Rattle.cm_expand.specs.Rule.{entry_at}
+use Rattle.cm_sample.specs.Sample.{micro_of}
+use Rattle.cm_text.specs.Format.{Format}
+use Rattle.cm_running.specs.Texts.{taken_text}
+
+-- what a line says of a sample: its raw word, or its level in micro-units
+pub data Value : Type 0 where
+  Word : ℕ → Value
+  Level : ℤ → Value
+
+-- a sample as a client sees it: its place in the channel list, and its value
+pub record Seen : Type 0 where
+  pub index : ℕ
+  pub value : Value
+
+-- the level of a word of a place
+abbrev pub level_at : Format → ℕ → ℕ → ℤ
+level_at f place word =
+    micro_of (range_of f.sub (chan (entry_at f.list place)) (range (entry_at f.list place)))
+    (maxdata_of f.sub (chan (entry_at f.list place))) word
+
+-- the sample of a place as a client sees it
+abbrev pub seen_at : Format → ℕ → ℕ → Seen
+seen_at f place word = record {
+  index = place % length f.list;
+  value = if f.raw then Word word else Level (level_at f place word);
+}
+
+-- samples from a place on
+abbrev pub seen_from : Format → ℕ → List ℕ → List Seen
+seen_from f place [] = []
+seen_from f place (word ∷ words) = seen_at f place word ∷ seen_from f (suc place) words
+
+-- a number of 32 bits
+abbrev pub number_word : List ℕ → Result ℕ Fault
+number_word = number_in 0 4294967295
+
+-- the sample that the words of a line say: `INDEX LEVEL` or `INDEX raw WORD`
+abbrev pub sample_words : Form Seen
+sample_words (index ∷ level ∷ []) =
+    number_word index >>= λ i. signed_number level >>= λ v. Ok (record { index = i; value = Level v })
+sample_words (index ∷ raw ∷ word ∷ []) =
+    number_word index >>= λ i. keyword ((codes "raw", Word) ∷ []) raw >>= λ make.
+    number_word word >>= λ w. Ok (record { index = i; value = make w })
+sample_words words = Err BadLine
+
+-- the samples that lines say
+abbrev pub samples_said : List (List (List ℕ)) → Result (List Seen) Fault
+samples_said [] = Ok []
+samples_said (line ∷ lines) = sample_words line >>= λ sample. samples_said lines >>= λ more. Ok (sample ∷ more)
+
+-- the samples that an answer says: after the line `ok N` come the lines of N samples
+abbrev pub answer_said : List (List (List ℕ)) → Result (List Seen) Fault
+answer_said ((ok ∷ count ∷ []) ∷ lines) =
+    keyword ((codes "ok", samples_said) ∷ []) ok >>= λ samples. number_word count >>= λ n. samples (take n lines)
+answer_said lines = Err BadLine
+
+-- the samples that a client reads from the bytes of an answer on
+abbrev pub read_back : List ℕ → Result (List Seen) Fault
+read_back bytes = answer_said (map (λ line. line.words) (lines_of bytes))
+
+-- a word that is written as a number of 32 bits: a raw one as it is, and others by their level
+abbrev pub IsShown : Format → ℕ → ℕ → Type 0
+IsShown f place word =
+    (f.raw ≡ true → word < 2 ^ 32) × (f.raw ≡ false → is_int (level_at f place word) ≡ true)
+
+-- the same of each word from a place on
+abbrev pub AreShown : Format → ℕ → List ℕ → Type 0
+AreShown f place [] = Unit {0}
+AreShown f place (word ∷ words) = IsShown f place word × AreShown f (suc place) words
+
+-- whatever stands after the answer to a read, its samples are read back from its bytes
+abbrev pub ReadbackLaw : Type 0
+ReadbackLaw =
+    (f : Format) (place : ℕ) (words rest : List ℕ)
+    → 1 ≤ length f.list → length f.list < 2 ^ 32 → length words < 2 ^ 32
+    → AreShown f place words
+    → read_back (taken_text f place words ++ rest) ≡ Ok (seen_from f place words)
