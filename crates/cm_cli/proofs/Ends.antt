@@ -58,9 +58,13 @@ done : (reported : Result Work Refused) (old new : Option (List ℕ)) → Serves
 done (Ok work) old new served = served
 done (Err r) old new served = absurd served
 
-each : {X : Type 0} {P Q : X → Type 0} (o : Option X) → IfSome o P → ((x : X) → P x → Q x) → IfSome o Q
+pub each : {X : Type 0} {P Q : X → Type 0} (o : Option X) → IfSome o P → ((x : X) → P x → Q x) → IfSome o Q
 each None p more = tt
 each (Some x) p more = more x p
+
+pub always : {X : Type 0} {Q : X → Type 0} (o : Option X) → ((x : X) → Q x) → IfSome o Q
+always None more = tt
+always (Some x) more = more x
 
 -- a status that comes with nothing more written
 settled : (called : Option Command) (s result : Status) (left rest taken mid text : End) → result ≡ s → text ≡ mid → Answers called s left rest taken mid → Answers called result left rest taken text

@@ -2,6 +2,7 @@ pub mod Answer
 pub mod Answers
 pub mod Asked
 pub mod Commands
+pub mod Headline
 pub mod Said
 pub mod Serving
 pub mod Statuses

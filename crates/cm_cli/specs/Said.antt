@@ -88,11 +88,25 @@ session_said commands.Watch s end lines =
 session_said commands.Loop s end lines = loop_of s.board s.signals end lines >>= λ job. Ok (Streams (jobs.Loop job))
 session_said (commands.Soak n) s end lines = Ok (Soaks n)
 
--- what the lines of a text say: the board part, the signals part, and then the session part
-abbrev pub lines_said : Command → ℕ → List LineText → Result Work Refused
-lines_said command end lines =
+-- what the lines of a text say: the board part, the signals part,
+-- and then what the lines after them say over both
+abbrev pub over_setting :
+    {X : Type 0} → ℕ → List LineText → (Setting → List LineText → Result X Refused) → Result X Refused
+over_setting end lines session =
     board_of end lines >>= λ b. signals_at b.0 end b.1 lines >>= λ s.
-    session_said command (record { board = b.0; signals = s.0 }) end (drop s.1 lines)
+    session (record { board = b.0; signals = s.0 }) (drop s.1 lines)
+
+-- what the lines of a text say to a command
+abbrev pub lines_said : Command → ℕ → List LineText → Result Work Refused
+lines_said command end lines = over_setting end lines (λ s rest. session_said command s end rest)
+
+-- the job of the session that the lines of a text say
+abbrev pub job_by : Bool → ℕ → List LineText → Result JobText Refused
+job_by only_insn end lines = over_setting end lines (job_of only_insn)
+
+-- the job of the session that a text says
+abbrev pub job_text_of : Bool → List ℕ → Result JobText Refused
+job_text_of only_insn bytes = job_by only_insn (length (raw_lines bytes) + 1) (lines_of bytes)
 
 -- what a text says
 abbrev pub said : Command → List ℕ → Result Work Refused

@@ -1,14 +1,17 @@
 // The top call of the program, with threads.
-ghost use Rattle.std.specs.Prelude.{◌≡◌, ◌≤◌, true, IsErrOf, Ok};
+ghost use Rattle.std.specs.Prelude.{◌≡◌, ◌≤◌, true, IfSome, IsErrOf, Ok};
 ghost use Rattle.cm_base.specs.Causes.{Rose};
 ghost use Rattle.cm_cli.specs.Answers.{Answers, Does, end_at};
 ghost use Rattle.cm_cli.specs.Commands as spec;
+ghost use Rattle.cm_cli.specs.Headline.{TellsFor};
 ghost use Rattle.cm_cli.specs.Said.{Soaks};
 ghost use Rattle.cm_cli.specs.Serving.{Serves};
+ghost use Rattle.cm_cli.specs.declared.status.Status.TheVariants.{Done};
 
 use crate::answer::answered;
 use crate::command::{Command, call_of};
 use crate::flow::{conclude, read_input, report};
+use crate::law::what_is_told;
 use crate::status::Status;
 use crate::stop::Stop;
 use crate::threaded::stream;
@@ -29,7 +32,9 @@ use std::thread::Threads;
 /// Whatever the input says and whatever the order of the threads' steps, status 0 comes with exactly
 /// the text of the definitions, and with `run` with one of the texts that they allow: each sample in
 /// it once and munged once, in trigger order, and an overrun only in a free line, after as many samples
-/// as its buffer holds or more. A soak leaves the source as it is, however it ends.
+/// as its buffer holds or more. With `replay` and `insn` the headline holds, as of `answer`. The text of a `run`,
+/// `watch` or `loop` has of each line a prefix of its munged expansion and its end. A soak leaves the source as it
+/// is, however it ends.
 pub fn comedi<R: Threads + Wait + Sync, S: Source, K: Sink, G: Gate + Sync>(
     rt: &R,
     alloc: Global,
@@ -38,10 +43,13 @@ pub fn comedi<R: Threads + Wait + Sync, S: Source, K: Sink, G: Gate + Sync>(
     sink: &mut K,
     gate: &G,
 ) -> Status
-    ensures { Answers (spec.call_of words.now) result
+    ensures ends { Answers (spec.call_of words.now) result
         (end_at (S.left source.old) (S.faults source.old)) (end_at (S.left source.new) (S.faults source.new))
         (end_at (K.text sink.old) (K.faults sink.old)) (end_at (K.text sink.new) (K.faults sink.new)) }
+    ensures headline { result ≡ Done → IfSome (S.left source.old) (λ bytes.
+        TellsFor (spec.call_of words.now) bytes (K.text sink.old) (K.text sink.new)) }
 {
+    what_is_told();
     match call_of(words) {
         None => conclude(sink, b"usage\n", Status::Usage),
         Some(command) => {

@@ -7,6 +7,7 @@ pub mod comedi;
 pub mod command;
 mod flow;
 pub mod jobs;
+pub mod law;
 pub mod serving;
 pub mod status;
 pub mod stop;
