@@ -1,0 +1,15 @@
+pub mod Answering
+pub mod Examples
+pub mod Boards
+pub mod Buffers
+pub mod Clock
+pub mod Commands
+pub mod Jobs
+pub mod Limits
+pub mod LimitsLines
+pub mod Lists
+pub mod Records
+pub mod Refused
+pub mod Sessions
+pub mod Threads
+pub mod Wide

@@ -1,0 +1,5 @@
+// The worked examples, and the stored rows of the tests, as theorems about the definitions.
+#![tactic(auto)]
+
+pub mod given;
+pub mod law;
