@@ -5,3 +5,4 @@ pub mod AtEnd
 pub mod Accepted
 pub mod Rings
 pub mod Woken
+pub mod Served

@@ -8,3 +8,4 @@ pub mod Waking
 pub mod Handing
 pub mod Idle
 pub mod LineRing
+pub mod Served

@@ -1,9 +1,10 @@
 // The board's worker.
-ghost use Rattle.std.specs.Prelude.{◌≡◌, ◌+◌, ◌<◌, ◌≤◌, false, length, nat_eq, slice_index, MatchOption, Some};
+ghost use Rattle.std.specs.Prelude.{◌≡◌, ◌+◌, ◌<◌, ◌≤◌, false, length, nat_eq, slice_index, MatchOption, Some, ℕ};
 ghost use Rattle.cm_expand.specs.PlanView.{plan_words};
 ghost use Rattle.cm_ring_core.specs.Lawful.{first_writer, MayEndAs};
 ghost use Rattle.cm_ring_core.specs.declared.view.End.{End};
 ghost use Rattle.cm_client.specs.Handing.{in_64_bits};
+ghost use Rattle.cm_client.specs.Served.{HasHanded, HasServed};
 ghost use Rattle.cm_client.specs.Streamed.{EndsTruly, HeedsStop};
 
 use crate::handover::Handover;
@@ -23,8 +24,8 @@ const PIECE: u32 = 256;
 /// Puts all words in order. Where the ring isn't paced each is published before the next one is tried;
 /// else they are published in pieces, and before the writer waits. Where the ring is full it
 /// ends with `Cancelled` if a look found the stop asked for, and else waits if the ring is paced, and
-/// ends with `Overrun` if it isn't. After all words it ends with `Done`. It waits in a way that the
-/// caller chooses.
+/// ends with `Overrun` if it isn't. After all words it ends with `Done`. It waits in the way that the
+/// caller chooses, hands on all that it has put by that, and gives it back.
 pub fn put_words<R: Wait + Sync, P: Planned, W: Words, S: Waiting, G: Gate>(
     rt: &R,
     mut writer: Writer<P>,
@@ -33,13 +34,14 @@ pub fn put_words<R: Wait + Sync, P: Planned, W: Words, S: Waiting, G: Gate>(
     waiting: S,
     gate: &G,
     who: u32,
-) -> Closed<P>
+) -> (Closed<P>, S)
     requires fresh { writer.part ≡ first_writer }
     requires plan { (writer.ring.samples ≡ W.all words) × (W.place words ≡ 0) }
     requires paced { writer.ring.paced ≡ paced }
-    ensures of { (result.table ≡ writer.table) × (result.ring ≡ writer.ring) }
-    ensures end { EndsTruly result }
-    ensures heeds { HeedsStop result }
+    ensures of { (result.0.table ≡ writer.table) × (result.0.ring ≡ writer.ring) }
+    ensures end { EndsTruly result.0 }
+    ensures heeds { HeedsStop result.0 }
+    ensures served { HasServed S.has_handed_on S.has_waited S.has_ended 0 result.0.end.count waiting result.1 }
 {
     let mut handover = Handover::new(waiting, 0);
     let size = writer.size();
@@ -74,10 +76,10 @@ pub fn put_words<R: Wait + Sync, P: Planned, W: Words, S: Waiting, G: Gate>(
             if !paced {
                 return end(writer, handover, EndKind::Overrun);
             }
-            handover.wait(rt, &writer);
+            wait_for_room(rt, &writer, &mut handover);
         }
     }
-    writer.publish();
+    publish(&mut writer, &mut handover, fresh);
     end(writer, handover, EndKind::Done)
 }
 
@@ -89,6 +91,7 @@ fn publish<P: Planned, S: Waiting>(writer: &mut Writer<P>, handover: &mut Handov
     ensures writer { writer.new ≡ record writer.old { part = record writer.old.part { written = writer.old.part.next } } }
     ensures handed { handover.new.handed ≡ in_64_bits writer.new.part.written }
     ensures idle { handover.new.idle ≡ nat_eq fresh 0 }
+    ensures way { (start : _) → HasHanded S.has_handed_on S.has_waited 0 writer.old.part.written start handover.old.way → HasHanded S.has_handed_on S.has_waited 0 writer.new.part.written start handover.new.way }
 {
     if fresh > 0 {
         writer.publish();
@@ -96,15 +99,35 @@ fn publish<P: Planned, S: Waiting>(writer: &mut Writer<P>, handover: &mut Handov
     handover.hand_on(writer, fresh);
 }
 
+// Waits for room.
+fn wait_for_room<R: Wait, P: Planned, S: Waiting>(
+    rt: &R,
+    writer: &Writer<P>,
+    handover: &mut Handover<S>,
+)
+    requires published { writer.now.part.written ≡ writer.now.part.next }
+    requires handed { handover.old.handed ≡ in_64_bits writer.now.part.written }
+    ensures handed { handover.new.handed ≡ handover.old.handed }
+    ensures idle { handover.new.idle ≡ false }
+    ensures way { (start : _) (to : ℕ) → HasHanded S.has_handed_on S.has_waited 0 to start handover.old.way → HasHanded S.has_handed_on S.has_waited 0 to start handover.new.way }
+{
+    handover.wait(rt, writer);
+}
+
 // Ends, and lets the next worker know.
-fn end<P: Planned, S: Waiting>(writer: Writer<P>, handover: Handover<S>, kind: EndKind) -> Closed<P>
+fn end<P: Planned, S: Waiting>(
+    writer: Writer<P>,
+    handover: Handover<S>,
+    kind: EndKind,
+) -> (Closed<P>, S)
     requires published { writer.part.written ≡ writer.part.next }
     requires kind { MayEndAs writer.ring writer.part.at writer.part.freed writer.part.saw_stop kind writer.part.written }
-    ensures { let e : End = record { kind = kind; count = writer.part.written } in result ≡ record { table = writer.table; ring = writer.ring; part = record writer.part { closed = Some e }; end = e } }
+    ensures closed { let e : End = record { kind = kind; count = writer.part.written } in result.0 ≡ record { table = writer.table; ring = writer.ring; part = record writer.part { closed = Some e }; end = e } }
+    ensures served { (start : _) → HasHanded S.has_handed_on S.has_waited 0 writer.part.written start handover.way → HasServed S.has_handed_on S.has_waited S.has_ended 0 result.0.end.count start result.1 }
 {
     let closed = writer.end(kind);
-    handover.end(&closed);
-    closed
+    let way = handover.end(&closed);
+    (closed, way)
 }
 
 /// Puts the expansion of a plan into its ring, as `put_words` does.
@@ -124,5 +147,6 @@ pub fn board_work<'a, R: Wait + Sync, G: Gate>(
     ensures heeds { HeedsStop result }
 {
     let words = WordSource::new(plan);
-    put_words(rt, writer, words, paced, Backoff::new(), gate, who)
+    let (closed, _) = put_words(rt, writer, words, paced, Backoff::new(), gate, who);
+    closed
 }

@@ -1,6 +1,7 @@
 // The client's worker, and the munger's beside it.
-ghost use Rattle.std.specs.Prelude.{◌≡◌, [], IfErr, IfOk, IsErr, OnErr, true};
+ghost use Rattle.std.specs.Prelude.{◌≡◌, ℕ, [], IfErr, IfOk, IsErr, OnErr, true};
 ghost use Rattle.cm_client.specs.Progress.{Accepts, IsSameRing};
+ghost use Rattle.cm_client.specs.Served.{HasServed};
 ghost use Rattle.cm_client.specs.Streamed.{HasAsked, IsFresh, StreamsTo};
 
 use crate::munging::{OwnMunger, munge_work};
@@ -59,7 +60,8 @@ pub struct Reads {
 }
 
 /// Reads to the end in pieces of 64, or up to as many samples as it takes, and hands them to a consumer.
-/// It waits for the munger in a way that the caller chooses.
+/// It waits for the munger in the way that the caller chooses, hands on all that it has released by that, and gives it
+/// back.
 pub fn client_work<R: Wait + Sync, P: Planned, C: Consumer, W: Waiting, G: Gate>(
     rt: &R,
     reader: &mut Reader<P>,
@@ -68,13 +70,15 @@ pub fn client_work<R: Wait + Sync, P: Planned, C: Consumer, W: Waiting, G: Gate>
     reads: Reads,
     gate: &G,
     who: u32,
-) -> Result<End, NoMemory>
+) -> (Result<End, NoMemory>, W)
     requires fresh { IsFresh reader.old }
     requires new { (C.count consumer.old ≡ 0) × (C.made consumer.old ≡ C.makes consumer.old []) }
     requires accepts { Accepts (C.accepts consumer.old) reader.old.ring }
-    ensures streamed { IfOk result (λ e. StreamsTo (C.made consumer.new) (C.makes consumer.old) reader.old.ring reads.take e reader.new) }
+    ensures streamed { IfOk result.0 (λ e. StreamsTo (C.made consumer.new) (C.makes consumer.old) reader.old.ring reads.take e reader.new) }
     ensures of { IsSameRing reader.old reader.new }
-    ensures no_memory { OnErr result (reader.new.part.asked ≡ true) }
+    ensures no_memory { OnErr result.0 (reader.new.part.asked ≡ true) }
+    ensures served { IfOk result.0 (λ _. HasServed W.has_handed_on W.has_waited W.has_ended 0 reader.new.part.released waiting result.1) }
+    ensures ended { OnErr result.0 ((to : ℕ) × HasServed W.has_handed_on W.has_waited W.has_ended 0 to waiting result.1) }
 {
     let Reads { by_map, take } = reads;
     consume_to_end(
@@ -89,7 +93,8 @@ pub struct ClientSide<P: Planned> {
     pub reader: Reader<P>,
 }
 
-// The client's thread, which owns its reader. It reads where the thread that it reads from has started.
+// The client's thread, which owns its reader. It reads if the thread that it reads from has started, and gives back how
+// it waited.
 fn read_line<R: Wait + Sync, P: Planned, C: Consumer, W: Waiting, G: Gate>(
     rt: &R,
     mut reader: Reader<P>,
@@ -99,24 +104,29 @@ fn read_line<R: Wait + Sync, P: Planned, C: Consumer, W: Waiting, G: Gate>(
     reads: Reads,
     gate: &G,
     who: u32,
-) -> Result<Streamed<P, C>, GaveUp<P>>
+) -> (Result<Streamed<P, C>, GaveUp<P>>, W)
     requires fresh { IsFresh reader }
     requires new { (C.count consumer ≡ 0) × (C.made consumer ≡ C.makes consumer []) }
     requires accepts { Accepts (C.accepts consumer) reader.ring }
-    ensures streamed { IfOk result (λ s. StreamsTo (C.made s.samples) (C.makes consumer) reader.ring reads.take s.end s.reader) }
-    ensures gave_up { IfErr result (λ g. HasAsked reader g.reader) }
-    ensures started { IfOk result (λ _. other ≡ Worker.Started) }
+    ensures streamed { IfOk result.0 (λ s. StreamsTo (C.made s.samples) (C.makes consumer) reader.ring reads.take s.end s.reader) }
+    ensures gave_up { IfErr result.0 (λ g. HasAsked reader g.reader) }
+    ensures started { IfOk result.0 (λ _. other ≡ Worker.Started) }
+    ensures served { IfOk result.0 (λ s. HasServed W.has_handed_on W.has_waited W.has_ended 0 s.reader.part.released waiting result.1) }
 {
     if other == Worker::Refused {
-        return Err(give_up(reader));
+        return (Err(give_up(reader)), waiting);
     }
-    match client_work(rt, &mut reader, &mut consumer, waiting, reads, gate, who) {
-        Ok(end) => Ok(Streamed {
-            samples: consumer,
-            end,
-            reader,
-        }),
-        Err(NoMemory) => Err(GaveUp { reader }),
+    let (ended, way) = client_work(rt, &mut reader, &mut consumer, waiting, reads, gate, who);
+    match ended {
+        Ok(end) => {
+            let streamed = Streamed {
+                samples: consumer,
+                end,
+                reader,
+            };
+            (Ok(streamed), way)
+        }
+        Err(NoMemory) => (Err(GaveUp { reader }), way),
     }
 }
 
@@ -180,7 +190,8 @@ fn munge_and_read<
             ensures { IfOk result (λ s. StreamsTo (C.made s.samples) (C.makes consumer) reader.ring reads.take s.end s.reader) × IfErr result (λ g. HasAsked reader g.reader) × IfOk result (λ _. munging ≡ Worker.Started) }
         {
             let waiting = Backoff::new();
-            read_line(rt, reader, consumer, waiting, munging, reads, gate, who)
+            let (streamed, _) = read_line(rt, reader, consumer, waiting, munging, reads, gate, who);
+            streamed
         },
     );
     streamed
@@ -206,5 +217,6 @@ pub fn run_munging_client<R: Wait + Sync, P: Planned, C: Consumer, G: Gate>(
 {
     let ClientSide { munger, reader } = side;
     let waiting = OwnMunger::new(munger);
-    read_line(rt, reader, consumer, waiting, other, reads, gate, who)
+    let (streamed, _) = read_line(rt, reader, consumer, waiting, other, reads, gate, who);
+    streamed
 }

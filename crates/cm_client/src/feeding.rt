@@ -49,5 +49,6 @@ pub fn feed<R: Wait + Sync, P: Planned>(rt: &R, writer: Writer<P>, words: &[u32]
     ensures end { (result.end ≡ record { kind = Done; count = length words.now }) ⊎ ((result.end.kind ≡ Cancelled) × (result.part.saw_stop ≡ true)) }
 {
     let words = ListWords { words, given: 0 };
-    put_words(rt, writer, words, true, Backoff::new(), &OpenGate, 0)
+    let (closed, _) = put_words(rt, writer, words, true, Backoff::new(), &OpenGate, 0);
+    closed
 }

@@ -1,5 +1,6 @@
 // A munger that follows its writer to the end.
 ghost use Rattle.std.specs.Prelude.{◌≡◌, ◌+◌, IsTrue};
+ghost use Rattle.cm_client.specs.Served.{HasServed};
 ghost use Rattle.cm_client.specs.Streamed.{HasMungedAll};
 
 use crate::handover::Handover;
@@ -21,17 +22,20 @@ pub fn munge_work<R: Wait + Sync, P: Planned>(rt: &R, munger: Munger<P>) -> Mung
     ensures of { (result.table ≡ munger.table) × (result.ring ≡ munger.ring) }
     ensures end { HasMungedAll result }
 {
-    munge_waiting(rt, munger, Backoff::new())
+    let (munger, _) = munge_waiting(rt, munger, Backoff::new());
+    munger
 }
 
-/// Munges as `munge_work` does, and waits for its writer in a way that the caller chooses.
+/// Munges as `munge_work` does, and waits for its writer in the way that the caller chooses. It hands on all that it
+/// has munged by that, and gives it back.
 pub fn munge_waiting<R: Wait + Sync, P: Planned, W: Waiting>(
     rt: &R,
     mut munger: Munger<P>,
     waiting: W,
-) -> Munger<P>
-    ensures of { (result.table ≡ munger.table) × (result.ring ≡ munger.ring) }
-    ensures end { HasMungedAll result }
+) -> (Munger<P>, W)
+    ensures of { (result.0.table ≡ munger.table) × (result.0.ring ≡ munger.ring) }
+    ensures end { HasMungedAll result.0 }
+    ensures served { HasServed W.has_handed_on W.has_waited W.has_ended munger.part.munged result.0.part.munged waiting result.1 }
 {
     let mut handover = Handover::new(waiting, munger.munged());
     for _ in rt.forever() {
@@ -45,8 +49,8 @@ pub fn munge_waiting<R: Wait + Sync, P: Planned, W: Waiting>(
         }
         handover.wait(rt, &munger);
     }
-    handover.end(&munger);
-    munger
+    let way = handover.end(&munger);
+    (munger, way)
 }
 
 // Whether a look finds the end, and all samples up to it are munged.

@@ -1,6 +1,7 @@
 // The board of a paced ring.
 ghost use Rattle.std.specs.Prelude.{◌≡◌, true};
 ghost use Rattle.cm_ring_core.specs.Lawful.{first_writer};
+ghost use Rattle.cm_client.specs.Served.{HasServed};
 ghost use Rattle.cm_client.specs.Streamed.{EndsTruly, HeedsStop};
 
 use crate::boarding::put_words;
@@ -42,17 +43,19 @@ impl<P: Planned, W: Words> PacedBoard<P, W> {
         PacedBoard { writer, words }
     }
 
-    /// Puts all words and ends with `Done`, or ends with `Cancelled` where a look found the stop.
+    /// Puts all words and ends with `Done`, or ends with `Cancelled` when a look found the stop. It waits in the way
+    /// that it is given, hands on all that it has put by that, and gives it back.
     pub fn put_all<R: Wait + Sync, S: Waiting, G: Gate>(
         self,
         rt: &R,
         waiting: S,
         gate: &G,
         who: u32,
-    ) -> Closed<P>
-        ensures of { result.ring ≡ self }
-        ensures end { EndsTruly result }
-        ensures heeds { HeedsStop result }
+    ) -> (Closed<P>, S)
+        ensures of { result.0.ring ≡ self }
+        ensures end { EndsTruly result.0 }
+        ensures heeds { HeedsStop result.0 }
+        ensures served { HasServed S.has_handed_on S.has_waited S.has_ended 0 result.0.end.count waiting result.1 }
     {
         let PacedBoard { writer, words } = self;
         put_words(rt, writer, words, true, waiting, gate, who)

@@ -1,9 +1,10 @@
 // Reads to the end of a ring.
-ghost use Rattle.std.specs.Prelude.{◌≡◌, ◌+◌, ◌-◌, ◌<◌, ◌≤◌, ◌++◌, ◌≢◌, [], min, length, drop, take, true, false, Some, None, IfOk, IfSome, IsTrue, IsFalse, OnErr, MatchOption, ⊤};
+ghost use Rattle.std.specs.Prelude.{◌≡◌, ◌+◌, ◌-◌, ◌<◌, ◌≤◌, ◌++◌, ◌≢◌, [], min, length, drop, take, true, false, Some, None, IfOk, IfSome, IsTrue, IsFalse, OnErr, MatchOption, ℕ, ⊤};
 ghost use Rattle.cm_ring.specs.Samples.{first_munged, piece};
 ghost use Rattle.cm_base.specs.UpTo.{up_to};
 ghost use Rattle.cm_client.specs.Handing.{in_64_bits};
 ghost use Rattle.cm_client.specs.Progress.{Accepts, HasRead, HasAll, IsReadToEnd, IsSameRing, Stops};
+ghost use Rattle.cm_client.specs.Served.{HasHanded, HasServed};
 ghost use Rattle.cm_ring_core.specs.Lawful.{IsFoundEnd};
 
 use crate::copying::copy_read;
@@ -197,6 +198,7 @@ fn after_piece<R: Wait, P: Planned, W: Waiting>(
     requires some { 1 ≤ piece }
     ensures handed { handover.new.handed ≡ in_64_bits reader.now.part.released }
     ensures waited { handover.new.idle ≡ false }
+    ensures way { (start : _) (from to : ℕ) → reader.now.part.released ≡ to + count → HasHanded W.has_handed_on W.has_waited from to start handover.old.way → HasHanded W.has_handed_on W.has_waited from reader.now.part.released start handover.new.way }
 {
     handover.hand_on(reader, count);
     if count < piece {
@@ -226,6 +228,8 @@ fn read_up_to<R: Wait + Sync, P: Planned, C: Consumer, W: Waiting, G: Gate>(
     ensures asked { IfOk result (λ _. reader.new.part.asked ≡ reader.old.part.asked) }
     ensures makes { C.makes consumer.new ≡ C.makes consumer.old }
     ensures of { IsSameRing reader.old reader.new }
+    ensures handed_on { IfOk result (λ _. HasHanded W.has_handed_on W.has_waited reader.old.part.released reader.new.part.released handover.old.way handover.new.way) }
+    ensures way { OnErr result ((to : ℕ) × HasHanded W.has_handed_on W.has_waited reader.old.part.released to handover.old.way handover.new.way) }
 {
     for _ in rt.forever() {
         let count = reader.released();
@@ -259,11 +263,12 @@ fn wait_for_end<R: Wait + Sync, P: Planned>(rt: &R, reader: &mut Reader<P>) -> E
 }
 
 // Asks for the stop, and wakes a writer that waits for room.
-fn ask_stop<P: Planned, W: Waiting>(reader: &mut Reader<P>, handover: Handover<W>)
-    ensures { reader.new ≡ record reader.old { part = record reader.old.part { asked = true } } }
+fn ask_stop<P: Planned, W: Waiting>(reader: &mut Reader<P>, handover: Handover<W>) -> W
+    ensures asked { reader.new ≡ record reader.old { part = record reader.old.part { asked = true } } }
+    ensures way { W.has_ended handover.way result }
 {
     reader.ask_stop();
-    handover.end(reader);
+    handover.end(reader)
 }
 
 // Asks for the stop and waits for the end.
@@ -271,13 +276,14 @@ fn stop_and_wait<R: Wait + Sync, P: Planned, W: Waiting>(
     rt: &R,
     reader: &mut Reader<P>,
     handover: Handover<W>,
-) -> End
-    ensures same { reader.new ≡ record reader.old { part = record reader.old.part { asked = true; found = Some result; end_looks = reader.new.part.end_looks } } }
-    ensures above { reader.old.part.released ≤ result.count }
-    ensures says { IsFoundEnd reader.new.ring reader.new.part result.kind result.count }
+) -> (End, W)
+    ensures same { reader.new ≡ record reader.old { part = record reader.old.part { asked = true; found = Some result.0; end_looks = reader.new.part.end_looks } } }
+    ensures above { reader.old.part.released ≤ result.0.count }
+    ensures says { IsFoundEnd reader.new.ring reader.new.part result.0.kind result.0.count }
+    ensures way { W.has_ended handover.way result.1 }
 {
-    ask_stop(reader, handover);
-    wait_for_end(rt, reader)
+    let way = ask_stop(reader, handover);
+    (wait_for_end(rt, reader), way)
 }
 
 /// Reads samples in pieces of at most `chunk`, in place or by copying, up to the end's count or up to
@@ -301,14 +307,14 @@ pub fn read_to_end<R: Wait + Sync, P: Planned, G: Gate>(
 {
     let mut words = Vec::new(alloc);
     let waiting = Backoff::new();
-    let end = consume_to_end(
+    let (end, _) = consume_to_end(
         rt, reader, &mut words, waiting, chunk, by_map, take, gate, who,
-    )?;
-    Ok((words, end))
+    );
+    Ok((words, end?))
 }
 
 /// Reads as `read_to_end` does, hands the samples to a consumer in place of keeping them, and waits for
-/// the munger in a way that the caller chooses.
+/// the munger in the way that the caller chooses. It hands on all that it has released by that, and gives it back.
 pub fn consume_to_end<R: Wait + Sync, P: Planned, C: Consumer, W: Waiting, G: Gate>(
     rt: &R,
     reader: &mut Reader<P>,
@@ -319,16 +325,18 @@ pub fn consume_to_end<R: Wait + Sync, P: Planned, C: Consumer, W: Waiting, G: Ga
     take: Option<u64>,
     gate: &G,
     who: u32,
-) -> Result<End, NoMemory>
+) -> (Result<End, NoMemory>, W)
     requires chunk { 1 ≤ chunk }
     requires fresh { (reader.old.part.released ≡ 0) × (reader.old.mapped ≡ 0) }
     requires new { (C.count consumer.old ≡ 0) × (C.made consumer.old ≡ C.makes consumer.old []) }
     requires accepts { Accepts (C.accepts consumer.old) reader.old.ring }
-    ensures read { IfOk result (λ e. IsReadToEnd reader.old reader.new take (first_munged reader.old.ring (up_to e.count take)) e) }
-    ensures made { IfOk result (λ e. C.made consumer.new ≡ C.makes consumer.old (first_munged reader.old.ring (up_to e.count take))) }
+    ensures read { IfOk result.0 (λ e. IsReadToEnd reader.old reader.new take (first_munged reader.old.ring (up_to e.count take)) e) }
+    ensures made { IfOk result.0 (λ e. C.made consumer.new ≡ C.makes consumer.old (first_munged reader.old.ring (up_to e.count take))) }
     ensures makes { C.makes consumer.new ≡ C.makes consumer.old }
     ensures of { IsSameRing reader.old reader.new }
-    ensures no_memory { OnErr result (reader.new.part.asked ≡ true) }
+    ensures no_memory { OnErr result.0 (reader.new.part.asked ≡ true) }
+    ensures served { IfOk result.0 (λ _. HasServed W.has_handed_on W.has_waited W.has_ended 0 reader.new.part.released waiting result.1) }
+    ensures ended { OnErr result.0 ((to : ℕ) × HasServed W.has_handed_on W.has_waited W.has_ended 0 to waiting result.1) }
 {
     let mut handover = Handover::new(waiting, reader.released());
     match read_up_to(
@@ -342,14 +350,11 @@ pub fn consume_to_end<R: Wait + Sync, P: Planned, C: Consumer, W: Waiting, G: Ga
         gate,
         who,
     ) {
-        Ok(Some(end)) => {
-            handover.end(reader);
-            Ok(end)
+        Ok(Some(end)) => (Ok(end), handover.end(reader)),
+        Ok(None) => {
+            let (end, way) = stop_and_wait(rt, reader, handover);
+            (Ok(end), way)
         }
-        Ok(None) => Ok(stop_and_wait(rt, reader, handover)),
-        Err(_) => {
-            ask_stop(reader, handover);
-            Err(NoMemory)
-        }
+        Err(_) => (Err(NoMemory), ask_stop(reader, handover)),
     }
 }

@@ -63,9 +63,9 @@ pub fn stream_words<
     let (_, streamed) = with_worker(
         rt,
         TrueEnd,
-        move || -> Closed<P>
+        move || -> (Closed<P>, Backoff)
             requires { (writer.part ≡ first_writer) × (writer.ring.samples ≡ W.all words) × (W.place words ≡ 0) × (writer.ring.paced ≡ paced) }
-            ensures { EndsTruly result }
+            ensures { EndsTruly result.0 }
         { put_words(rt, writer, words, paced, Backoff::new(), gate, who) },
         move |board| -> Result<Streamed<P, C>, GaveUp<P>>
             requires { IsFresh client.reader × (C.count consumer ≡ 0) × (C.made consumer ≡ C.makes consumer []) × Accepts (C.accepts consumer) client.reader.ring }

@@ -17,12 +17,22 @@ impl<P: Planned> Promise<Closed<P>> for TrueEnd {
     ghost kept_by = { λ _ closed. EndsTruly closed };
 }
 
+// The same with how it waited.
+impl<P: Planned, W> Promise<(Closed<P>, W)> for TrueEnd {
+    ghost kept_by = { λ _ given. EndsTruly given.0 };
+}
+
 /// What a munger's worker gives: a munger that has found the end, and munged all up to it.
 #[derive(Clone, Copy)]
 pub struct AllMunged;
 
 impl<P: Planned> Promise<Munger<P>> for AllMunged {
     ghost kept_by = { λ _ munger. HasMungedAll munger };
+}
+
+// The same with how it waited.
+impl<P: Planned, W> Promise<(Munger<P>, W)> for AllMunged {
+    ghost kept_by = { λ _ given. HasMungedAll given.0 };
 }
 
 /// What became of a worker that was to have a thread of its own.

@@ -13,9 +13,10 @@ HasPlaces board owners = length owners.channels ≡ length board.subs
 abbrev pub IsSub : List RunLine → ℕ → ℕ → Type 0
 IsSub lines place sub = IfSome (slice_get lines place) (λ line. sub ≡ (cmd_of line).sub)
 
--- the seat holds the subdevice of the line at a place
-abbrev pub HoldsLine : List RunLine → ℕ → SeatText → Type 0
-HoldsLine lines place seat = IfSome (slice_get lines place) (λ line. Holds (cmd_of line).sub seat.holds)
+-- a seat of these owners holds the subdevice of the line at a place
+abbrev pub HoldsLine : OwnersText → List RunLine → ℕ → SeatText → Type 0
+HoldsLine owners lines place seat =
+    (seat.owners ≡ owners) × IfSome (slice_get lines place) (λ line. Holds (cmd_of line).sub seat.holds)
 
 -- so many are made, each of which may be what is made at its place
 pub record AreMade {D : Type 0} (may : ℕ → D → Type 0) (count : ℕ) (made : List D) : Type 0 where

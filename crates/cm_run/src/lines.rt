@@ -40,8 +40,8 @@ fn line_work<
     requires idle { IsIdle owners.now seat.old }
     requires places { HasPlaces job.now.board owners.now }
     requires place { place < length job.now.lines }
-    requires can { (holder held : _) → HoldsLine job.now.lines place holder.now → F.pre stream.now place holder held }
-    ensures made { (holder held : _) × F.post stream.now place holder held result }
+    requires can { (holder held : _) → HoldsLine owners.now job.now.lines place holder.now → F.pre stream.now place holder held }
+    ensures made { (holder held : _) × HoldsLine owners.now job.now.lines place holder.now × F.post stream.now place holder held result }
     ensures idle { IsIdle owners.now seat.new }
 {
     let sub = sub_at(job, place);
@@ -52,7 +52,7 @@ fn line_work<
 }
 
 /// Streams the first `count` lines of a job beside each other, each by a call of `stream` with its place, a
-/// seat that holds its subdevice and what that keeps. Answers after all have ended: what the calls have
+/// seat of these owners that holds its subdevice and what that keeps. Answers after all have ended: what the calls have
 /// made, in the order of the lines.
 pub(crate) fn lines_up_to<
     R: Threads + Wait + Sync,
@@ -70,8 +70,8 @@ pub(crate) fn lines_up_to<
     requires idle { IsIdle owners.now seat }
     requires places { HasPlaces job.now.board owners.now }
     requires count { count ≤ length job.now.lines }
-    requires can { (place : ℕ) → place < count → (holder held : _) → HoldsLine job.now.lines place holder.now → F.pre stream.now place holder held }
-    ensures { IfOk result (λ made. AreMade (λ place one. (holder held : _) × F.post stream.now place holder held (Ok one)) count made.items) }
+    requires can { (place : ℕ) → place < count → (holder held : _) → HoldsLine owners.now job.now.lines place holder.now → F.pre stream.now place holder held }
+    ensures { IfOk result (λ made. AreMade (λ place one. (holder held : _) × HoldsLine owners.now job.now.lines place holder.now × F.post stream.now place holder held (Ok one)) count made.items) }
 {
     if count == 0 {
         return Ok(Vec::new(alloc));
@@ -81,15 +81,15 @@ pub(crate) fn lines_up_to<
     let (one, before) = join(
         rt,
         move || -> Result<D, NoMemory>
-            requires { IsIdle owners.now theirs × HasPlaces job.now.board owners.now × (last < length job.now.lines) × ((holder held : _) → HoldsLine job.now.lines last holder.now → F.pre stream.now last holder held) }
-            ensures { (holder held : _) × F.post stream.entry.now last holder held result }
+            requires { IsIdle owners.now theirs × HasPlaces job.now.board owners.now × (last < length job.now.lines) × ((holder held : _) → HoldsLine owners.now job.now.lines last holder.now → F.pre stream.now last holder held) }
+            ensures { (holder held : _) × HoldsLine owners.entry.now job.entry.now.lines last holder.now × F.post stream.entry.now last holder held result }
         {
             let mut seat = theirs;
             line_work(rt, owners, &mut seat, job, last, stream)
         },
         move || -> Result<Vec<D>, NoMemory>
-            requires { IsSync R.row × IsSync F.row × IsSend D.row × IsIdle owners.now seat × HasPlaces job.now.board owners.now × (last ≤ length job.now.lines) × ((place : ℕ) → place < last → (holder held : _) → HoldsLine job.now.lines place holder.now → F.pre stream.now place holder held) }
-            ensures { IfOk result (λ made. AreMade (λ place one. (holder held : _) × F.post stream.entry.now place holder held (Ok one)) last made.items) }
+            requires { IsSync R.row × IsSync F.row × IsSend D.row × IsIdle owners.now seat × HasPlaces job.now.board owners.now × (last ≤ length job.now.lines) × ((place : ℕ) → place < last → (holder held : _) → HoldsLine owners.now job.now.lines place holder.now → F.pre stream.now place holder held) }
+            ensures { IfOk result (λ made. AreMade (λ place one. (holder held : _) × HoldsLine owners.entry.now job.entry.now.lines place holder.now × F.post stream.entry.now place holder held (Ok one)) last made.items) }
         { lines_up_to(rt, alloc, owners, seat, job, last, stream) },
     );
     let mut made = before?;

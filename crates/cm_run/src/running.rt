@@ -4,13 +4,16 @@ ghost use Rattle.std.specs.List.{AllZip};
 ghost use Rattle.cm_block.specs.RunText.{IsRunText};
 ghost use Rattle.cm_run.specs.Lines.{AreMade, HoldsLine};
 ghost use Rattle.cm_run.specs.Ran.{HaveRun, LineRan, as_list};
+ghost use Rattle.cm_job.specs.Calls.{cmd_of};
 ghost use Rattle.cm_job.specs.RunLines.{CanRun};
+ghost use Rattle.cm_sub.specs.Owning.{Holds, OwnersText};
 
 use crate::done::{LineDone, Ran, all_ran};
 use crate::driving::{Drive, drive_line};
 use crate::gone::go_line;
 use crate::lines::lines_up_to;
 use cm_base::gate::Gate;
+use cm_base::prover::shows;
 use cm_base::transfer::NoMemory;
 use cm_block::going::go_of;
 use cm_board::board::BoardDesc;
@@ -26,15 +29,15 @@ use std::sync::Wait;
 use std::thread::Threads;
 
 /// Streams the lines of a job beside each other, each over its own subdevice and by a call of `stream`
-/// with its place, a seat that holds the subdevice and what that keeps. Answers after all have ended: what
-/// the calls have made, in the order of the lines.
+/// with its place, a seat that holds the subdevice and what that keeps. All seats are of the same owners. Answers
+/// after all have ended: what the calls have made, in the order of the lines.
 pub(crate) fn stream_lines<
     R: Threads + Wait + Sync,
     D: Send + Drop,
     F: Fn(usize, &OwnerSeat, &SubState) -> Result<D, NoMemory> + Sync,
 >(rt: &R, alloc: Global, job: &RunJob, stream: &F) -> Result<Vec<D>, NoMemory>
-    requires { (place : ℕ) → place < length job.now.lines → (holder held : _) → HoldsLine job.now.lines place holder.now → F.pre stream.now place holder held }
-    ensures { IfOk result (λ made. AreMade (λ place one. (holder held : _) × F.post stream.now place holder held (Ok one)) (length job.now.lines) made.items) }
+    requires { (owners : OwnersText) (place : ℕ) → place < length job.now.lines → (holder held : _) → HoldsLine owners job.now.lines place holder.now → F.pre stream.now place holder held }
+    ensures { IfOk result (λ made. (owners : OwnersText) × AreMade (λ place one. (holder held : _) × HoldsLine owners job.now.lines place holder.now × F.post stream.now place holder held (Ok one)) (length job.now.lines) made.items) }
 {
     let states = states_of(alloc, &job.board.subs)?;
     let (owners, seat) = Owners::open(alloc, states)?;
@@ -42,19 +45,22 @@ pub(crate) fn stream_lines<
     lines_up_to(rt, alloc, &owners, seat, job, count, stream)
 }
 
-// Streams a line, and makes its block.
+// Streams a line while a seat holds its subdevice, and makes its block.
 fn one_line<'a, R: Threads + Wait + Sync, G: Gate + Sync>(
     rt: &R,
     alloc: Global,
     board: &'a BoardDesc,
     signals: &'a Signals,
     line: &'a RunLine,
+    holder: &OwnerSeat,
     gate: &G,
     who: u32,
 ) -> Result<LineDone<'a>, NoMemory>
-    requires { CanRun board.now signals.now line.now }
+    requires runs { CanRun board.now signals.now line.now }
+    requires holds { Holds (cmd_of line.now).sub holder.now.holds }
     ensures { IfOk result (λ d. LineRan board.now signals.now line.now d.block.items (as_list d.reader)) }
 {
+    shows(holder);
     match line {
         RunLine::Go { .. } => go_line(rt, alloc, go_of(board, signals, line), gate, who),
         RunLine::Drive { values, cmd, .. } => {
@@ -68,15 +74,17 @@ fn one_line<'a, R: Threads + Wait + Sync, G: Gate + Sync>(
     }
 }
 
-// Streams the line at a place of a job, and makes its block.
+// Streams the line at a place of a job while a seat holds its subdevice, and makes its block.
 fn line_at<'a, R: Threads + Wait + Sync, G: Gate + Sync>(
     rt: &R,
     alloc: Global,
     job: &'a RunJob,
     place: usize,
+    holder: &OwnerSeat,
     gate: &G,
 ) -> Result<LineDone<'a>, NoMemory>
-    requires { place < length job.now.lines }
+    requires place { place < length job.now.lines }
+    requires holds { HoldsLine holder.now.owners job.now.lines place holder.now }
     ensures { IfSome (slice_get job.now.lines place) (λ line. IfOk result (λ d. LineRan job.now.board job.now.signals line d.block.items (as_list d.reader))) }
 {
     let line = &job.lines[place];
@@ -86,6 +94,7 @@ fn line_at<'a, R: Threads + Wait + Sync, G: Gate + Sync>(
         &job.board,
         &job.signals,
         line,
+        holder,
         gate,
         place as u32,
     )
@@ -100,13 +109,13 @@ fn run_lines<'a, R: Threads + Wait + Sync, G: Gate + Sync>(
 ) -> Result<Vec<LineDone<'a>>, NoMemory>
     ensures { IfOk result (λ made. AllZip (λ line d. LineRan job.now.board job.now.signals line d.block.items (as_list d.reader)) job.now.lines made.items) }
 {
-    let stream = move |place: usize, _holder: &OwnerSeat, _held: &SubState| -> Result<
+    let stream = move |place: usize, holder: &OwnerSeat, _held: &SubState| -> Result<
         LineDone<'_>,
         NoMemory,
     >
-        requires { place < length job.now.lines }
+        requires { (place < length job.now.lines) × HoldsLine holder.now.owners job.now.lines place holder.now }
         ensures { IfSome (slice_get job.entry.now.lines place) (λ line. IfOk result (λ d. LineRan job.entry.now.board job.entry.now.signals line d.block.items (as_list d.reader))) }
-    { line_at(rt, alloc, job, place, gate) };
+    { line_at(rt, alloc, job, place, holder, gate) };
     stream_lines(rt, alloc, job, &stream)
 }
 

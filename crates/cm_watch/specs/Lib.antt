@@ -4,3 +4,4 @@ pub mod Told
 pub mod Watching
 pub mod Whole
 pub mod Woken
+pub mod Places

@@ -5,12 +5,13 @@ use Rattle.cm_stream.specs.declared.merge.MergeStep.{MergeStep}
 use Rattle.cm_stream.specs.declared.merge.MergeStep.TheVariants as merged
 
 -- how many released samples of each line its board was let know of, each board's alarm, whether the client is
--- announced, so that its next wait is a sleep, and whether no line had a scan at its last step
+-- announced, so that its next wait is a sleep, and whether no line had a scan at its last step, or all had ended
 pub record WatcherText : Type 0 where
   pub told : List ℕ
   pub boards : List AlarmText
   pub announced : Bool
   pub idle : Bool
+  pub over : Bool
 
 -- no line had a scan at a step
 abbrev pub is_waiting : MergeStep → Bool
@@ -18,6 +19,13 @@ is_waiting (merged.Given source scan) = false
 is_waiting merged.Ended = false
 is_waiting merged.Waiting = true
 is_waiting (merged.NoMemory source) = false
+
+-- all lines had ended at a step
+abbrev pub is_over : MergeStep → Bool
+is_over (merged.Given source scan) = false
+is_over merged.Ended = true
+is_over merged.Waiting = false
+is_over (merged.NoMemory source) = false
 
 -- an alarm that has woken its board for all samples
 abbrev pub rung : AlarmText → AlarmText

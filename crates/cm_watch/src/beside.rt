@@ -3,6 +3,7 @@ ghost use Rattle.std.specs.Prelude.{◌≡◌, ◌+◌, ◌<◌, ◌≤◌, ◌^
 ghost use Rattle.std.specs.List.{All};
 ghost use Rattle.std.specs.Thread.{IsSync};
 ghost use Rattle.cm_client.specs.Idle.{IsIdle};
+ghost use Rattle.cm_watch.specs.Places.{IsPlace};
 ghost use Rattle.cm_watch.specs.Watched.{AreRead, HasWatched, HaveAsked};
 ghost use Rattle.cm_client.specs.Streamed.{EndsTruly};
 
@@ -24,42 +25,42 @@ use std::alloc::Global;
 use std::sync::Wait;
 use std::thread::Threads;
 
-// A board's thread: it has its subdevice while it puts its words.
-fn board_thread<R: Wait + Sync, P: Planned, W: Words, G: Gate>(
+// A board's thread: it has its subdevice while it puts its words, and gives back how it waited.
+fn board_thread<'o, 'e, R: Wait + Sync, P: Planned, W: Words, G: Gate>(
     rt: &R,
     owners: &Owners,
     seat: &mut OwnerSeat,
-    board: LineBoard<P, W>,
-    waiting: Relay<'_>,
+    board: LineBoard<'o, P, W>,
+    waiting: Relay<'e>,
     gate: &G,
     who: u32,
-) -> Closed<P>
+) -> (Closed<P>, Relay<'e>)
     requires idle { IsIdle owners.now seat.old }
-    requires place { board.sub < length owners.now.channels }
-    ensures of { result.ring ≡ board.board }
-    ensures end { EndsTruly result }
+    requires place { IsPlace owners.now board.owners.now board.sub }
+    ensures of { result.0.ring ≡ board.entry.board }
+    ensures end { EndsTruly result.0 }
     ensures idle { IsIdle owners.now seat.new }
 {
     let sub = board.sub();
     let state = claim_waiting(rt, owners, seat, sub);
-    let closed = board.put_while(rt, seat, waiting, gate, who);
+    let put = board.put_while(rt, seat, waiting, gate, who);
     owners.give_back(seat, sub, state);
-    closed
+    put
 }
 
 // Takes the last side.
-fn last_side<P: Planned, W: Words>(
+fn last_side<'o, P: Planned, W: Words>(
     owners: &Owners,
-    sides: &mut Vec<BoardSide<P, W>>,
-) -> Option<BoardSide<P, W>>
-    requires { All (λ side. side.board.sub < length owners.now.channels) sides.old.items }
+    sides: &mut Vec<BoardSide<'o, P, W>>,
+) -> Option<BoardSide<'o, P, W>>
+    requires { All (λ side. IsPlace owners.now side.board.owners.now side.board.sub) sides.old.items }
     ensures { MatchOption result (sides.old.items ≡ []) (λ side.
-        (side.board.sub < length owners.now.channels)
-        × All (λ side. side.board.sub < length owners.now.channels) sides.new.items
+        IsPlace owners.now side.board.owners.now side.board.sub
+        × All (λ side. IsPlace owners.now side.board.owners.now side.board.sub) sides.new.items
         × (sides.old.items ≡ sides.new.items ++ side ∷ [])
         × (length sides.old.items ≡ length sides.new.items + 1)) }
 {
-    // It is here for the contract alone: the owners have each side's place.
+    // They are here for the contract alone: they have each side's place.
     shows(owners);
     sides.pop()
 }
@@ -70,6 +71,7 @@ fn last_side<P: Planned, W: Words>(
 #[cycle(sides)]
 pub(crate) fn watch_sides<
     'a,
+    'o,
     R: Threads + Wait + Sync,
     P: Planned + Send + Sync,
     W: Words + Send,
@@ -79,13 +81,13 @@ pub(crate) fn watch_sides<
     alloc: Global,
     owners: &Owners,
     mut seat: OwnerSeat,
-    mut sides: Vec<BoardSide<P, W>>,
+    mut sides: Vec<BoardSide<'o, P, W>>,
     client: Watched<'a, P>,
     events: &WatchEvents,
     gate: &G,
 ) -> Result<Watched<'a, P>, GaveUp<'a, P>>
     requires idle { IsIdle owners.now seat }
-    requires sides { All (λ side. side.board.sub < length owners.now.channels) sides.items }
+    requires sides { All (λ side. IsPlace owners.now side.board.owners.now side.board.sub) sides.items }
     requires few { length sides.items < 2 ^ 32 }
     requires events { length sides.items ≤ length events.now.lines.items }
     requires streams { length client.merge.streams ≤ length events.now.lines.items }
@@ -103,15 +105,15 @@ pub(crate) fn watch_sides<
     let (_, watched) = with_worker(
         rt,
         TrueEnd,
-        move || -> Closed<P>
-            requires { IsIdle owners.now theirs × (board.sub < length owners.now.channels) }
-            ensures { EndsTruly result }
+        move || -> (Closed<P>, Relay<'_>)
+            requires { IsIdle owners.now theirs × IsPlace owners.now board.owners.now board.sub }
+            ensures { EndsTruly result.0 }
         {
             let mut seat = theirs;
             board_thread(rt, owners, &mut seat, board, waiting, gate, who)
         },
         move |putting| -> Result<Watched<'_, P>, GaveUp<'_, P>>
-            requires { IsSync R.row × IsSync G.row × IsIdle owners.now seat × All (λ side. side.board.sub < length owners.now.channels) sides.items × (length sides.items < 2 ^ 32) × (length sides.items < length events.now.lines.items) × (length client.merge.streams ≤ length events.now.lines.items) × AreRead client.merge.streams client.texts.items }
+            requires { IsSync R.row × IsSync G.row × IsIdle owners.now seat × All (λ side. IsPlace owners.now side.board.owners.now side.board.sub) sides.items × (length sides.items < 2 ^ 32) × (length sides.items < length events.now.lines.items) × (length client.merge.streams ≤ length events.now.lines.items) × AreRead client.merge.streams client.texts.items }
             ensures { IfOk result (λ w. HasWatched client.entry.merge.streams w.merge.streams client.entry.texts.items w.texts.items) × IfErr result (λ g. HaveAsked client.entry.merge.streams g.client.merge.streams) × IfOk result (λ _. putting ≡ Worker.Started) }
         {
             munge_beside(
@@ -126,6 +128,7 @@ pub(crate) fn watch_sides<
 #[cycle(sides)]
 fn munge_beside<
     'a,
+    'o,
     R: Threads + Wait + Sync,
     P: Planned + Send + Sync,
     W: Words + Send,
@@ -135,7 +138,7 @@ fn munge_beside<
     alloc: Global,
     owners: &Owners,
     seat: OwnerSeat,
-    sides: Vec<BoardSide<P, W>>,
+    sides: Vec<BoardSide<'o, P, W>>,
     munger: Munger<P>,
     other: Worker,
     client: Watched<'a, P>,
@@ -143,7 +146,7 @@ fn munge_beside<
     gate: &G,
 ) -> Result<Watched<'a, P>, GaveUp<'a, P>>
     requires idle { IsIdle owners.now seat }
-    requires sides { All (λ side. side.board.sub < length owners.now.channels) sides.items }
+    requires sides { All (λ side. IsPlace owners.now side.board.owners.now side.board.sub) sides.items }
     requires few { length sides.items < 2 ^ 32 }
     requires events { length sides.items < length events.now.lines.items }
     requires streams { length client.merge.streams ≤ length events.now.lines.items }
@@ -161,7 +164,7 @@ fn munge_beside<
         AllMunged,
         move || munge_waiting(rt, munger, waiting),
         move |munging| -> Result<Watched<'_, P>, GaveUp<'_, P>>
-            requires { IsSync R.row × IsSync G.row × IsIdle owners.now seat × All (λ side. side.board.sub < length owners.now.channels) sides.items × (length sides.items < 2 ^ 32) × (length sides.items ≤ length events.now.lines.items) × (length client.merge.streams ≤ length events.now.lines.items) × AreRead client.merge.streams client.texts.items }
+            requires { IsSync R.row × IsSync G.row × IsIdle owners.now seat × All (λ side. IsPlace owners.now side.board.owners.now side.board.sub) sides.items × (length sides.items < 2 ^ 32) × (length sides.items ≤ length events.now.lines.items) × (length client.merge.streams ≤ length events.now.lines.items) × AreRead client.merge.streams client.texts.items }
             ensures { IfOk result (λ w. HasWatched client.entry.merge.streams w.merge.streams client.entry.texts.items w.texts.items) × IfErr result (λ g. HaveAsked client.entry.merge.streams g.client.merge.streams) × IfOk result (λ _. munging ≡ Worker.Started) }
         {
             if munging == Worker::Refused {

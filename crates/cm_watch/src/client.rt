@@ -1,5 +1,5 @@
 // The one client of all watched lines.
-ghost use Rattle.std.specs.Prelude.{◌≡◌, ◌<◌, ◌≤◌, length, map, IfErr, IfOk};
+ghost use Rattle.std.specs.Prelude.{◌≡◌, ◌<◌, ◌≤◌, false, length, map, true, IfErr, IfOk};
 ghost use Rattle.cm_stream.specs.Merging.{fixed, released_of};
 ghost use Rattle.cm_watch.specs.Watched.{AreRead, AreSame, AreStopped, CanPut, HasPut, HasWatched, HaveAsked};
 
@@ -72,8 +72,42 @@ fn pass_each<G: Gate>(gate: &G, source: u32, scans: u32) {
     }
 }
 
-// Reads all streams to their ends.
+// Reads all streams to their ends. The watcher makes each step, and is told of all that is released.
 fn read_all<R: Wait + Sync, P: Planned, G: Gate>(
+    rt: &R,
+    alloc: Global,
+    merge: &mut Merge<P>,
+    texts: &mut [SampleText<'_>],
+    watcher: &mut Watcher<'_>,
+    gate: &G,
+) -> Result<(), NoMemory>
+    requires told { watcher.old.told ≡ map released_of merge.old.streams }
+    requires waited { watcher.old.idle ≡ false }
+    requires read { AreRead merge.old.streams texts.old }
+    ensures watched { IfOk result (λ _. HasWatched merge.old.streams merge.new.streams texts.old texts.new) }
+    ensures told { IfOk result (λ _. watcher.new.told ≡ map released_of merge.new.streams) }
+    ensures over { IfOk result (λ _. watcher.new.over ≡ true) }
+    ensures kept { map fixed merge.new.streams ≡ map fixed merge.old.streams }
+{
+    let mut room = Vec::new(alloc);
+    for _ in rt.forever() {
+        match watcher.step(merge) {
+            MergeStep::Given(source, scan) => {
+                watcher.release(source, merge.released(source));
+                put_lines(texts, source, &scan.words)?;
+                gate.pass(source, 4);
+                put_more(merge, texts, &mut room, watcher, source, gate)?;
+            }
+            MergeStep::Ended => return Ok(()),
+            MergeStep::Waiting => watcher.wait(rt, merge),
+            MergeStep::NoMemory(_) => return Err(NoMemory),
+        }
+    }
+    unreachable!()
+}
+
+// Reads all streams to their ends with a watcher that was told of all that they have released.
+fn read_watched<R: Wait + Sync, P: Planned, G: Gate>(
     rt: &R,
     alloc: Global,
     merge: &mut Merge<P>,
@@ -86,22 +120,8 @@ fn read_all<R: Wait + Sync, P: Planned, G: Gate>(
     ensures watched { IfOk result (λ _. HasWatched merge.old.streams merge.new.streams texts.old texts.new) }
     ensures kept { map fixed merge.new.streams ≡ map fixed merge.old.streams }
 {
-    let mut room = Vec::new(alloc);
     let mut watcher = Watcher::new(alloc, events, merge.all_released(alloc)?)?;
-    for _ in rt.forever() {
-        match watcher.step(merge) {
-            MergeStep::Given(source, scan) => {
-                watcher.release(source, merge.released(source));
-                put_lines(texts, source, &scan.words)?;
-                gate.pass(source, 4);
-                put_more(merge, texts, &mut room, &mut watcher, source, gate)?;
-            }
-            MergeStep::Ended => return Ok(()),
-            MergeStep::Waiting => watcher.wait(rt, merge),
-            MergeStep::NoMemory(_) => return Err(NoMemory),
-        }
-    }
-    unreachable!()
+    read_all(rt, alloc, merge, texts, &mut watcher, gate)
 }
 
 /// Reads all streams to their ends, in turn: a scan of one, and those that stand after it. The lines of
@@ -122,7 +142,7 @@ pub(crate) fn read_scans<'a, R: Wait + Sync, P: Planned, G: Gate>(
         mut texts,
         mut merge,
     } = client;
-    match read_all(rt, alloc, &mut merge, &mut texts, events, gate) {
+    match read_watched(rt, alloc, &mut merge, &mut texts, events, gate) {
         Ok(()) => Ok(Watched { texts, merge }),
         Err(NoMemory) => Err(give_up(Watched { texts, merge }, events)),
     }

@@ -8,6 +8,7 @@ ghost use Rattle.cm_job.specs.Calls.{cmd_of};
 ghost use Rattle.cm_job.specs.RunLines.{CanRun};
 ghost use Rattle.cm_job.specs.WatchLines.{IsWatched};
 ghost use Rattle.cm_watch.specs.Opened.{AreFor, line_start, stream_start};
+ghost use Rattle.cm_watch.specs.Places.{IsPlace};
 ghost use Rattle.cm_watch.specs.Watched.{AreRead};
 ghost use Rattle.cm_watch.specs.Woken.{every_of};
 
@@ -23,16 +24,17 @@ use cm_expand::plan::Plan;
 use cm_job::line::RunLine;
 use cm_signal::signals::Signals;
 use cm_stream::stream::ScanStream;
+use cm_sub::owners::Owners;
 use cm_text::sample_text::SampleText;
 use std::alloc::Global;
 
 /// The side of a line for its own expansion.
-pub type Side<'a> = BoardSide<Plan<'a>, WordSource<'a>>;
+pub type Side<'o, 'a> = BoardSide<'o, Plan<'a>, WordSource<'a>>;
 
 // A line's side, what its workers wait for, its stream, and the lines of its samples.
 #[derive(Drop)]
-struct OpenedLine<'a> {
-    side: Side<'a>,
+struct OpenedLine<'o, 'a> {
+    side: Side<'o, 'a>,
     events: LineEvents,
     stream: ScanStream<Plan<'a>>,
     text: SampleText<'a>,
@@ -41,8 +43,8 @@ struct OpenedLine<'a> {
 /// The sides of some lines, and for each what its workers wait for, a stream, and the lines of its
 /// samples.
 #[derive(Drop)]
-pub struct Opened<'a> {
-    pub sides: Vec<Side<'a>>,
+pub struct Opened<'o, 'a> {
+    pub sides: Vec<Side<'o, 'a>>,
     pub events: Vec<LineEvents>,
     pub streams: Vec<ScanStream<Plan<'a>>>,
     pub texts: Vec<SampleText<'a>>,
@@ -57,16 +59,18 @@ fn events_of(board: &BoardDesc, signals: &Signals, line: &RunLine) -> LineEvents
 }
 
 // Opens the ring of a line, with a stream of its scans and the lines of its samples, before the first.
-fn open_line<'a>(
+fn open_line<'o, 'a>(
     alloc: Global,
+    owners: &'o Owners,
     board: &'a BoardDesc,
     signals: &'a Signals,
     line: &'a RunLine,
-) -> Result<OpenedLine<'a>, NoMemory>
+) -> Result<OpenedLine<'o, 'a>, NoMemory>
     requires run { CanRun board.now signals.now line.now }
     requires watch { IsWatched board.now line.now }
     ensures side { IfOk result (λ o. o.side.board.sub < length board.entry.now.subs) }
     ensures own { IfOk result (λ o. o.side.board.sub ≡ (cmd_of line.entry.now).sub) }
+    ensures owners { IfOk result (λ o. o.side.board.owners.now ≡ owners.entry.now) }
     ensures munger { IfOk result (λ o. o.side.munger.table ≡ o.stream.reader.table) }
     ensures events { IfOk result (λ o. o.events.every ≡ every_of board.entry.now signals.entry.now line.entry.now) }
     ensures stream { IfOk result (λ o. stream_start o.stream ≡ line_start board.entry.now signals.entry.now line.entry.now) }
@@ -85,7 +89,7 @@ fn open_line<'a>(
     let scan = cmd.cmd().list.len() as u32;
     let stream = ScanStream::new(alloc, reader, scan);
     let side = BoardSide {
-        board: LineBoard::new(board, line.sub()),
+        board: LineBoard::new(board, line.sub(), owners),
         munger,
     };
     Ok(OpenedLine {
@@ -96,16 +100,18 @@ fn open_line<'a>(
     })
 }
 
-/// Opens the rings of some lines.
-pub(crate) fn open_lines<'a>(
+/// Opens the rings of some lines, whose boards claim their subdevices at these owners.
+pub(crate) fn open_lines<'o, 'a>(
     alloc: Global,
+    owners: &'o Owners,
     board: &'a BoardDesc,
     signals: &'a Signals,
     lines: &'a [RunLine],
-) -> Result<Opened<'a>, NoMemory>
+) -> Result<Opened<'o, 'a>, NoMemory>
     requires run { All (CanRun board.now signals.now) lines.now }
     requires watched { All (IsWatched board.now) lines.now }
-    ensures sides { IfOk result (λ o. All (λ side. side.board.sub < length board.entry.now.subs) o.sides.items) }
+    requires places { length owners.now.channels ≡ length board.now.subs }
+    ensures sides { IfOk result (λ o. All (λ side. IsPlace owners.entry.now side.board.owners.now side.board.sub) o.sides.items) }
     ensures own { IfOk result (λ o. map (λ side. side.board.sub) o.sides.items ≡ map (λ line. (cmd_of line).sub) lines.entry.now) }
     ensures count { IfOk result (λ o. length o.sides.items ≡ length lines.entry.now) }
     ensures mungers { IfOk result (λ o. map (λ side. side.munger.table) o.sides.items ≡ map (λ s. s.reader.table) o.streams.items) }
@@ -126,7 +132,7 @@ pub(crate) fn open_lines<'a>(
             events,
             stream,
             text,
-        } = open_line(alloc, board, signals, &lines[i])?;
+        } = open_line(alloc, owners, board, signals, &lines[i])?;
         opened.sides.push(side)?;
         opened.streams.push(stream)?;
         opened.texts.push(text)?;

@@ -1,7 +1,7 @@
 // How the client of watched lines waits.
 ghost use Rattle.std.specs.Prelude.{◌≡◌, ◌<◌, ◌≤◌, false, length, map, not, slice_set, IfOk};
 ghost use Rattle.cm_stream.specs.Merging.{first_after, released_of, HasMerged};
-ghost use Rattle.cm_watch.specs.Told.{is_waiting, rung, untold, HasRung};
+ghost use Rattle.cm_watch.specs.Told.{is_over, is_waiting, rung, untold, HasRung};
 ghost use Rattle.cm_watch.specs.Woken.{alarm_of};
 
 use crate::events::WatchEvents;
@@ -16,13 +16,14 @@ use std::sync::Wait;
 
 /// A client that sleeps until samples of any line have come, and lets the boards of lines know whose cells
 /// it has made free. Contracts see of it how many released samples of each line its board was let know of,
-/// the boards' alarms, whether it is announced, and whether no line had a scan at its last step.
+/// the boards' alarms, whether it is announced, and whether no line had a scan at its last step, or all had ended.
 #[derive(Drop)]
 pub struct Watcher<'a> {
     sleeper: Sleeper<'a>,
     boards: Vec<Alarm<'a>>,
     told: Vec<u64>,
     idle: bool,
+    over: bool,
 }
 
 impl<'a> Model for Watcher<'a> {
@@ -31,7 +32,7 @@ impl<'a> Model for Watcher<'a> {
 
     ghost Value = { WatcherText };
 
-    ghost view = { λ w. record { told = w.told.items; boards = w.boards.items; announced = w.sleeper; idle = w.idle } };
+    ghost view = { λ w. record { told = w.told.items; boards = w.boards.items; announced = w.sleeper; idle = w.idle; over = w.over } };
 
     ghost invariant = { λ w. length w.told.items ≤ length w.boards.items };
 }
@@ -54,6 +55,7 @@ impl<'a> Watcher<'a> {
             boards: events.boards(alloc)?,
             told: released,
             idle: false,
+            over: false,
         })
     }
 
@@ -63,12 +65,14 @@ impl<'a> Watcher<'a> {
         requires waited { self.old.idle ≡ false }
         ensures merged { HasMerged result (first_after (length merge.old.streams) merge.old.last) merge.old.streams merge.new.streams }
         ensures idle { self.new.idle ≡ is_waiting result }
+        ensures over { self.new.over ≡ is_over result }
         ensures told { self.new.told ≡ self.old.told }
         ensures boards { self.new.boards ≡ self.old.boards }
         ensures announced { self.new.announced ≡ self.old.announced }
     {
         let step = merge.step();
         self.idle = is_waiting(&step);
+        self.over = is_over(&step);
         step
     }
 
@@ -109,6 +113,18 @@ fn is_waiting(step: &MergeStep) -> bool
         MergeStep::Given(..) => false,
         MergeStep::Ended => false,
         MergeStep::Waiting => true,
+        MergeStep::NoMemory(_) => false,
+    }
+}
+
+// Whether all lines had ended at a step.
+fn is_over(step: &MergeStep) -> bool
+    ensures { result ≡ is_over step.now }
+{
+    match step {
+        MergeStep::Given(..) => false,
+        MergeStep::Ended => true,
+        MergeStep::Waiting => false,
         MergeStep::NoMemory(_) => false,
     }
 }

@@ -64,7 +64,7 @@ fn watch_lines<'a, R: Threads + Wait + Sync, G: Gate + Sync>(
         events,
         streams,
         texts,
-    } = open_lines(alloc, board, signals, lines)?;
+    } = open_lines(alloc, &owners, board, signals, lines)?;
     let merge = Merge::new(alloc, streams)?;
     let client = Watched { texts, merge };
     let events = WatchEvents::new(events);

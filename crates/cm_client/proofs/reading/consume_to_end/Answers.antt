@@ -14,6 +14,6 @@ returns-in-Ok-Some-clause-read g c =
 pub returns-in-Ok-None-clause-read : goal.returns-in-Ok-None-clause-read
 returns-in-Ok-None-clause-read g c =
     let all = c.in-Ok-None.ensures.all in
-    read_taken c.args.reader.now c.read_up_to.new.reader _ c.args.take c.stop_and_wait.result c.read_up_to.ensures.of all.none_mapped all.within
+    read_taken c.args.reader.now c.read_up_to.new.reader _ c.args.take c.stop_and_wait-way.result.0 c.read_up_to.ensures.of all.none_mapped all.within
     (subst (λ (o : Option End). Stops c.read_up_to.new.reader c.args.take o) c.in-Ok-None.field-0-is c.in-Ok-None.ensures.stops)
-    c.stop_and_wait.ensures.same c.stop_and_wait.ensures.above c.stop_and_wait.ensures.says
+    c.stop_and_wait-way.ensures.same c.stop_and_wait-way.ensures.above c.stop_and_wait-way.ensures.says

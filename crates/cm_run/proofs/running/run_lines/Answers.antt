@@ -4,4 +4,4 @@ use Rattle.cm_run.proofs.Made.{all_made}
 use Rattle.cm_run.proofs.running.run_lines.Goals as goal
 
 pub returns : goal.returns
-returns g c = IfOk-weaker c.stream_lines.result _ _ (λ v made. all_made _ c.args.job.now.lines v.items made.size (λ place one is. let m = (made.each place one is).1 in search of_calls)) c.stream_lines.ensures
+returns g c = IfOk-weaker c.stream_lines.result _ _ (λ v made. all_made _ c.args.job.now.lines v.items made.1.size (λ place one is. let m = (made.1.each place one is).1 in search of_calls)) c.stream_lines.ensures

@@ -1,9 +1,10 @@
-use Rattle.std.proofs.Common.{◌<◌, length, map, sym, ap, ◌∙◌, subst, arith}
+use Rattle.std.proofs.Common.{length, map, sym, ap, ◌∙◌, subst, arith}
 use Rattle.std.specs.List.{All}
 use Rattle.cm_block.specs.Whole.{line_format}
 use Rattle.cm_job.specs.Calls.{cmd_of}
 use Rattle.cm_job.specs.declared.line.RunLine.{RunLine}
 use Rattle.cm_watch.specs.Opened.{line_start, stream_start}
+use Rattle.cm_watch.specs.Places.{IsPlace}
 use Rattle.cm_watch.specs.Watched.{text_format}
 use Rattle.cm_base.proofs.Elements.{all_more, same_more}
 use Rattle.cm_watch.specs.Woken.{every_of}
@@ -12,6 +13,7 @@ use Rattle.cm_watch.proofs.opening.open_lines.Goals as goal
 
 pub loop-i-preserved : goal.loop-i-preserved
 loop-i-preserved c =
+    let owners = c.args.owners.now in
     let board = c.args.board.now in
     let signals = c.args.signals.now in
     let lines = c.args.lines.now in
@@ -19,7 +21,7 @@ loop-i-preserved c =
     let have = c.loop-i.invariant in
     let is = c.in_ok-side.ensures in
     record {
-      sides = subst (All (λ side. side.board.sub < length board.subs)) (sym c.in_ok-push.ensures.items) (all_more (λ side. side.board.sub < length board.subs) _ _ have.sides is.side);
+      sides = subst (All (λ side. IsPlace owners side.board.owners.now side.board.sub)) (sym c.in_ok-push.ensures.items) (all_more (λ side. IsPlace owners side.board.owners.now side.board.sub) _ _ have.sides (is.owners, (let below = is.side in omega (arith, below, c.requires.places))));
       own = ap (map _) c.in_ok-push.ensures.items
           ∙ same_more _ (λ (line : RunLine). (cmd_of line).sub) opened.sides.items _ lines c.loop-i.i c.index-lines-i.result c.loop-i-test.true have.own (is.own ∙ ap (λ (line : RunLine). (cmd_of line).sub) c.index-lines-i.is);
       count = (let e = c.in_ok-push.ensures.len in let n = have.count in omega arith);
