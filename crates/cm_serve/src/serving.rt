@@ -92,6 +92,7 @@ fn read_setting(alloc: Global, text: &[u8]) -> Result<(BoardDesc, Signals), Read
 fn decline<C: Client>(alloc: Global, client: &mut C, refused: Refused) -> Served
     ensures said { Declines result refused (C.turns client.old) (C.turns client.new) }
     ensures write_fault { result ≡ Served.WriteFault → Rose (C.faults client.old) (C.faults client.new) }
+    ensures no_memory { result ≡ Served.NoMemory → C.faults client.new ≡ C.faults client.old }
 {
     match refusal(alloc, refused) {
         Err(NoMemory) => Served::NoMemory,
