@@ -9,6 +9,8 @@ use std::test::Fail;
 const LINE: &[u8; 76] =
     b"cmd 2 1 ext:3 timer:1000 now:0 count:2 none:0 0/1/ground,1/0/diff,2/0/common";
 
+const TEXT: &[u8] = b"2 1 ext:3 timer:1000 now:0 count:2 none:0 0/1/ground,1/0/diff,2/0/common";
+
 // The text of the command that the line has after its first word.
 fn printed(alloc: Global) -> Result<Vec<u8>, ReadStop> {
     let lines = split_lines(alloc, LINE)?;
@@ -21,6 +23,6 @@ fn printed(alloc: Global) -> Result<Vec<u8>, ReadStop> {
 #[test]
 fn a_printed_command_is_the_text_that_was_read(rt: HostRuntime) -> Result<(), Fail> {
     let text = printed(rt.alloc())?;
-    assert!(rt; text.as_slice() == &LINE[4..]);
+    assert!(rt; text.as_slice() == TEXT);
     Ok(())
 }
