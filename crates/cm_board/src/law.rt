@@ -14,11 +14,14 @@ pub fn constants_are_rows()
     ensures second { (lines.INVERT ≡ rows.invert) × (lines.FIFO ≡ rows.fifo) }
     ensures clock { (lines.CLOCK ≡ rows.clock) × (lines.ROUNDS ≡ rows.rounds) × (lines.HALF_DOWN ≡ rows.half_down) }
     ensures scans { (lines.PER_ENTRY ≡ rows.per_entry) × (lines.HOLDS ≡ rows.holds) }
-    ensures lists { (lines.ORDER ≡ rows.order) × (lines.SAME_REFERENCE ≡ rows.same_reference) × (lines.SAME_POLARITY ≡ rows.same_polarity) }
+    ensures order { lines.ORDER ≡ rows.order }
+    ensures lists { (lines.SAME_REFERENCE ≡ rows.same_reference) × (lines.SAME_POLARITY ≡ rows.same_polarity) }
     ensures channels { (lines.CHAN_BITS ≡ rows.chan_bits) × (lines.CHAN_MUNGE ≡ rows.chan_munge) × (lines.CHAN_RANGE ≡ rows.chan_range) }
-    ensures code_forms { (lines.BITS_FORM ≡ rows.bits_form) × (lines.RANGE_FORM ≡ rows.range_form) × (lines.SOURCES_FORM ≡ rows.sources_form) }
+    ensures code_forms { (lines.BITS_FORM ≡ rows.bits_form) × (lines.RANGE_FORM ≡ rows.range_form) }
+    ensures source_forms { lines.SOURCES_FORM ≡ rows.sources_form }
     ensures munge_forms { (lines.MUNGE_NONE ≡ rows.munge_form) × (lines.MUNGE_OFFSET ≡ rows.offset_form) }
-    ensures time_forms { (lines.TICK_FORM ≡ rows.tick_form) × (lines.SCAN_FORM ≡ rows.scan_form) × (lines.CONVERT_FORM ≡ rows.convert_form) }
+    ensures tick_forms { lines.TICK_FORM ≡ rows.tick_form }
+    ensures time_forms { (lines.SCAN_FORM ≡ rows.scan_form) × (lines.CONVERT_FORM ≡ rows.convert_form) }
     ensures size_forms { (lines.LIST_FORM ≡ rows.list_form) × (lines.SCANS_FORM ≡ rows.scans_form) }
     ensures more_forms { (lines.LINES_FORM ≡ rows.lines_form) × (lines.BUFFER_FORM ≡ rows.buffer_form) }
     ensures list_forms { lines.REPEATED_FORM ≡ rows.repeated_form }

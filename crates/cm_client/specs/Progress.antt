@@ -17,6 +17,14 @@ IsTaken (Some most) count = most ≤ count
 abbrev pub IsSameRing : Reading → Reading → Type 0
 IsSameRing old new = (new.table ≡ old.table) × (new.ring ≡ old.ring)
 
+-- a reader that has looked for its end so often, and what it has found
+abbrev pub with_found : Reading → Option End → ℕ → Reading
+with_found r found looks = record r { part = record r.part { found = found; end_looks = looks } }
+
+-- a reader that has asked for the stop
+abbrev pub with_stop : Reading → Reading
+with_stop r = record r { part = record r.part { asked = true } }
+
 -- a reader has released so many samples more
 pub record HasRead (old new : Reading) (count : ℕ) : Type 0 where
   pub same : new ≡ record old {

@@ -2,9 +2,9 @@
 ghost use Rattle.std.specs.Prelude.{◌≡◌, ◌+◌, ◌<◌, ◌≤◌, false, length, nat_eq, slice_index, MatchOption, Some, ℕ};
 ghost use Rattle.cm_expand.specs.PlanView.{plan_words};
 ghost use Rattle.cm_ring_core.specs.Lawful.{first_writer, MayEndAs};
-ghost use Rattle.cm_ring_core.specs.declared.view.End.{End};
+ghost use Rattle.cm_ring.specs.Roles.{closed_as};
 ghost use Rattle.cm_client.specs.Handing.{in_64_bits};
-ghost use Rattle.cm_client.specs.Served.{HasHanded, HasServed};
+ghost use Rattle.cm_client.specs.Served.{EndsServing, HandsTo, HasServed};
 ghost use Rattle.cm_client.specs.Streamed.{EndsTruly, HeedsStop};
 
 use crate::handover::Handover;
@@ -91,7 +91,7 @@ fn publish<P: Planned, S: Waiting>(writer: &mut Writer<P>, handover: &mut Handov
     ensures writer { writer.new ≡ record writer.old { part = record writer.old.part { written = writer.old.part.next } } }
     ensures handed { handover.new.handed ≡ in_64_bits writer.new.part.written }
     ensures idle { handover.new.idle ≡ nat_eq fresh 0 }
-    ensures way { (start : _) → HasHanded S.has_handed_on S.has_waited 0 writer.old.part.written start handover.old.way → HasHanded S.has_handed_on S.has_waited 0 writer.new.part.written start handover.new.way }
+    ensures way { HandsTo S.has_handed_on S.has_waited writer.old.part.written writer.new.part.written handover.old.way handover.new.way }
 {
     if fresh > 0 {
         writer.publish();
@@ -109,7 +109,7 @@ fn wait_for_room<R: Wait, P: Planned, S: Waiting>(
     requires handed { handover.old.handed ≡ in_64_bits writer.now.part.written }
     ensures handed { handover.new.handed ≡ handover.old.handed }
     ensures idle { handover.new.idle ≡ false }
-    ensures way { (start : _) (to : ℕ) → HasHanded S.has_handed_on S.has_waited 0 to start handover.old.way → HasHanded S.has_handed_on S.has_waited 0 to start handover.new.way }
+    ensures way { (to : ℕ) → HandsTo S.has_handed_on S.has_waited to to handover.old.way handover.new.way }
 {
     handover.wait(rt, writer);
 }
@@ -122,8 +122,8 @@ fn end<P: Planned, S: Waiting>(
 ) -> (Closed<P>, S)
     requires published { writer.part.written ≡ writer.part.next }
     requires kind { MayEndAs writer.ring writer.part.at writer.part.freed writer.part.saw_stop kind writer.part.written }
-    ensures closed { let e : End = record { kind = kind; count = writer.part.written } in result.0 ≡ record { table = writer.table; ring = writer.ring; part = record writer.part { closed = Some e }; end = e } }
-    ensures served { (start : _) → HasHanded S.has_handed_on S.has_waited 0 writer.part.written start handover.way → HasServed S.has_handed_on S.has_waited S.has_ended 0 result.0.end.count start result.1 }
+    ensures closed { result.0 ≡ closed_as writer kind }
+    ensures served { EndsServing S.has_handed_on S.has_waited S.has_ended writer.part.written result.0.end.count handover.way result.1 }
 {
     let closed = writer.end(kind);
     let way = handover.end(&closed);

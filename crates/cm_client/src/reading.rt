@@ -1,10 +1,11 @@
 // Reads to the end of a ring.
-ghost use Rattle.std.specs.Prelude.{◌≡◌, ◌+◌, ◌-◌, ◌<◌, ◌≤◌, ◌++◌, ◌≢◌, [], min, length, drop, take, true, false, Some, None, IfOk, IfSome, IsTrue, IsFalse, OnErr, MatchOption, ℕ, ⊤};
+ghost use Rattle.std.specs.Prelude.{◌≡◌, ◌+◌, ◌-◌, ◌<◌, ◌≤◌, ◌++◌, ◌≢◌, [], min, length, drop, take, true, false, Some, None};
+ghost use Rattle.std.specs.Prelude.{IfOk, IfSome, IsTrue, IsFalse, OnErr, MatchOption, ℕ, ⊤};
 ghost use Rattle.cm_ring.specs.Samples.{first_munged, piece};
 ghost use Rattle.cm_base.specs.UpTo.{up_to};
 ghost use Rattle.cm_client.specs.Handing.{in_64_bits};
-ghost use Rattle.cm_client.specs.Progress.{Accepts, HasRead, HasAll, IsReadToEnd, IsSameRing, Stops};
-ghost use Rattle.cm_client.specs.Served.{HasHanded, HasServed};
+ghost use Rattle.cm_client.specs.Progress.{Accepts, HasRead, HasAll, IsReadToEnd, IsSameRing, Stops, with_found, with_stop};
+ghost use Rattle.cm_client.specs.Served.{HandsMore, HandsRead, HandsSome, HasServed};
 ghost use Rattle.cm_ring_core.specs.Lawful.{IsFoundEnd};
 
 use crate::copying::copy_read;
@@ -176,7 +177,7 @@ fn read_more<P: Planned, C: Consumer, G: Gate>(
 
 // The end, where it is found and so many samples are all.
 fn end_at<P: Planned>(reader: &mut Reader<P>, count: u64) -> Option<End>
-    ensures same { reader.new ≡ record reader.old { part = record reader.old.part { found = reader.new.part.found; end_looks = reader.new.part.end_looks } } }
+    ensures same { reader.new ≡ with_found reader.old reader.new.part.found reader.new.part.end_looks }
     ensures looked { reader.new.part.end_looks ≡ reader.old.part.end_looks + 1 }
     ensures end { IfSome result (λ e. (reader.new.part.found ≡ Some e) × (e.count ≡ count) × IsFoundEnd reader.old.ring reader.old.part e.kind e.count) }
     ensures found { IfSome reader.new.part.found (λ e. e.count ≡ count → result ≡ Some e) }
@@ -198,7 +199,7 @@ fn after_piece<R: Wait, P: Planned, W: Waiting>(
     requires some { 1 ≤ piece }
     ensures handed { handover.new.handed ≡ in_64_bits reader.now.part.released }
     ensures waited { handover.new.idle ≡ false }
-    ensures way { (start : _) (from to : ℕ) → reader.now.part.released ≡ to + count → HasHanded W.has_handed_on W.has_waited from to start handover.old.way → HasHanded W.has_handed_on W.has_waited from reader.now.part.released start handover.new.way }
+    ensures way { HandsMore W.has_handed_on W.has_waited count reader.now.part.released handover.old.way handover.new.way }
 {
     handover.hand_on(reader, count);
     if count < piece {
@@ -228,8 +229,8 @@ fn read_up_to<R: Wait + Sync, P: Planned, C: Consumer, W: Waiting, G: Gate>(
     ensures asked { IfOk result (λ _. reader.new.part.asked ≡ reader.old.part.asked) }
     ensures makes { C.makes consumer.new ≡ C.makes consumer.old }
     ensures of { IsSameRing reader.old reader.new }
-    ensures handed_on { IfOk result (λ _. HasHanded W.has_handed_on W.has_waited reader.old.part.released reader.new.part.released handover.old.way handover.new.way) }
-    ensures way { OnErr result ((to : ℕ) × HasHanded W.has_handed_on W.has_waited reader.old.part.released to handover.old.way handover.new.way) }
+    ensures handed_on { IfOk result (λ _. HandsRead W.has_handed_on W.has_waited reader.old reader.new handover.old.way handover.new.way) }
+    ensures way { OnErr result (HandsSome W.has_handed_on W.has_waited reader.old.part.released handover.old.way handover.new.way) }
 {
     for _ in rt.forever() {
         let count = reader.released();
@@ -248,7 +249,7 @@ fn read_up_to<R: Wait + Sync, P: Planned, C: Consumer, W: Waiting, G: Gate>(
 // Waits for the end, which was asked for.
 fn wait_for_end<R: Wait + Sync, P: Planned>(rt: &R, reader: &mut Reader<P>) -> End
     requires { reader.old.part.asked ≡ true }
-    ensures same { reader.new ≡ record reader.old { part = record reader.old.part { found = Some result; end_looks = reader.new.part.end_looks } } }
+    ensures same { reader.new ≡ with_found reader.old (Some result) reader.new.part.end_looks }
     ensures above { reader.old.part.released ≤ result.count }
     ensures says { IsFoundEnd reader.old.ring reader.old.part result.kind result.count }
 {
@@ -264,7 +265,7 @@ fn wait_for_end<R: Wait + Sync, P: Planned>(rt: &R, reader: &mut Reader<P>) -> E
 
 // Asks for the stop, and wakes a writer that waits for room.
 fn ask_stop<P: Planned, W: Waiting>(reader: &mut Reader<P>, handover: Handover<W>) -> W
-    ensures asked { reader.new ≡ record reader.old { part = record reader.old.part { asked = true } } }
+    ensures asked { reader.new ≡ with_stop reader.old }
     ensures way { W.has_ended handover.way result }
 {
     reader.ask_stop();
@@ -277,7 +278,7 @@ fn stop_and_wait<R: Wait + Sync, P: Planned, W: Waiting>(
     reader: &mut Reader<P>,
     handover: Handover<W>,
 ) -> (End, W)
-    ensures same { reader.new ≡ record reader.old { part = record reader.old.part { asked = true; found = Some result.0; end_looks = reader.new.part.end_looks } } }
+    ensures same { reader.new ≡ with_found (with_stop reader.old) (Some result.0) reader.new.part.end_looks }
     ensures above { reader.old.part.released ≤ result.0.count }
     ensures says { IsFoundEnd reader.new.ring reader.new.part result.0.kind result.0.count }
     ensures way { W.has_ended handover.way result.1 }

@@ -128,10 +128,12 @@ pub(crate) fn edge_from(edges: &[u64], at: usize, from: u64) -> Option<Begin>
 }
 
 impl Timing<'_> {
-    ghost use Rattle.cm_expand.specs.Timing.{IsTiming, soonest, first, conversion, up_to, scan_end, scan, are_full, next_begin, begins_from, begins, times};
+    ghost use Rattle.cm_expand.specs.Timing.{IsTiming, soonest, first, conversion, up_to, scan_end};
+    ghost use Rattle.cm_expand.specs.Timing.{scan, are_full, next_begin, begins_from, begins, times};
     ghost use Rattle.cm_expand.specs.TimingView.{timing_text};
     ghost use Rattle.cm_expand.specs.Extent.{IsExtent};
-    ghost use Rattle.cm_expand.specs.TimePoint.{IsCut, begin_edges, convert_edges, IsBegin, IsTick, IsSoonest, IsTimePoint, IfAt, full_from, full_of, rest_from, rest_of, scans_from};
+    ghost use Rattle.cm_expand.specs.TimePoint.{IsCut, begin_edges, convert_edges, IsBegin, IsTick, IsSoonest, IsTimePoint};
+    ghost use Rattle.cm_expand.specs.TimePoint.{IfAt, full_from, full_of, rest_from, rest_of, scans_from};
 
     // The first time not below `from` at which a scan may begin, as one may at `last`.
     #[inline(always)]

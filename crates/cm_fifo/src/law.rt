@@ -1,5 +1,6 @@
 // What holds of the definitions alone.
-ghost use Rattle.cm_fifo.specs.Law.{AllHanded, HandedAfterComing, HandedByCounts, HandedInOrder, HandedInTime, LostAfterHanded, LostByCounts, NextIsLost};
+ghost use Rattle.cm_fifo.specs.Law.{AllHanded, HandedAfterComing, HandedByCounts, HandedInOrder, HandedInTime};
+ghost use Rattle.cm_fifo.specs.Law.{LostAfterHanded, LostByCounts, NextIsLost};
 
 /// What a board with a FIFO hands over are the conversions of the expansion in order.
 pub fn handed_in_order()

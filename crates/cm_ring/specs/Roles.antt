@@ -6,6 +6,7 @@ use Rattle.atomic_table.specs.declared.shared.Shared.{Shared}
 use Rattle.cm_ring_core.specs.declared.rule.OpenedWith.{OpenedWith}
 use Rattle.cm_ring_core.specs.declared.view.RingConstants.{RingConstants}
 use Rattle.cm_ring_core.specs.declared.view.End.{End}
+use Rattle.cm_ring_core.specs.declared.view.EndKind.{EndKind}
 use Rattle.cm_ring_core.specs.declared.view.WriterPart.{WriterPart}
 use Rattle.cm_ring_core.specs.declared.view.MungerPart.{MungerPart}
 use Rattle.cm_ring_core.specs.declared.view.ReaderPart.{ReaderPart}
@@ -39,6 +40,12 @@ pub record Closing : Type 0 where
   pub ring : RingConstants
   pub part : WriterPart
   pub end : End
+
+-- a writer that has stored that it ended in this way after all that it has published
+abbrev pub closed_as : Writing → EndKind → Closing
+closed_as w kind =
+    let e : End = record { kind = kind; count = w.part.written } in
+    record { table = w.table; ring = w.ring; part = record w.part { closed = Some e }; end = e }
 
 -- where the places of a munger are
 pub record IsMunging (m : Munging) : Type 0 where

@@ -1,8 +1,8 @@
 // The end that puts samples.
 ghost use Rattle.std.specs.Prelude.{◌≡◌, ◌+◌, ◌-◌, ◌<◌, ◌≤◌, slice_index, length, Some, IfOk, IfErr, IsTrue};
 ghost use Rattle.std.specs.Arc.{arc_value};
-ghost use Rattle.cm_ring_core.specs.declared.view.End.{End};
 ghost use Rattle.cm_ring_core.specs.Lawful.{first_writer, MayEndAs};
+ghost use Rattle.cm_ring.specs.Roles.{closed_as};
 ghost use Rattle.cm_ring.specs.Seated.{IsSeatOf};
 
 use crate::place::{place_from, word_of, word_of_end};
@@ -154,7 +154,7 @@ impl<P: Planned> Writer<P> {
     pub fn end(self, kind: EndKind) -> Closed<P>
         requires published { self.part.written ≡ self.part.next }
         requires kind { MayEndAs self.ring self.part.at self.part.freed self.part.saw_stop kind self.part.written }
-        ensures { let e : End = record { kind = kind; count = self.part.written } in result ≡ record { table = self.table; ring = self.ring; part = record self.part { closed = Some e }; end = e } }
+        ensures { result ≡ closed_as self kind }
     {
         let end = End {
             kind,

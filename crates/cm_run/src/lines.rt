@@ -1,8 +1,8 @@
 // The lines of a job beside each other.
-ghost use Rattle.std.specs.Prelude.{◌≡◌, ◌<◌, ◌≤◌, ℕ, [], length, IfOk, Ok};
+ghost use Rattle.std.specs.Prelude.{◌≡◌, ◌<◌, ◌≤◌, ℕ, [], length, IfOk};
 ghost use Rattle.std.specs.Thread.{IsSend, IsSync};
 ghost use Rattle.cm_client.specs.Idle.{IsIdle};
-ghost use Rattle.cm_run.specs.Lines.{AreMade, HasPlaces, HoldsLine, IsSub};
+ghost use Rattle.cm_run.specs.Lines.{CanStream, HasPlaces, HasStreamed, HaveStreamed, IsSub};
 
 use cm_base::transfer::NoMemory;
 use cm_client::claiming::{another_seat, claim_waiting};
@@ -40,8 +40,8 @@ fn line_work<
     requires idle { IsIdle owners.now seat.old }
     requires places { HasPlaces job.now.board owners.now }
     requires place { place < length job.now.lines }
-    requires can { (holder held : _) → HoldsLine owners.now job.now.lines place holder.now → F.pre stream.now place holder held }
-    ensures made { (holder held : _) × HoldsLine owners.now job.now.lines place holder.now × F.post stream.now place holder held result }
+    requires can { CanStream owners.now job.now.lines (F.pre stream.now) place }
+    ensures made { HasStreamed owners.now job.now.lines (F.post stream.now) place result }
     ensures idle { IsIdle owners.now seat.new }
 {
     let sub = sub_at(job, place);
@@ -70,8 +70,8 @@ pub(crate) fn lines_up_to<
     requires idle { IsIdle owners.now seat }
     requires places { HasPlaces job.now.board owners.now }
     requires count { count ≤ length job.now.lines }
-    requires can { (place : ℕ) → place < count → (holder held : _) → HoldsLine owners.now job.now.lines place holder.now → F.pre stream.now place holder held }
-    ensures { IfOk result (λ made. AreMade (λ place one. (holder held : _) × HoldsLine owners.now job.now.lines place holder.now × F.post stream.now place holder held (Ok one)) count made.items) }
+    requires can { (place : ℕ) → place < count → CanStream owners.now job.now.lines (F.pre stream.now) place }
+    ensures { IfOk result (λ made. HaveStreamed owners.now job.now.lines (F.post stream.now) count made.items) }
 {
     if count == 0 {
         return Ok(Vec::new(alloc));
@@ -81,15 +81,22 @@ pub(crate) fn lines_up_to<
     let (one, before) = join(
         rt,
         move || -> Result<D, NoMemory>
-            requires { IsIdle owners.now theirs × HasPlaces job.now.board owners.now × (last < length job.now.lines) × ((holder held : _) → HoldsLine owners.now job.now.lines last holder.now → F.pre stream.now last holder held) }
-            ensures { (holder held : _) × HoldsLine owners.entry.now job.entry.now.lines last holder.now × F.post stream.entry.now last holder held result }
+            requires idle { IsIdle owners.now theirs }
+            requires places { HasPlaces job.now.board owners.now }
+            requires place { last < length job.now.lines }
+            requires can { CanStream owners.now job.now.lines (F.pre stream.now) last }
+            ensures { HasStreamed owners.entry.now job.entry.now.lines (F.post stream.entry.now) last result }
         {
             let mut seat = theirs;
             line_work(rt, owners, &mut seat, job, last, stream)
         },
         move || -> Result<Vec<D>, NoMemory>
-            requires { IsSync R.row × IsSync F.row × IsSend D.row × IsIdle owners.now seat × HasPlaces job.now.board owners.now × (last ≤ length job.now.lines) × ((place : ℕ) → place < last → (holder held : _) → HoldsLine owners.now job.now.lines place holder.now → F.pre stream.now place holder held) }
-            ensures { IfOk result (λ made. AreMade (λ place one. (holder held : _) × HoldsLine owners.entry.now job.entry.now.lines place holder.now × F.post stream.entry.now place holder held (Ok one)) last made.items) }
+            requires threads { IsSync R.row × IsSync F.row × IsSend D.row }
+            requires idle { IsIdle owners.now seat }
+            requires places { HasPlaces job.now.board owners.now }
+            requires count { last ≤ length job.now.lines }
+            requires can { (place : ℕ) → place < last → CanStream owners.now job.now.lines (F.pre stream.now) place }
+            ensures { IfOk result (λ made. HaveStreamed owners.entry.now job.entry.now.lines (F.post stream.entry.now) last made.items) }
         { lines_up_to(rt, alloc, owners, seat, job, last, stream) },
     );
     let mut made = before?;

@@ -1,8 +1,8 @@
 // A whole run.
-ghost use Rattle.std.specs.Prelude.{◌≡◌, ◌<◌, ℕ, length, slice_get, IfOk, IfSome, Ok};
+ghost use Rattle.std.specs.Prelude.{◌≡◌, ◌<◌, ℕ, length, slice_get, IfOk, IfSome};
 ghost use Rattle.std.specs.List.{AllZip};
 ghost use Rattle.cm_block.specs.RunText.{IsRunText};
-ghost use Rattle.cm_run.specs.Lines.{AreMade, HoldsLine};
+ghost use Rattle.cm_run.specs.Lines.{CanStream, HaveStreamed, HoldsLine};
 ghost use Rattle.cm_run.specs.Ran.{HaveRun, LineRan, as_list};
 ghost use Rattle.cm_job.specs.Calls.{cmd_of};
 ghost use Rattle.cm_job.specs.RunLines.{CanRun};
@@ -36,8 +36,8 @@ pub(crate) fn stream_lines<
     D: Send + Drop,
     F: Fn(usize, &OwnerSeat, &SubState) -> Result<D, NoMemory> + Sync,
 >(rt: &R, alloc: Global, job: &RunJob, stream: &F) -> Result<Vec<D>, NoMemory>
-    requires { (owners : OwnersText) (place : ℕ) → place < length job.now.lines → (holder held : _) → HoldsLine owners job.now.lines place holder.now → F.pre stream.now place holder held }
-    ensures { IfOk result (λ made. (owners : OwnersText) × AreMade (λ place one. (holder held : _) × HoldsLine owners job.now.lines place holder.now × F.post stream.now place holder held (Ok one)) (length job.now.lines) made.items) }
+    requires { (owners : OwnersText) (place : ℕ) → place < length job.now.lines → CanStream owners job.now.lines (F.pre stream.now) place }
+    ensures { IfOk result (λ m. (owners : _) × HaveStreamed owners job.now.lines (F.post stream.now) (length job.now.lines) m.items) }
 {
     let states = states_of(alloc, &job.board.subs)?;
     let (owners, seat) = Owners::open(alloc, states)?;

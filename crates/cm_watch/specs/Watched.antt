@@ -6,6 +6,7 @@ use Rattle.cm_text.specs.SampleText.{CanReport, LinesText, lines_of, with_lines}
 use Rattle.cm_stream.specs.Stream.{Streaming, IsOver}
 use Rattle.cm_stream.specs.Merging.{Fixed, IsPacedOn, fixed, given_words, plan_of}
 use Rattle.cm_text.specs.Format.{Format}
+use Rattle.cm_watch.specs.declared.client.Watched.{Watched}
 
 -- more samples can be reported after those of one source
 pub record CanPut (source : ℕ) (words : List ℕ) (texts : List LinesText) : Type 0 where
@@ -58,3 +59,7 @@ pub record HasWatched (first now : List Streaming) (before after : List LinesTex
   pub same : AreSame first now before after
   pub over : All IsOver now
   pub whole : map given_words now ≡ map plan_of now
+
+-- the same of a client with its streams and its lines
+abbrev pub HasWatchedAll : {P : Type 0} → Watched P → Watched P → Type 0
+HasWatchedAll first now = HasWatched first.merge.streams now.merge.streams first.texts.items now.texts.items

@@ -1,10 +1,9 @@
 // The threads of the watched lines.
 ghost use Rattle.std.specs.Prelude.{◌≡◌, ◌+◌, ◌<◌, ◌≤◌, ◌^◌, ◌++◌, [], ◌∷◌, length, IfErr, IfOk, MatchOption};
-ghost use Rattle.std.specs.List.{All};
 ghost use Rattle.std.specs.Thread.{IsSync};
 ghost use Rattle.cm_client.specs.Idle.{IsIdle};
-ghost use Rattle.cm_watch.specs.Places.{IsPlace};
-ghost use Rattle.cm_watch.specs.Watched.{AreRead, HasWatched, HaveAsked};
+ghost use Rattle.cm_watch.specs.Places.{ArePlaced, IsPlace};
+ghost use Rattle.cm_watch.specs.Watched.{AreRead, HasWatchedAll, HaveAsked};
 ghost use Rattle.cm_client.specs.Streamed.{EndsTruly};
 
 use crate::client::{GaveUp, Watched, give_up, read_scans};
@@ -53,10 +52,10 @@ fn last_side<'o, P: Planned, W: Words>(
     owners: &Owners,
     sides: &mut Vec<BoardSide<'o, P, W>>,
 ) -> Option<BoardSide<'o, P, W>>
-    requires { All (λ side. IsPlace owners.now side.board.owners.now side.board.sub) sides.old.items }
+    requires { ArePlaced owners.now sides.old.items }
     ensures { MatchOption result (sides.old.items ≡ []) (λ side.
         IsPlace owners.now side.board.owners.now side.board.sub
-        × All (λ side. IsPlace owners.now side.board.owners.now side.board.sub) sides.new.items
+        × ArePlaced owners.now sides.new.items
         × (sides.old.items ≡ sides.new.items ++ side ∷ [])
         × (length sides.old.items ≡ length sides.new.items + 1)) }
 {
@@ -87,12 +86,12 @@ pub(crate) fn watch_sides<
     gate: &G,
 ) -> Result<Watched<'a, P>, GaveUp<'a, P>>
     requires idle { IsIdle owners.now seat }
-    requires sides { All (λ side. IsPlace owners.now side.board.owners.now side.board.sub) sides.items }
+    requires sides { ArePlaced owners.now sides.items }
     requires few { length sides.items < 2 ^ 32 }
     requires events { length sides.items ≤ length events.now.lines.items }
     requires streams { length client.merge.streams ≤ length events.now.lines.items }
     requires read { AreRead client.merge.streams client.texts.items }
-    ensures watched { IfOk result (λ w. HasWatched client.entry.merge.streams w.merge.streams client.entry.texts.items w.texts.items) }
+    ensures watched { IfOk result (HasWatchedAll client.entry) }
     ensures gave_up { IfErr result (λ g. HaveAsked client.entry.merge.streams g.client.merge.streams) }
 {
     let Some(side) = last_side(owners, &mut sides) else {
@@ -113,8 +112,16 @@ pub(crate) fn watch_sides<
             board_thread(rt, owners, &mut seat, board, waiting, gate, who)
         },
         move |putting| -> Result<Watched<'_, P>, GaveUp<'_, P>>
-            requires { IsSync R.row × IsSync G.row × IsIdle owners.now seat × All (λ side. IsPlace owners.now side.board.owners.now side.board.sub) sides.items × (length sides.items < 2 ^ 32) × (length sides.items < length events.now.lines.items) × (length client.merge.streams ≤ length events.now.lines.items) × AreRead client.merge.streams client.texts.items }
-            ensures { IfOk result (λ w. HasWatched client.entry.merge.streams w.merge.streams client.entry.texts.items w.texts.items) × IfErr result (λ g. HaveAsked client.entry.merge.streams g.client.merge.streams) × IfOk result (λ _. putting ≡ Worker.Started) }
+            requires threads { IsSync R.row × IsSync G.row }
+            requires idle { IsIdle owners.now seat }
+            requires sides { ArePlaced owners.now sides.items }
+            requires few { length sides.items < 2 ^ 32 }
+            requires events { length sides.items < length events.now.lines.items }
+            requires streams { length client.merge.streams ≤ length events.now.lines.items }
+            requires read { AreRead client.merge.streams client.texts.items }
+            ensures watched { IfOk result (HasWatchedAll client.entry) }
+            ensures gave_up { IfErr result (λ g. HaveAsked client.entry.merge.streams g.client.merge.streams) }
+            ensures started { IfOk result (λ _. putting ≡ Worker.Started) }
         {
             munge_beside(
                 rt, alloc, owners, seat, sides, munger, putting, client, events, gate,
@@ -146,12 +153,12 @@ fn munge_beside<
     gate: &G,
 ) -> Result<Watched<'a, P>, GaveUp<'a, P>>
     requires idle { IsIdle owners.now seat }
-    requires sides { All (λ side. IsPlace owners.now side.board.owners.now side.board.sub) sides.items }
+    requires sides { ArePlaced owners.now sides.items }
     requires few { length sides.items < 2 ^ 32 }
     requires events { length sides.items < length events.now.lines.items }
     requires streams { length client.merge.streams ≤ length events.now.lines.items }
     requires read { AreRead client.merge.streams client.texts.items }
-    ensures watched { IfOk result (λ w. HasWatched client.entry.merge.streams w.merge.streams client.entry.texts.items w.texts.items) }
+    ensures watched { IfOk result (HasWatchedAll client.entry) }
     ensures gave_up { IfErr result (λ g. HaveAsked client.entry.merge.streams g.client.merge.streams) }
     ensures started { IfOk result (λ _. other ≡ Worker.Started) }
 {
@@ -164,8 +171,16 @@ fn munge_beside<
         AllMunged,
         move || munge_waiting(rt, munger, waiting),
         move |munging| -> Result<Watched<'_, P>, GaveUp<'_, P>>
-            requires { IsSync R.row × IsSync G.row × IsIdle owners.now seat × All (λ side. IsPlace owners.now side.board.owners.now side.board.sub) sides.items × (length sides.items < 2 ^ 32) × (length sides.items ≤ length events.now.lines.items) × (length client.merge.streams ≤ length events.now.lines.items) × AreRead client.merge.streams client.texts.items }
-            ensures { IfOk result (λ w. HasWatched client.entry.merge.streams w.merge.streams client.entry.texts.items w.texts.items) × IfErr result (λ g. HaveAsked client.entry.merge.streams g.client.merge.streams) × IfOk result (λ _. munging ≡ Worker.Started) }
+            requires threads { IsSync R.row × IsSync G.row }
+            requires idle { IsIdle owners.now seat }
+            requires sides { ArePlaced owners.now sides.items }
+            requires few { length sides.items < 2 ^ 32 }
+            requires events { length sides.items ≤ length events.now.lines.items }
+            requires streams { length client.merge.streams ≤ length events.now.lines.items }
+            requires read { AreRead client.merge.streams client.texts.items }
+            ensures watched { IfOk result (HasWatchedAll client.entry) }
+            ensures gave_up { IfErr result (λ g. HaveAsked client.entry.merge.streams g.client.merge.streams) }
+            ensures started { IfOk result (λ _. munging ≡ Worker.Started) }
         {
             if munging == Worker::Refused {
                 return Err(give_up(client, events));

@@ -1,7 +1,7 @@
 // The one client of all watched lines.
 ghost use Rattle.std.specs.Prelude.{◌≡◌, ◌<◌, ◌≤◌, false, length, map, true, IfErr, IfOk};
 ghost use Rattle.cm_stream.specs.Merging.{fixed, released_of};
-ghost use Rattle.cm_watch.specs.Watched.{AreRead, AreSame, AreStopped, CanPut, HasPut, HasWatched, HaveAsked};
+ghost use Rattle.cm_watch.specs.Watched.{AreRead, AreSame, AreStopped, CanPut, HasPut, HasWatched, HasWatchedAll, HaveAsked};
 
 use crate::events::WatchEvents;
 use crate::watcher::Watcher;
@@ -135,7 +135,7 @@ pub(crate) fn read_scans<'a, R: Wait + Sync, P: Planned, G: Gate>(
 ) -> Result<Watched<'a, P>, GaveUp<'a, P>>
     requires events { length client.merge.streams ≤ length events.now.lines.items }
     requires read { AreRead client.merge.streams client.texts.items }
-    ensures watched { IfOk result (λ w. HasWatched client.entry.merge.streams w.merge.streams client.entry.texts.items w.texts.items) }
+    ensures watched { IfOk result (HasWatchedAll client.entry) }
     ensures gave_up { IfErr result (λ g. HaveAsked client.entry.merge.streams g.client.merge.streams) }
 {
     let Watched {

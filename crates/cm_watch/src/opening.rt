@@ -8,7 +8,7 @@ ghost use Rattle.cm_job.specs.Calls.{cmd_of};
 ghost use Rattle.cm_job.specs.RunLines.{CanRun};
 ghost use Rattle.cm_job.specs.WatchLines.{IsWatched};
 ghost use Rattle.cm_watch.specs.Opened.{AreFor, line_start, stream_start};
-ghost use Rattle.cm_watch.specs.Places.{IsPlace};
+ghost use Rattle.cm_watch.specs.Places.{ArePlaced};
 ghost use Rattle.cm_watch.specs.Watched.{AreRead};
 ghost use Rattle.cm_watch.specs.Woken.{every_of};
 
@@ -111,7 +111,7 @@ pub(crate) fn open_lines<'o, 'a>(
     requires run { All (CanRun board.now signals.now) lines.now }
     requires watched { All (IsWatched board.now) lines.now }
     requires places { length owners.now.channels ≡ length board.now.subs }
-    ensures sides { IfOk result (λ o. All (λ side. IsPlace owners.entry.now side.board.owners.now side.board.sub) o.sides.items) }
+    ensures sides { IfOk result (λ o. ArePlaced owners.entry.now o.sides.items) }
     ensures own { IfOk result (λ o. map (λ side. side.board.sub) o.sides.items ≡ map (λ line. (cmd_of line).sub) lines.entry.now) }
     ensures count { IfOk result (λ o. length o.sides.items ≡ length lines.entry.now) }
     ensures mungers { IfOk result (λ o. map (λ side. side.munger.table) o.sides.items ≡ map (λ s. s.reader.table) o.streams.items) }

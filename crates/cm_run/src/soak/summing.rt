@@ -120,7 +120,9 @@ pub(crate) fn summed_lines<'a, R: Threads + Wait + Sync, G: Gate + Sync>(
         Summed<'_>,
         NoMemory,
     >
-        requires { (place < length job.now.lines) × HoldsLine holder.now.owners job.now.lines place holder.now × All spec.IsSoakLine job.now.lines }
+        requires place { place < length job.now.lines }
+        requires holds { HoldsLine holder.now.owners job.now.lines place holder.now }
+        requires soaks { All spec.IsSoakLine job.now.lines }
         ensures { IfSome (slice_get job.entry.now.lines place) (λ line. IfOk result (λ d. spec.HasSummed (calls.plan_of job.entry.now.board job.entry.now.signals line) d.part d.reader)) }
     { line_at(rt, alloc, job, place, holder, gate) };
     stream_lines(rt, alloc, job, &stream)

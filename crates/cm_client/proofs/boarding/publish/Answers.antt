@@ -10,4 +10,4 @@ returns-clause-way g c =
       | then-fresh-gt0 w ↦ (let e = ap (λ (x : Writing). x.part.written) (w.writer-is ∙ w.publish.ensures) in let n = c.requires.fresh in omega arith)
       | else-fresh-gt0 w ↦ (let e = ap (λ (x : Writing). x.part.written) w.writer-is in let n = w.if-fresh-gt0.false in omega arith)
     ] in
-    λ start had. more_handed _ _ _ _ _ _ _ _ _ had c.hand_on.ensures.way all
+    λ start from had. more_handed _ _ _ _ _ _ _ _ _ had c.hand_on.ensures.way all
