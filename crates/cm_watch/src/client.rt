@@ -72,7 +72,7 @@ fn pass_each<G: Gate>(gate: &G, source: u32, scans: u32) {
     }
 }
 
-// Reads all streams to their ends. The watcher makes each step, and is told of all that is released.
+// Reads every stream to its end. The watcher makes each step, and knows everything that is released.
 fn read_all<R: Wait + Sync, P: Planned, G: Gate>(
     rt: &R,
     alloc: Global,
