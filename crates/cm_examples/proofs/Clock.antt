@@ -3,6 +3,54 @@ use Rattle.std.proofs.Common.{refl}
 use Rattle.cm_examples.specs.Clock as said
 use Rattle.cm_examples.proofs.Computes.{computes}
 
+pub row_24_2 : said.Row_24_2
+unfolding computes
+row_24_2 = refl
+
+pub row_24_3 : said.Row_24_3
+unfolding computes
+row_24_3 = refl
+
+pub row_24_4 : said.Row_24_4
+unfolding computes
+row_24_4 = refl
+
+pub row_24_5 : said.Row_24_5
+unfolding computes
+row_24_5 = refl
+
+pub row_24_6 : said.Row_24_6
+unfolding computes
+row_24_6 = refl
+
+pub row_24_7 : said.Row_24_7
+unfolding computes
+row_24_7 = refl
+
+pub row_24_8 : said.Row_24_8
+unfolding computes
+row_24_8 = refl
+
+pub row_24_9 : said.Row_24_9
+unfolding computes
+row_24_9 = refl
+
+pub row_24_10 : said.Row_24_10
+unfolding computes
+row_24_10 = refl
+
+pub row_24_11 : said.Row_24_11
+unfolding computes
+row_24_11 = refl
+
+pub row_24_12 : said.Row_24_12
+unfolding computes
+row_24_12 = refl
+
+pub row_24_13 : said.Row_24_13
+unfolding computes
+row_24_13 = refl
+
 pub row_24_14 : said.Row_24_14
 unfolding computes
 row_24_14 = refl
@@ -10,6 +58,10 @@ row_24_14 = refl
 pub row_24_15 : said.Row_24_15
 unfolding computes
 row_24_15 = refl
+
+pub row_24_16 : said.Row_24_16
+unfolding computes
+row_24_16 = refl
 
 pub row_24_17 : said.Row_24_17
 unfolding computes
@@ -38,6 +90,10 @@ row_24_22 = refl
 pub row_24_23 : said.Row_24_23
 unfolding computes
 row_24_23 = refl
+
+pub row_24_24 : said.Row_24_24
+unfolding computes
+row_24_24 = refl
 
 pub row_24_25 : said.Row_24_25
 unfolding computes
@@ -254,3 +310,135 @@ row_97_6 = refl
 pub row_97_7 : said.Row_97_7
 unfolding computes
 row_97_7 = refl
+
+pub row_119_2 : said.Row_119_2
+unfolding computes
+row_119_2 = refl
+
+pub row_119_3 : said.Row_119_3
+unfolding computes
+row_119_3 = refl
+
+pub row_119_4 : said.Row_119_4
+unfolding computes
+row_119_4 = refl
+
+pub row_119_5 : said.Row_119_5
+unfolding computes
+row_119_5 = refl
+
+pub row_119_6 : said.Row_119_6
+unfolding computes
+row_119_6 = refl
+
+pub row_119_7 : said.Row_119_7
+unfolding computes
+row_119_7 = refl
+
+pub row_119_8 : said.Row_119_8
+unfolding computes
+row_119_8 = refl
+
+pub row_119_9 : said.Row_119_9
+unfolding computes
+row_119_9 = refl
+
+pub row_119_10 : said.Row_119_10
+unfolding computes
+row_119_10 = refl
+
+pub row_119_11 : said.Row_119_11
+unfolding computes
+row_119_11 = refl
+
+pub row_119_12 : said.Row_119_12
+unfolding computes
+row_119_12 = refl
+
+pub row_119_13 : said.Row_119_13
+unfolding computes
+row_119_13 = refl
+
+pub row_119_14 : said.Row_119_14
+unfolding computes
+row_119_14 = refl
+
+pub row_119_15 : said.Row_119_15
+unfolding computes
+row_119_15 = refl
+
+pub row_119_16 : said.Row_119_16
+unfolding computes
+row_119_16 = refl
+
+pub row_119_17 : said.Row_119_17
+unfolding computes
+row_119_17 = refl
+
+pub row_119_18 : said.Row_119_18
+unfolding computes
+row_119_18 = refl
+
+pub row_119_19 : said.Row_119_19
+unfolding computes
+row_119_19 = refl
+
+pub row_119_20 : said.Row_119_20
+unfolding computes
+row_119_20 = refl
+
+pub row_119_21 : said.Row_119_21
+unfolding computes
+row_119_21 = refl
+
+pub row_119_22 : said.Row_119_22
+unfolding computes
+row_119_22 = refl
+
+pub row_119_24 : said.Row_119_24
+unfolding computes
+row_119_24 = refl
+
+pub row_119_25 : said.Row_119_25
+unfolding computes
+row_119_25 = refl
+
+pub row_119_26 : said.Row_119_26
+unfolding computes
+row_119_26 = refl
+
+pub row_119_27 : said.Row_119_27
+unfolding computes
+row_119_27 = refl
+
+pub row_119_28 : said.Row_119_28
+unfolding computes
+row_119_28 = refl
+
+pub row_119_29 : said.Row_119_29
+unfolding computes
+row_119_29 = refl
+
+pub row_119_30 : said.Row_119_30
+unfolding computes
+row_119_30 = refl
+
+pub row_119_31 : said.Row_119_31
+unfolding computes
+row_119_31 = refl
+
+pub row_119_32 : said.Row_119_32
+unfolding computes
+row_119_32 = refl
+
+pub row_119_33 : said.Row_119_33
+unfolding computes
+row_119_33 = refl
+
+pub row_119_34 : said.Row_119_34
+unfolding computes
+row_119_34 = refl
+
+pub row_119_35 : said.Row_119_35
+unfolding computes
+row_119_35 = refl

@@ -419,6 +419,18 @@ pub row_260_9 : said.Row_260_9
 unfolding computes
 row_260_9 = refl
 
+pub row_260_10 : said.Row_260_10
+unfolding computes
+row_260_10 = refl
+
+pub row_260_11 : said.Row_260_11
+unfolding computes
+row_260_11 = refl
+
+pub row_260_12 : said.Row_260_12
+unfolding computes
+row_260_12 = refl
+
 pub row_260_13 : said.Row_260_13
 unfolding computes
 row_260_13 = refl

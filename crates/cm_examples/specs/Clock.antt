@@ -25,6 +25,95 @@ text_end =
     codes "signals 0\n"
     ++ codes "session\n"
 
+-- the text `short`
+abbrev pub text_short : List ℕ
+text_short =
+    codes "zendrouz 1\n"
+    ++ codes "board x\n"
+    ++ codes "subdevice ai 4\n"
+    ++ codes "bits 12\n"
+    ++ codes "range -5000000 5000000 0\n"
+    ++ codes "sources now|ext follow|timer|ext now|timer count none|count\n"
+    ++ codes "list 2\n"
+    ++ codes "lines 2\n"
+    ++ codes "buffer 16\n"
+
+-- what counters divide by: clock 1..5\n{end}
+abbrev pub Row_24_2 : Type 0
+Row_24_2 =
+    Refuses commands.Test
+    (text_head ++ codes "clock 1..5\n" ++ text_end ++ codes "\n")
+    (codes "refused 14 Bad\n")
+
+-- what counters divide by: clock 1..16777216\n{end}
+abbrev pub Row_24_3 : Type 0
+Row_24_3 = Accepts commands.Test (text_head ++ codes "clock 1..16777216\n" ++ text_end ++ codes "\n")
+
+-- what counters divide by: clock 5..5\n{end}
+abbrev pub Row_24_4 : Type 0
+Row_24_4 =
+    Refuses commands.Test
+    (text_head ++ codes "clock 5..5\n" ++ text_end ++ codes "\n")
+    (codes "refused 14 Bad\n")
+
+-- what counters divide by: clock 10\n{end}
+abbrev pub Row_24_5 : Type 0
+Row_24_5 =
+    Refuses commands.Test
+    (text_head ++ codes "clock 10\n" ++ text_end ++ codes "\n")
+    (codes "refused 14 Bad\n")
+
+-- what counters divide by: clock 1,8,64\n{end}
+abbrev pub Row_24_6 : Type 0
+Row_24_6 = Accepts commands.Test (text_head ++ codes "clock 1,8,64\n" ++ text_end ++ codes "\n")
+
+-- what counters divide by: clock 2..1000,1,8\n{end}
+abbrev pub Row_24_7 : Type 0
+Row_24_7 =
+    Refuses commands.Test
+    (text_head ++ codes "clock 2..1000,1,8\n" ++ text_end ++ codes "\n")
+    (codes "refused 13 BadNumber\n")
+
+-- what counters divide by: clock 1..65535 1,8,64,256,1024\n{end}
+abbrev pub Row_24_8 : Type 0
+Row_24_8 =
+    Accepts commands.Test
+    (text_head ++ codes "clock 1..65535 1,8,64,256,1024\n" ++ text_end ++ codes "\n")
+
+-- what counters divide by: clock 1,8,64,256,1024 2..65536\n{end}
+abbrev pub Row_24_9 : Type 0
+Row_24_9 =
+    Accepts commands.Test
+    (text_head ++ codes "clock 1,8,64,256,1024 2..65536\n" ++ text_end ++ codes "\n")
+
+-- what counters divide by: clock 10..20 30..40\n{end}
+abbrev pub Row_24_10 : Type 0
+Row_24_10 = Accepts commands.Test (text_head ++ codes "clock 10..20 30..40\n" ++ text_end ++ codes "\n")
+
+-- what counters divide by: clock 3,5 7,11\n{end}
+abbrev pub Row_24_11 : Type 0
+Row_24_11 = Accepts commands.Test (text_head ++ codes "clock 3,5 7,11\n" ++ text_end ++ codes "\n")
+
+-- what counters divide by: clock 1,2,3,4,5,6,7,8,9,10,11,12,13,14,15,16,17,18,19,20,21,
+abbrev pub Row_24_12 : Type 0
+Row_24_12 =
+    Accepts commands.Test
+    (text_head
+    ++ codes "clock 1,2,3,4,5,6,7,8,9,10,11,12,13,14,15,16,17,18,19,20,21,22,23,24,25,26,27,28,29,"
+    ++ codes "30,31,32\n"
+    ++ text_end
+    ++ codes "\n")
+
+-- what counters divide by: clock 1,2,3,4,5,6,7,8,9,10,11,12,13,14,15,16,17,18,19,20,21,
+abbrev pub Row_24_13 : Type 0
+Row_24_13 =
+    Refuses commands.Test
+    (text_head
+    ++ codes "clock 1,2,3,4,5,6,7,8,9,10,11,12,13,14,15,16,17,18,19,20,21,22,23,24,25,26,27,28,29,"
+    ++ codes "30,31,32,33\n"
+    ++ codes "\n")
+    (codes "refused 13 Limit\n")
+
 -- what counters divide by: clock 1..9 1,2,3,4,5,6,7,8,9,10,11,12,13,14,15,16,17,18,19,2
 abbrev pub Row_24_14 : Type 0
 Row_24_14 =
@@ -41,6 +130,16 @@ Row_24_15 =
     Refuses commands.Test
     (text_head
     ++ codes "clock 9,8,7,6,5,4,3,2,1,9,8,7,6,5,4,3,2,1,9,8,7,6,5,4,3,2,1,9,8,7,6,5,4\n"
+    ++ codes "\n")
+    (codes "refused 13 Limit\n")
+
+-- what counters divide by: clock 1,2,3,4,5,6,7,8,9,10,11,12,13,14,15,16,17,18,19,20,21,
+abbrev pub Row_24_16 : Type 0
+Row_24_16 =
+    Refuses commands.Test
+    (text_head
+    ++ codes "clock 1,2,3,4,5,6,7,8,9,10,11,12,13,14,15,16,17,18,19,20,21,22,23,24,25,26,27,28,29,"
+    ++ codes "30,31,32,x\n"
     ++ codes "\n")
     (codes "refused 13 Limit\n")
 
@@ -89,6 +188,13 @@ Row_24_23 =
     Refuses commands.Test
     (text_head ++ codes "clock 0,1\n" ++ codes "\n")
     (codes "refused 13 Limit\n")
+
+-- what counters divide by: clock 16777216\n{end}
+abbrev pub Row_24_24 : Type 0
+Row_24_24 =
+    Refuses commands.Test
+    (text_head ++ codes "clock 16777216\n" ++ text_end ++ codes "\n")
+    (codes "refused 14 Bad\n")
 
 -- what counters divide by: clock 16777217\n
 abbrev pub Row_24_25 : Type 0
@@ -502,10 +608,445 @@ Row_97_7 =
     ++ text_end
     ++ codes "\n")
 
+-- a time that the clock makes is between the limits: tick 100\nclock 10\nscan 1000 1000\nconvert 1 1000\n{end}
+abbrev pub Row_119_2 : Type 0
+Row_119_2 =
+    Refuses commands.Test
+    (text_short
+    ++ codes "tick 100\n"
+    ++ codes "clock 10\n"
+    ++ codes "scan 1000 1000\n"
+    ++ codes "convert 1 1000\n"
+    ++ text_end
+    ++ codes "\n")
+    (codes "refused 14 Bad\n")
+
+-- a time that the clock makes is between the limits: tick 100\nclock 10\nscan 1000 2000\nconvert 1 1000\n{end}
+abbrev pub Row_119_3 : Type 0
+Row_119_3 =
+    Refuses commands.Test
+    (text_short
+    ++ codes "tick 100\n"
+    ++ codes "clock 10\n"
+    ++ codes "scan 1000 2000\n"
+    ++ codes "convert 1 1000\n"
+    ++ text_end
+    ++ codes "\n")
+    (codes "refused 14 Bad\n")
+
+-- a time that the clock makes is between the limits: tick 100\nclock 10,20\nscan 1000 1999\nconvert 1 1000\n{end
+abbrev pub Row_119_4 : Type 0
+Row_119_4 =
+    Refuses commands.Test
+    (text_short
+    ++ codes "tick 100\n"
+    ++ codes "clock 10,20\n"
+    ++ codes "scan 1000 1999\n"
+    ++ codes "convert 1 1000\n"
+    ++ text_end
+    ++ codes "\n")
+    (codes "refused 14 Bad\n")
+
+-- a time that the clock makes is between the limits: tick 100\nclock 10,20\nscan 1000 2000\nconvert 1 1000\n{end
+abbrev pub Row_119_5 : Type 0
+Row_119_5 =
+    Accepts commands.Test
+    (text_short
+    ++ codes "tick 100\n"
+    ++ codes "clock 10,20\n"
+    ++ codes "scan 1000 2000\n"
+    ++ codes "convert 1 1000\n"
+    ++ text_end
+    ++ codes "\n")
+
+-- a time that the clock makes is between the limits: tick 100\nclock 10,20\nscan 1001 1999\nconvert 1 500\n{end}
+abbrev pub Row_119_6 : Type 0
+Row_119_6 =
+    Refuses commands.Test
+    (text_short
+    ++ codes "tick 100\n"
+    ++ codes "clock 10,20\n"
+    ++ codes "scan 1001 1999\n"
+    ++ codes "convert 1 500\n"
+    ++ text_end
+    ++ codes "\n")
+    (codes "refused 14 Bad\n")
+
+-- a time that the clock makes is between the limits: tick 100\nclock 10,20\nscan 1000 2000\nconvert 1 999\n{end}
+abbrev pub Row_119_7 : Type 0
+Row_119_7 =
+    Refuses commands.Test
+    (text_short
+    ++ codes "tick 100\n"
+    ++ codes "clock 10,20\n"
+    ++ codes "scan 1000 2000\n"
+    ++ codes "convert 1 999\n"
+    ++ text_end
+    ++ codes "\n")
+    (codes "refused 14 Bad\n")
+
+-- a time that the clock makes is between the limits: tick 100\nclock 10,20\nscan 1000 2000\nconvert 1001 1999\n{
+abbrev pub Row_119_8 : Type 0
+Row_119_8 =
+    Refuses commands.Test
+    (text_short
+    ++ codes "tick 100\n"
+    ++ codes "clock 10,20\n"
+    ++ codes "scan 1000 2000\n"
+    ++ codes "convert 1001 1999\n"
+    ++ text_end
+    ++ codes "\n")
+    (codes "refused 14 Bad\n")
+
+-- a time that the clock makes is between the limits: tick 100\nclock 10..19\nscan 2000 3000\nconvert 1 1000\n{en
+abbrev pub Row_119_9 : Type 0
+Row_119_9 =
+    Refuses commands.Test
+    (text_short
+    ++ codes "tick 100\n"
+    ++ codes "clock 10..19\n"
+    ++ codes "scan 2000 3000\n"
+    ++ codes "convert 1 1000\n"
+    ++ text_end
+    ++ codes "\n")
+    (codes "refused 14 Bad\n")
+
+-- a time that the clock makes is between the limits: tick 100\nclock 10..19\nscan 1950 3000\nconvert 1 1000\n{en
+abbrev pub Row_119_10 : Type 0
+Row_119_10 =
+    Refuses commands.Test
+    (text_short
+    ++ codes "tick 100\n"
+    ++ codes "clock 10..19\n"
+    ++ codes "scan 1950 3000\n"
+    ++ codes "convert 1 1000\n"
+    ++ text_end
+    ++ codes "\n")
+    (codes "refused 14 Bad\n")
+
+-- a time that the clock makes is between the limits: tick 100\nclock 10..19\nscan 1850 3000\nconvert 1 1000\n{en
+abbrev pub Row_119_11 : Type 0
+Row_119_11 =
+    Refuses commands.Test
+    (text_short
+    ++ codes "tick 100\n"
+    ++ codes "clock 10..19\n"
+    ++ codes "scan 1850 3000\n"
+    ++ codes "convert 1 1000\n"
+    ++ text_end
+    ++ codes "\n")
+    (codes "refused 14 Bad\n")
+
+-- a time that the clock makes is between the limits: tick 100\nclock 10..20\nscan 1950 3000\nconvert 1 1000\n{en
+abbrev pub Row_119_12 : Type 0
+Row_119_12 =
+    Accepts commands.Test
+    (text_short
+    ++ codes "tick 100\n"
+    ++ codes "clock 10..20\n"
+    ++ codes "scan 1950 3000\n"
+    ++ codes "convert 1 1000\n"
+    ++ text_end
+    ++ codes "\n")
+
+-- a time that the clock makes is between the limits: tick 7\nclock 3,5 7,11\nscan 1 385\nconvert 1 147\n{end}
+abbrev pub Row_119_13 : Type 0
+Row_119_13 =
+    Accepts commands.Test
+    (text_short
+    ++ codes "tick 7\n"
+    ++ codes "clock 3,5 7,11\n"
+    ++ codes "scan 1 385\n"
+    ++ codes "convert 1 147\n"
+    ++ text_end
+    ++ codes "\n")
+
+-- a time that the clock makes is between the limits: tick 7\nclock 3,5 7,11\nscan 1 384\nconvert 1 147\n{end}
+abbrev pub Row_119_14 : Type 0
+Row_119_14 =
+    Refuses commands.Test
+    (text_short
+    ++ codes "tick 7\n"
+    ++ codes "clock 3,5 7,11\n"
+    ++ codes "scan 1 384\n"
+    ++ codes "convert 1 147\n"
+    ++ text_end
+    ++ codes "\n")
+    (codes "refused 14 Bad\n")
+
+-- a time that the clock makes is between the limits: tick 7\nclock 3,5 7,11\nscan 385 385\nconvert 1 231\n{end}
+abbrev pub Row_119_15 : Type 0
+Row_119_15 =
+    Accepts commands.Test
+    (text_short
+    ++ codes "tick 7\n"
+    ++ codes "clock 3,5 7,11\n"
+    ++ codes "scan 385 385\n"
+    ++ codes "convert 1 231\n"
+    ++ text_end
+    ++ codes "\n")
+
+-- a time that the clock makes is between the limits: tick 7\nclock 3,5 7,11\nscan 1 147\nconvert 1 1\n{end}
+abbrev pub Row_119_16 : Type 0
+Row_119_16 =
+    Refuses commands.Test
+    (text_short
+    ++ codes "tick 7\n"
+    ++ codes "clock 3,5 7,11\n"
+    ++ codes "scan 1 147\n"
+    ++ codes "convert 1 1\n"
+    ++ text_end
+    ++ codes "\n")
+    (codes "refused 14 Bad\n")
+
+-- a time that the clock makes is between the limits: tick 7\nclock 3,5 7,11\nscan 1 294\nconvert 1 147\n{end}
+abbrev pub Row_119_17 : Type 0
+Row_119_17 =
+    Refuses commands.Test
+    (text_short
+    ++ codes "tick 7\n"
+    ++ codes "clock 3,5 7,11\n"
+    ++ codes "scan 1 294\n"
+    ++ codes "convert 1 147\n"
+    ++ text_end
+    ++ codes "\n")
+    (codes "refused 14 Bad\n")
+
+-- a time that the clock makes is between the limits: tick 7\nclock 3,5 7,11\nscan 1 293\nconvert 1 147\n{end}
+abbrev pub Row_119_18 : Type 0
+Row_119_18 =
+    Refuses commands.Test
+    (text_short
+    ++ codes "tick 7\n"
+    ++ codes "clock 3,5 7,11\n"
+    ++ codes "scan 1 293\n"
+    ++ codes "convert 1 147\n"
+    ++ text_end
+    ++ codes "\n")
+    (codes "refused 14 Bad\n")
+
+-- a time that the clock makes is between the limits: tick 7\nclock 3,5 7,11\nscan 1 1000\nconvert 148 231\n{end}
+abbrev pub Row_119_19 : Type 0
+Row_119_19 =
+    Refuses commands.Test
+    (text_short
+    ++ codes "tick 7\n"
+    ++ codes "clock 3,5 7,11\n"
+    ++ codes "scan 1 1000\n"
+    ++ codes "convert 148 231\n"
+    ++ text_end
+    ++ codes "\n")
+    (codes "refused 14 Bad\n")
+
+-- a time that the clock makes is between the limits: tick 7\nclock 3,5 7,11\nscan 386 1000\nconvert 1 147\n{end}
+abbrev pub Row_119_20 : Type 0
+Row_119_20 =
+    Refuses commands.Test
+    (text_short
+    ++ codes "tick 7\n"
+    ++ codes "clock 3,5 7,11\n"
+    ++ codes "scan 386 1000\n"
+    ++ codes "convert 1 147\n"
+    ++ text_end
+    ++ codes "\n")
+    (codes "refused 14 Bad\n")
+
+-- a time that the clock makes is between the limits: tick 1\nclock 65536 65536\nscan 1 4294967295\nconvert 1 429
+abbrev pub Row_119_21 : Type 0
+Row_119_21 =
+    Refuses commands.Test
+    (text_short
+    ++ codes "tick 1\n"
+    ++ codes "clock 65536 65536\n"
+    ++ codes "scan 1 4294967295\n"
+    ++ codes "convert 1 4294967295\n"
+    ++ text_end
+    ++ codes "\n")
+    (codes "refused 14 Bad\n")
+
+-- a time that the clock makes is between the limits: tick 1000000000\nclock 16777216 16777216\nscan 1 4294967295
+abbrev pub Row_119_22 : Type 0
+Row_119_22 =
+    Refuses commands.Test
+    (text_short
+    ++ codes "tick 1000000000\n"
+    ++ codes "clock 16777216 16777216\n"
+    ++ codes "scan 1 4294967295\n"
+    ++ codes "convert 1 4294967295\n"
+    ++ text_end
+    ++ codes "\n")
+    (codes "refused 14 Bad\n")
+
+-- a time that the clock makes is between the limits: tick 1000000000\nclock 5\nscan 1 4294967295\nconvert 1 1\n{
+abbrev pub Row_119_24 : Type 0
+Row_119_24 =
+    Refuses commands.Test
+    (text_short
+    ++ codes "tick 1000000000\n"
+    ++ codes "clock 5\n"
+    ++ codes "scan 1 4294967295\n"
+    ++ codes "convert 1 1\n"
+    ++ text_end
+    ++ codes "\n")
+    (codes "refused 14 Bad\n")
+
+-- a time that the clock makes is between the limits: tick 1000000000\nclock 2,4\nscan 1 4294967295\nconvert 1 42
+abbrev pub Row_119_25 : Type 0
+Row_119_25 =
+    Accepts commands.Test
+    (text_short
+    ++ codes "tick 1000000000\n"
+    ++ codes "clock 2,4\n"
+    ++ codes "scan 1 4294967295\n"
+    ++ codes "convert 1 4294967295\n"
+    ++ text_end
+    ++ codes "\n")
+
+-- a time that the clock makes is between the limits: tick 1000000000\nclock 1..4\nscan 1 4294967295\nconvert 1 2
+abbrev pub Row_119_26 : Type 0
+Row_119_26 =
+    Accepts commands.Test
+    (text_short
+    ++ codes "tick 1000000000\n"
+    ++ codes "clock 1..4\n"
+    ++ codes "scan 1 4294967295\n"
+    ++ codes "convert 1 2147483647\n"
+    ++ text_end
+    ++ codes "\n")
+
+-- a time that the clock makes is between the limits: tick 3\nclock 16777216 1..85\nscan 4278190080 4294967295\nc
+abbrev pub Row_119_27 : Type 0
+Row_119_27 =
+    Accepts commands.Test
+    (text_short
+    ++ codes "tick 3\n"
+    ++ codes "clock 16777216 1..85\n"
+    ++ codes "scan 4278190080 4294967295\n"
+    ++ codes "convert 1 60000000\n"
+    ++ text_end
+    ++ codes "\n")
+
+-- a time that the clock makes is between the limits: tick 3\nclock 16777216 1..85\nscan 4278190081 4294967295\nc
+abbrev pub Row_119_28 : Type 0
+Row_119_28 =
+    Refuses commands.Test
+    (text_short
+    ++ codes "tick 3\n"
+    ++ codes "clock 16777216 1..85\n"
+    ++ codes "scan 4278190081 4294967295\n"
+    ++ codes "convert 1 60000000\n"
+    ++ text_end
+    ++ codes "\n")
+    (codes "refused 14 Bad\n")
+
+-- a time that the clock makes is between the limits: tick 1\nclock 1..65535 1..65535\nscan 4294836225 4294836225
+abbrev pub Row_119_29 : Type 0
+Row_119_29 =
+    Accepts commands.Test
+    (text_short
+    ++ codes "tick 1\n"
+    ++ codes "clock 1..65535 1..65535\n"
+    ++ codes "scan 4294836225 4294836225\n"
+    ++ codes "convert 1 1\n"
+    ++ text_end
+    ++ codes "\n")
+
+-- a time that the clock makes is between the limits: tick 1\nclock 1..65535 1..65535\nscan 4294836226 4294967295
+abbrev pub Row_119_30 : Type 0
+Row_119_30 =
+    Refuses commands.Test
+    (text_short
+    ++ codes "tick 1\n"
+    ++ codes "clock 1..65535 1..65535\n"
+    ++ codes "scan 4294836226 4294967295\n"
+    ++ codes "convert 1 1\n"
+    ++ text_end
+    ++ codes "\n")
+    (codes "refused 14 Bad\n")
+
+-- a time that the clock makes is between the limits: tick 1\nclock 1..65535 1..65535\nscan 4294770690 4294836224
+abbrev pub Row_119_31 : Type 0
+Row_119_31 =
+    Accepts commands.Test
+    (text_short
+    ++ codes "tick 1\n"
+    ++ codes "clock 1..65535 1..65535\n"
+    ++ codes "scan 4294770690 4294836224\n"
+    ++ codes "convert 1 1\n"
+    ++ text_end
+    ++ codes "\n")
+
+-- a time that the clock makes is between the limits: tick 1\nclock 1..65535 1..65535\nscan 4294770691 4294836224
+abbrev pub Row_119_32 : Type 0
+Row_119_32 =
+    Refuses commands.Test
+    (text_short
+    ++ codes "tick 1\n"
+    ++ codes "clock 1..65535 1..65535\n"
+    ++ codes "scan 4294770691 4294836224\n"
+    ++ codes "convert 1 1\n"
+    ++ text_end
+    ++ codes "\n")
+    (codes "refused 14 Bad\n")
+
+-- a time that the clock makes is between the limits: tick 100\nclock 10\nscan 1000 4000\nconvert 1 1000\nperchan
+abbrev pub Row_119_33 : Type 0
+Row_119_33 =
+    Refuses commands.Test
+    (text_short
+    ++ codes "tick 100\n"
+    ++ codes "clock 10\n"
+    ++ codes "scan 1000 4000\n"
+    ++ codes "convert 1 1000\n"
+    ++ codes "perchan 500\n"
+    ++ text_end
+    ++ codes "\n")
+    (codes "refused 15 Bad\n")
+
+-- a time that the clock makes is between the limits: tick 100\nclock 10,20,40\nscan 1000 5000\nconvert 1 1000\np
+abbrev pub Row_119_34 : Type 0
+Row_119_34 =
+    Accepts commands.Test
+    (text_short
+    ++ codes "tick 100\n"
+    ++ codes "clock 10,20,40\n"
+    ++ codes "scan 1000 5000\n"
+    ++ codes "convert 1 1000\n"
+    ++ codes "perchan 2000\n"
+    ++ text_end
+    ++ codes "\n")
+
+-- a time that the clock makes is between the limits: tick 100\nclock 10,20,40\nscan 1000 5000\nconvert 1 1000\np
+abbrev pub Row_119_35 : Type 0
+Row_119_35 =
+    Refuses commands.Test
+    (text_short
+    ++ codes "tick 100\n"
+    ++ codes "clock 10,20,40\n"
+    ++ codes "scan 1000 5000\n"
+    ++ codes "convert 1 1000\n"
+    ++ codes "perchan 2001\n"
+    ++ text_end
+    ++ codes "\n")
+    (codes "refused 15 Bad\n")
+
 -- all of them
 pub record AreClock : Type 0 where
+  pub row_24_2 : Row_24_2
+  pub row_24_3 : Row_24_3
+  pub row_24_4 : Row_24_4
+  pub row_24_5 : Row_24_5
+  pub row_24_6 : Row_24_6
+  pub row_24_7 : Row_24_7
+  pub row_24_8 : Row_24_8
+  pub row_24_9 : Row_24_9
+  pub row_24_10 : Row_24_10
+  pub row_24_11 : Row_24_11
+  pub row_24_12 : Row_24_12
+  pub row_24_13 : Row_24_13
   pub row_24_14 : Row_24_14
   pub row_24_15 : Row_24_15
+  pub row_24_16 : Row_24_16
   pub row_24_17 : Row_24_17
   pub row_24_18 : Row_24_18
   pub row_24_19 : Row_24_19
@@ -513,6 +1054,7 @@ pub record AreClock : Type 0 where
   pub row_24_21 : Row_24_21
   pub row_24_22 : Row_24_22
   pub row_24_23 : Row_24_23
+  pub row_24_24 : Row_24_24
   pub row_24_25 : Row_24_25
   pub row_24_26 : Row_24_26
   pub row_24_27 : Row_24_27
@@ -567,3 +1109,36 @@ pub record AreClock : Type 0 where
   pub row_97_5 : Row_97_5
   pub row_97_6 : Row_97_6
   pub row_97_7 : Row_97_7
+  pub row_119_2 : Row_119_2
+  pub row_119_3 : Row_119_3
+  pub row_119_4 : Row_119_4
+  pub row_119_5 : Row_119_5
+  pub row_119_6 : Row_119_6
+  pub row_119_7 : Row_119_7
+  pub row_119_8 : Row_119_8
+  pub row_119_9 : Row_119_9
+  pub row_119_10 : Row_119_10
+  pub row_119_11 : Row_119_11
+  pub row_119_12 : Row_119_12
+  pub row_119_13 : Row_119_13
+  pub row_119_14 : Row_119_14
+  pub row_119_15 : Row_119_15
+  pub row_119_16 : Row_119_16
+  pub row_119_17 : Row_119_17
+  pub row_119_18 : Row_119_18
+  pub row_119_19 : Row_119_19
+  pub row_119_20 : Row_119_20
+  pub row_119_21 : Row_119_21
+  pub row_119_22 : Row_119_22
+  pub row_119_24 : Row_119_24
+  pub row_119_25 : Row_119_25
+  pub row_119_26 : Row_119_26
+  pub row_119_27 : Row_119_27
+  pub row_119_28 : Row_119_28
+  pub row_119_29 : Row_119_29
+  pub row_119_30 : Row_119_30
+  pub row_119_31 : Row_119_31
+  pub row_119_32 : Row_119_32
+  pub row_119_33 : Row_119_33
+  pub row_119_34 : Row_119_34
+  pub row_119_35 : Row_119_35

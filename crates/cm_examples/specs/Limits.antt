@@ -1442,6 +1442,47 @@ Row_260_9 =
     ++ codes "\n")
     (codes "refused 12 Bad\n")
 
+-- times, lists and buffers of wider texts: tick 1000000000\nscan 1 4294967295\nconvert 1 4294967295\nli
+abbrev pub Row_260_10 : Type 0
+Row_260_10 =
+    Accepts commands.Test
+    (text_wider-input
+    ++ codes "tick 1000000000\n"
+    ++ codes "scan 1 4294967295\n"
+    ++ codes "convert 1 4294967295\n"
+    ++ codes "list 4\n"
+    ++ codes "buffer 1\n"
+    ++ text_end
+    ++ codes "\n")
+
+-- times, lists and buffers of wider texts: tick 1000000000\nscan 1 4294967295\nconvert 1 4294967295\nli
+abbrev pub Row_260_11 : Type 0
+Row_260_11 =
+    Refuses commands.Test
+    (text_wider-input
+    ++ codes "tick 1000000000\n"
+    ++ codes "scan 1 4294967295\n"
+    ++ codes "convert 1 4294967295\n"
+    ++ codes "list 5\n"
+    ++ codes "buffer 1\n"
+    ++ text_end
+    ++ codes "\n")
+    (codes "refused 12 Bad\n")
+
+-- times, lists and buffers of wider texts: tick 1000000000\nscan 4000000001 4294967295\nconvert 1 1\nli
+abbrev pub Row_260_12 : Type 0
+Row_260_12 =
+    Refuses commands.Test
+    (text_wider-input
+    ++ codes "tick 1000000000\n"
+    ++ codes "scan 4000000001 4294967295\n"
+    ++ codes "convert 1 1\n"
+    ++ codes "list 1\n"
+    ++ codes "buffer 1\n"
+    ++ text_end
+    ++ codes "\n")
+    (codes "refused 12 Bad\n")
+
 -- times, lists and buffers of wider texts: tick 1000000001\n
 abbrev pub Row_260_13 : Type 0
 Row_260_13 =
@@ -1808,6 +1849,9 @@ pub record AreLimits : Type 0 where
   pub row_260_7 : Row_260_7
   pub row_260_8 : Row_260_8
   pub row_260_9 : Row_260_9
+  pub row_260_10 : Row_260_10
+  pub row_260_11 : Row_260_11
+  pub row_260_12 : Row_260_12
   pub row_260_13 : Row_260_13
   pub row_260_14 : Row_260_14
   pub row_260_15 : Row_260_15

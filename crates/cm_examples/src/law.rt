@@ -29,7 +29,7 @@ pub fn the_buffers_compute()
     ensures { AreBuffers }
 {}
 
-/// The 63 examples of `tests/clock.rows` have the stored answers.
+/// The 110 examples of `tests/clock.rows` have the stored answers.
 pub fn the_clock_compute()
     ensures { AreClock }
 {}
@@ -44,7 +44,7 @@ pub fn the_jobs_compute()
     ensures { AreJobs }
 {}
 
-/// The 121 examples of `tests/limits.rows` have the stored answers.
+/// The 124 examples of `tests/limits.rows` have the stored answers.
 pub fn the_limits_compute()
     ensures { AreLimits }
 {}
