@@ -186,7 +186,8 @@ reported-drained c e said = elim (cases_Bool (is_out c.schedule)) [
   | inr inn ↦ let d = ended-drained c e inn said in (λ i. d.0, d.1)
 ]
 
-remembers-in : (h : History) (c : Running) → is_out c.schedule ≡ false → Remembers (is_out c.schedule) h c → h.gone ≡ c.r
+-- an input's marked samples are counted by its place r
+pub remembers-in : (h : History) (c : Running) → is_out c.schedule ≡ false → Remembers (is_out c.schedule) h c → h.gone ≡ c.r
 remembers-in h c e r = subst (λ b. Remembers b h c) e r
 
 as_remembers-in : (h : History) (c : Running) → is_out c.schedule ≡ false → h.gone ≡ c.r → Remembers (is_out c.schedule) h c
@@ -229,7 +230,13 @@ taken-well wiring n time h c inn kept =
     let i = input (is_out c.schedule) time c inn kept.0.places in
     let all : c.w ≤ length c.schedule.conversions = omega (arith, i.w_come, arrived-le c.schedule time kept.0.timely) in
     let gone = remembers-in h c inn kept.2 in (
-      (sym gone, ap (λ k. take k (drop c.r (samples c.schedule))) (sym (long-taken n c all))),
+      record {
+        input = inn;
+        format = refl;
+        place_is = sym gone;
+        words_are = ap (λ k. take k (drop c.r (samples c.schedule))) (sym (long-taken n c all));
+        written = omega (arith, long-taken n c all, i.r_ra, i.ra_w);
+      },
       read-keeps wiring n time h (remembered h (Taken c.schedule.format c.r (taken n c))) c inn kept (omega (arith, gone, long-taken n c all)),
     )
 
@@ -244,7 +251,7 @@ mapped-well wiring n time h c inn kept =
 
 pub looked-well : (wiring : Wiring) (i time : ℕ) (h : History) (c : Running) → is_out c.schedule ≡ false → i < c.ra - c.r → Keeps wiring time h (Some c) →
     IsWell wiring time h (Some c) (Looked c.schedule.format (c.r + i) (slice_index (samples c.schedule) (c.r + i))) (Some c)
-looked-well wiring i time h c inn within kept = ((omega (arith, remembers-in h c inn kept.2), omega arith, refl), kept)
+looked-well wiring i time h c inn within kept = ((refl, omega (arith, remembers-in h c inn kept.2), omega arith, refl), kept)
 
 pub released-well : (wiring : Wiring) (k time : ℕ) (h : History) (c : Running) → is_out c.schedule ≡ false → k ≤ c.ra - c.r → Keeps wiring time h (Some c) → IsWell wiring time h (Some c) (Released k) (Some (record c { r = c.r + k }))
 released-well wiring k time h c inn within kept =

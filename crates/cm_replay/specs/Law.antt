@@ -9,6 +9,7 @@ use Rattle.cm_expand.specs.Plan.{PlanText}
 use Rattle.cm_sample.specs.Rule.{map_from}
 use Rattle.cm_signal.specs.Signals.{SignalsText}
 use Rattle.cm_session.specs.declared.op.SessionLine.{SessionLine}
+use Rattle.cm_text.specs.Format.{Format}
 use Rattle.cm_text.specs.Outputs.{Output}
 use Rattle.cm_replay.specs.Answers.{Answer, Begun, Ended, Filled, Looked, Released, Taken, Written}
 use Rattle.cm_replay.specs.Forms.{named_sub}
@@ -97,12 +98,19 @@ abbrev pub Keeps : Wiring → ℕ → History → Option Running → Type 0
 Keeps wiring time h None = Unit {0}
 Keeps wiring time h (Some c) = IsLawful time c × IsOf wiring c.schedule.plan × Remembers (is_out c.schedule) h c
 
--- an answer has the next samples, or one that is mapped, or reports an end where nothing is left
+-- a read has the next samples of an input's command, which were written, in the command's format
+pub record HasNext (f : Format) (place : ℕ) (words : List ℕ) (h : History) (c : Running) : Type 0 where
+  pub input : is_out c.schedule ≡ false
+  pub format : f ≡ c.schedule.format
+  pub place_is : place ≡ h.gone
+  pub words_are : words ≡ take (length words) (drop place (samples c.schedule))
+  pub written : place + length words ≤ c.w
+
+-- an answer has the next samples, or one that is mapped, or reports an end if nothing is left
 abbrev pub Continues : Answer → History → Option Running → Type 0
-Continues (Taken f place words) h (Some c) =
-    (place ≡ h.gone) × (words ≡ take (length words) (drop place (samples c.schedule)))
+Continues (Taken f place words) h (Some c) = HasNext f place words h c
 Continues (Looked f place word) h (Some c) =
-    (h.gone ≤ place) × (place < c.ra) × (word ≡ slice_index (samples c.schedule) place)
+    (f ≡ c.schedule.format) × (h.gone ≤ place) × (place < c.ra) × (word ≡ slice_index (samples c.schedule) place)
 Continues (Ended e) h (Some c) =
     (is_out c.schedule ≡ false → c.r ≡ c.w) × IsDue e (served c) (length c.schedule.conversions)
 Continues (Taken f place words) h None = ⊥
