@@ -16,10 +16,12 @@ pub mod Prefixes
 pub mod PutsOut
 pub mod Readback
 pub mod Readiness
+pub mod ReadsBack
 pub mod Refusals
 pub mod Rows
 pub mod SessionLaws
 pub mod Shapes
+pub mod Shown
 pub mod Tied
 pub mod Trials
 pub mod Triggering

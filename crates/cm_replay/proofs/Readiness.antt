@@ -57,11 +57,11 @@ plan-brought P time (Some c) p = by_end c.end refl
     by_end (Some e) ended = rw (stays time c e ended) p
 
 -- what holds of a plan holds of it once it is triggered here
-abbrev IsKept : (PlanText → Type 0) → Here → Type 0
+abbrev pub IsKept : (PlanText → Type 0) → Here → Type 0
 IsKept P h = (p : PlanText) → P p → P (record p { trig = Some h.time })
 
 -- it holds of the plan of each command that is accepted here
-abbrev IsNew : (PlanText → Type 0) → Here → Type 0
+abbrev pub IsNew : (PlanText → Type 0) → Here → Type 0
 IsNew P h = (cmd : CmdText) → (tested h.sub cmd).0 ≡ 0 → P (plan_here h cmd)
 
 plan-trigger : (P : PlanText → Type 0) (h : Here) (c : Running) → IsKept P h → P c.schedule.plan → HasPlan P (Some (trigger_on h.time c))
@@ -100,7 +100,7 @@ form-plan P f h new kept p = form-holds (λ (reply : Reply). HasPlan P reply.dev
 abbrev pub AllPlans : (ℕ → PlanText → Type 0) → List Device → Type 0
 AllPlans P devices = (i : ℕ) → HasPlan (P i) (device_at devices i).running
 
-plans-brought : (P : ℕ → PlanText → Type 0) (time : ℕ) (devices : List Device) → AllPlans P devices → AllPlans P (map (brought_device time) devices)
+pub plans-brought : (P : ℕ → PlanText → Type 0) (time : ℕ) (devices : List Device) → AllPlans P devices → AllPlans P (map (brought_device time) devices)
 plans-brought P time devices all i = subst (λ (d : Device). HasPlan (P i) d.running) (sym (device_at-brought time devices i)) (plan-brought (P i) time (device_at devices i).running (all i))
 
 plans-set : (P : ℕ → PlanText → Type 0) (devices : List Device) (sub : ℕ) (d : Device) → sub < length devices → AllPlans P devices → HasPlan (P sub) d.running → AllPlans P (set devices sub d)
@@ -109,7 +109,7 @@ plans-set P devices sub d within all p i = elim (cases_eq i sub) [
   | inr apart ↦ set-other (HasPlan (P i)) devices sub i d apart (all i)
 ]
 
-abbrev LeavesPlans : (ℕ → PlanText → Type 0) → Outcome → Type 0
+abbrev pub LeavesPlans : (ℕ → PlanText → Type 0) → Outcome → Type 0
 LeavesPlans P outcome = AllPlans P outcome.state.devices
 
 plans-on : (P : ℕ → PlanText → Type 0) (s : Setting) (line : SessionLine) (op : Op) (state : State) → IsSoundState s state → IsNew (P (named_sub line.op)) (here s line state) → IsKept (P (named_sub line.op)) (here s line state) →
@@ -121,7 +121,7 @@ plans-on P s line op state sound new kept all =
     (λ error. all)
 
 -- what holds of each new plan, and isn't changed by a trigger, holds after each line
-plans-acted : (P : ℕ → PlanText → Type 0) (s : Setting) (line : SessionLine) (op : Op) (state : State) → IsSoundState s state → IsNew (P (named_sub line.op)) (here s line state) → IsKept (P (named_sub line.op)) (here s line state) →
+pub plans-acted : (P : ℕ → PlanText → Type 0) (s : Setting) (line : SessionLine) (op : Op) (state : State) → IsSoundState s state → IsNew (P (named_sub line.op)) (here s line state) → IsKept (P (named_sub line.op)) (here s line state) →
     AllPlans P state.devices → LeavesPlans P (act s line op state)
 plans-acted P s line ops.OpenFile state sound new kept all =
     either-way (LeavesPlans P) (first_refusal (open_checks line.file state.files)) state (record { answer = Fine; state = record state { files = opened line.file state.files } }) (λ passed. all) (λ error. all)

@@ -10,8 +10,16 @@ use Rattle.cm_board.specs.Board.{maxdata_of, range_of}
 use Rattle.cm_cmd.specs.Entry.{chan, range}
 use Rattle.cm_expand.specs.Rule.{entry_at}
 use Rattle.cm_sample.specs.Sample.{micro_of}
+use Rattle.cm_session.specs.declared.op.SessionLine.{SessionLine}
+use Rattle.cm_signal.specs.Setting.{Setting}
 use Rattle.cm_text.specs.Format.{Format}
 use Rattle.cm_running.specs.Texts.{taken_text}
+use Rattle.cm_replay.specs.Answers.{Answer, Taken}
+use Rattle.cm_replay.specs.Job.{JobText, setting_of}
+use Rattle.cm_replay.specs.Law.{IsSoundJob}
+use Rattle.cm_replay.specs.Session.{step}
+use Rattle.cm_replay.specs.State.{State, at_start}
+use Rattle.cm_replay.specs.Texts.{answer_text}
 
 -- what a line says of a sample: its raw word, or its level in micro-units
 pub data Value : Type 0 where
@@ -86,3 +94,20 @@ ReadbackLaw =
     → 1 ≤ length f.list → length f.list < 2 ^ 32 → length words < 2 ^ 32
     → AreShown f place words
     → read_back (taken_text f place words ++ rest) ≡ Ok (seen_from f place words)
+
+-- if an answer has samples, they are read back from its bytes, whatever follows them
+abbrev pub IsReadBack : Answer → Type 0
+IsReadBack (Taken f place words) =
+    (rest : List ℕ) → read_back (answer_text (Taken f place words) ++ rest) ≡ Ok (seen_from f place words)
+IsReadBack other = Unit {0}
+
+-- at every line of a session the samples of a read are read back from the bytes of its answer
+abbrev pub ReadsBack : Setting → State → List SessionLine → Type 0
+ReadsBack s state [] = Unit {0}
+ReadsBack s state (line ∷ rest) =
+    IsReadBack (step s line state).answer × ReadsBack s (step s line state).state rest
+
+-- in every session the samples of each read are read back from the bytes of its answer
+abbrev pub SessionReadback : Type 0
+SessionReadback =
+    (job : JobText) → IsSoundJob job → ReadsBack (setting_of job) (at_start (setting_of job)) job.lines

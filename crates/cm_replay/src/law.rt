@@ -2,7 +2,7 @@
 ghost use Rattle.cm_replay.specs.Law.{BringingLaw, NothingIsLeft, PrefixLaw, SessionLaw};
 ghost use Rattle.cm_replay.specs.Losses.{LossLaw};
 ghost use Rattle.cm_replay.specs.PutOut.{PutLaw};
-ghost use Rattle.cm_replay.specs.Readback.{ReadbackLaw};
+ghost use Rattle.cm_replay.specs.Readback.{ReadbackLaw, SessionReadback};
 ghost use Rattle.cm_replay.specs.Refusals.{ForeignLaw, RefusalLaw, TiedLaw};
 
 /// At every line of a session each command is lawful, what was put out are the client's words, each
@@ -35,6 +35,12 @@ pub fn what_is_put_out_is_a_prefix()
 /// its place in the channel list and its raw word or its level in micro-units.
 pub fn reads_can_be_read_back()
     ensures { ReadbackLaw }
+{}
+
+/// In every session of a sound job the samples of each read are read back from the bytes of its
+/// answer: the numbers in it have 32 bits.
+pub fn each_read_can_be_read_back()
+    ensures { SessionReadback }
 {}
 
 /// A line that is refused leaves the state as it was brought to its time. One that reports an end, as
