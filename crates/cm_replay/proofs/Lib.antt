@@ -26,5 +26,6 @@ pub mod Tied
 pub mod Trials
 pub mod Triggering
 pub mod Twice
+pub mod WholeLines
 pub mod Wholes
 pub mod Words

@@ -1,6 +1,6 @@
 -- How the bytes of a read's answer are read back as samples.
 use Rattle.std.specs.Prelude.{◌≡◌, ℕ, ◌%◌, ◌<◌, ◌≤◌, ◌^◌, suc, true, false, List, [], ◌∷◌, ◌++◌, length, map, take}
-use Rattle.std.specs.Prelude.{codes, Result, Ok, Err, ℤ, if◌then◌else◌}
+use Rattle.std.specs.Prelude.{codes, Result, Ok, Err, ℤ, ◌⊎◌, if◌then◌else◌}
 use Rattle.cm_base.specs.Lines.{lines_of}
 use Rattle.cm_base.specs.Reading.{◌>>=◌}
 use Rattle.cm_base.specs.Words.{Form, is_int, keyword, number_in, signed_number}
@@ -13,11 +13,12 @@ use Rattle.cm_sample.specs.Sample.{micro_of}
 use Rattle.cm_session.specs.declared.op.SessionLine.{SessionLine}
 use Rattle.cm_signal.specs.Setting.{Setting}
 use Rattle.cm_text.specs.Format.{Format}
+use Rattle.cm_text.specs.Outputs.{output_texts}
 use Rattle.cm_running.specs.Texts.{taken_text}
 use Rattle.cm_replay.specs.Answers.{Answer, Taken}
 use Rattle.cm_replay.specs.Job.{JobText, setting_of}
 use Rattle.cm_replay.specs.Law.{IsSoundJob}
-use Rattle.cm_replay.specs.Session.{step}
+use Rattle.cm_replay.specs.Session.{Step, step}
 use Rattle.cm_replay.specs.State.{State, at_start}
 use Rattle.cm_replay.specs.Texts.{answer_text}
 
@@ -111,3 +112,16 @@ ReadsBack s state (line ∷ rest) =
 abbrev pub SessionReadback : Type 0
 SessionReadback =
     (job : JobText) → IsSoundJob job → ReadsBack (setting_of job) (at_start (setting_of job)) job.lines
+
+-- a text ends with a line feed
+pub record EndsLine (text : List ℕ) : Type 0 where
+  pub before : List ℕ
+  pub is : text ≡ before ++ codes "\n"
+
+-- a text of whole lines is empty or ends with a line feed
+abbrev pub AreLines : List ℕ → Type 0
+AreLines text = (text ≡ []) ⊎ EndsLine text
+
+-- what a step puts out are whole lines, and so is the answer after them
+abbrev pub WholeLinesLaw : Type 0
+WholeLinesLaw = (done : Step) → AreLines (output_texts done.outputs) × EndsLine (answer_text done.answer)

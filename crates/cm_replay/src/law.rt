@@ -2,7 +2,7 @@
 ghost use Rattle.cm_replay.specs.Law.{BringingLaw, NothingIsLeft, PrefixLaw, SessionLaw};
 ghost use Rattle.cm_replay.specs.Losses.{LossLaw};
 ghost use Rattle.cm_replay.specs.PutOut.{PutLaw};
-ghost use Rattle.cm_replay.specs.Readback.{ReadbackLaw, SessionReadback};
+ghost use Rattle.cm_replay.specs.Readback.{ReadbackLaw, SessionReadback, WholeLinesLaw};
 ghost use Rattle.cm_replay.specs.Refusals.{ForeignLaw, RefusalLaw, TiedLaw};
 
 /// At every line of a session each command is lawful, what was put out are the client's words, each
@@ -41,6 +41,12 @@ pub fn reads_can_be_read_back()
 /// answer: the numbers in it have 32 bits.
 pub fn each_read_can_be_read_back()
     ensures { SessionReadback }
+{}
+
+/// What is put out by a line's time is written as whole lines, and so is the line's answer. So each
+/// answer begins at the start of a line.
+pub fn steps_write_whole_lines()
+    ensures { WholeLinesLaw }
 {}
 
 /// A line that is refused leaves the state as it was brought to its time. One that reports an end, as
