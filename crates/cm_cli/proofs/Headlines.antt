@@ -28,11 +28,10 @@ use Rattle.cm_replay.specs.Texts.{replay_text}
 use Rattle.cm_cli.specs.Answer.{Concludes, as_outcome, byte_limit, outcome_of, too_long}
 use Rattle.cm_cli.specs.Answers.{Answers, End, input_of}
 use Rattle.cm_cli.specs.Headline.{HeadlineLaw, IsTold, JobsAreSound, StreamLaw, Tells, TellsFor, TellsWork, ToldLaw}
-use Rattle.cm_cli.specs.Said.{MayGive, Soaks, Streams, Text, Work, job_by, job_of, job_text_of, over_setting, said, session_answer}
+use Rattle.cm_cli.specs.Said.{Soaks, Streams, Text, Work, job_by, job_of, job_text_of, over_setting, said, session_answer}
 use Rattle.cm_cli.proofs.Ends.{always, each}
 use Rattle.cm_cli.specs.declared.command.Command.{Command}
 use Rattle.cm_cli.specs.declared.command.Command.TheVariants as commands
-use Rattle.cm_cli.specs.declared.jobs.ThreadJob.{ThreadJob}
 use Rattle.cm_cli.specs.declared.jobs.ThreadJob.TheVariants as jobs
 use Rattle.cm_cli.specs.declared.status.Status.{Status}
 use Rattle.cm_cli.specs.declared.status.Status.TheVariants as status
