@@ -8,6 +8,7 @@ use Rattle.cm_replay.specs.Job.{JobText, setting_of}
 use Rattle.cm_replay.specs.Law.{GoesWell, IsSoundJob, ReadsPrefixes, no_history}
 use Rattle.cm_replay.specs.Losses.{LosesWell}
 use Rattle.cm_replay.specs.PutOut.{PutsPrefixes}
+use Rattle.cm_replay.specs.Readback.{ReadsBack}
 use Rattle.cm_replay.specs.State.{at_start}
 use Rattle.cm_replay.specs.Texts.{replay_text}
 use Rattle.cm_run.specs.Soak.{soak_text}
@@ -35,6 +36,8 @@ pub record Headline (job : JobText) : Type 0 where
   -- all that was put out of an output are the first words that its client marked, munged,
   -- at the times of their conversions
   pub puts : PutsPrefixes (setting_of job) (λ i. no_history) (λ i. []) (at_start (setting_of job)) job.lines
+  -- the samples of each read are read back from the bytes of its answer
+  pub shown : ReadsBack (setting_of job) (at_start (setting_of job)) job.lines
 
 -- the headline: it holds of all bytes that are read as a job
 abbrev pub HeadlineLaw : Type 0

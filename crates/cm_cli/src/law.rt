@@ -5,7 +5,8 @@ use cm_block::law::{a_run_streams_prefixes, a_watch_streams_prefixes};
 use cm_board_text::law::boards_are_sound;
 use cm_loop::law::a_loop_puts_its_filter;
 use cm_replay::law::{
-    losses_come_exactly, sessions_go_well, what_is_put_out_is_a_prefix, what_is_read_is_a_prefix,
+    each_read_can_be_read_back, losses_come_exactly, sessions_go_well, what_is_put_out_is_a_prefix,
+    what_is_read_is_a_prefix,
 };
 use cm_session::law::sessions_are_in_order;
 use cm_signal_text::law::signals_are_sound;
@@ -23,7 +24,8 @@ pub fn jobs_are_sound()
 /// marks as read is a prefix of the command's munged expansion in trigger order. It is the whole at
 /// `done` and `dry`, and exactly k samples of more at `overrun k` and `fifo k`. A sample is lost just
 /// when its conversion comes and its place isn't there. What an output puts out are the first words
-/// that its client marked, munged.
+/// that its client marked, munged. The samples of each read can be read back from the bytes of its
+/// answer.
 pub fn the_headline()
     ensures { HeadlineLaw }
 {
@@ -32,6 +34,7 @@ pub fn the_headline()
     sessions_go_well();
     losses_come_exactly();
     what_is_put_out_is_a_prefix();
+    each_read_can_be_read_back();
 }
 
 /// If `replay` or `insn` has an answer to some bytes, they are read as a job, the answer is the text of

@@ -8,4 +8,5 @@ returns c only bytes job e =
       goes = c.sessions_go_well.ensures job sound;
       loses = c.losses_come_exactly.ensures job sound;
       puts = c.what_is_put_out_is_a_prefix.ensures job sound;
+      shown = c.each_read_can_be_read_back.ensures job sound;
     }
