@@ -96,7 +96,7 @@ ReadbackLaw =
     → AreShown f place words
     → read_back (taken_text f place words ++ rest) ≡ Ok (seen_from f place words)
 
--- if an answer has samples, they are read back from its bytes, whatever follows them
+-- the samples of a read are read back from the bytes of its answer, whatever follows them
 abbrev pub IsReadBack : Answer → Type 0
 IsReadBack (Taken f place words) =
     (rest : List ℕ) → read_back (answer_text (Taken f place words) ++ rest) ≡ Ok (seen_from f place words)
