@@ -53,6 +53,8 @@ pub record HasServed
   pub ended : ends last new
 
 -- of a worker that has ended: what it had handed on up to there, it has served up to here
-abbrev pub EndsServing : {W : Type 0} → (W → ℕ → W → Type 0) → (W → W → Type 0) → (W → W → Type 0) → ℕ → ℕ → W → W → Type 0
+abbrev pub EndsServing :
+    {W : Type 0} → (W → ℕ → W → Type 0) → (W → W → Type 0) → (W → W → Type 0) → ℕ → ℕ → W → W → Type 0
 EndsServing {W = W} hands waits ends before after old new =
-    (start : W) (from : ℕ) → HasHanded hands waits from before start old → HasServed hands waits ends from after start new
+    (start : W) (from : ℕ)
+    → HasHanded hands waits from before start old → HasServed hands waits ends from after start new

@@ -38,4 +38,5 @@ pub record AreMade {D : Type 0} (may : ℕ → D → Type 0) (count : ℕ) (made
 -- the streams of the first lines, so many, have given these
 abbrev pub HaveStreamed :
     {K D E : Type 0} → OwnersText → List RunLine → (ℕ → Bor SeatText → K → Result D E → Type 0) → ℕ → List D → Type 0
-HaveStreamed owners lines post count made = AreMade (λ place one. HasStreamed owners lines post place (Ok one)) count made
+HaveStreamed owners lines post count made =
+    AreMade (λ place one. HasStreamed owners lines post place (Ok one)) count made
