@@ -108,6 +108,12 @@ def many(check):
         check.compare_record(name, "wide", run, codes)
 
 
+def cancellations(check):
+    """Threads that are cancelled within a call, with a record, whose writing is one more place, and without."""
+    for settings in ({}, {"ZENDROUZ_LOG": ""}):
+        check.client("cancelled", "wide", **settings)
+
+
 def crowds(check):
     """Threads, children and signals on one board; and many clients at once, each on a board of its own."""
     for _ in range(1 if check.quick else 3):

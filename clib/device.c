@@ -15,19 +15,19 @@
 
 struct device *device;
 
-/* the signals that the client had blocked when it came in, and its errno, which only a call that fails changes */
-static __thread sigset_t outside;
+/* how the client was interrupted before it came in, and its errno, which only a call that fails changes */
+static __thread struct quiet outside;
 static __thread int outside_errno;
 /* how many threads of this process are in the device, or on their way in */
 static int callers;
+/* one thread of this process opens a board at a time */
+static pthread_mutex_t opening = PTHREAD_MUTEX_INITIALIZER;
 
-/* One call at a time. No signal comes meanwhile, so that a handler may call too. */
+/* Lets one thread in at a time. Nothing interrupts it up to device_leave. */
 void device_enter(void)
 {
-	sigset_t all;
 	outside_errno = errno;
-	sigfillset(&all);
-	pthread_sigmask(SIG_SETMASK, &all, &outside);
+	quiet_begin(&outside);
 	__atomic_add_fetch(&callers, 1, __ATOMIC_SEQ_CST);
 	/* a process that ended within a call leaves an answer half read: nothing can be asked any more */
 	if (pthread_mutex_lock(&device->lock) == EOWNERDEAD) {
@@ -41,7 +41,7 @@ void device_leave(void)
 	record_flush();
 	pthread_mutex_unlock(&device->lock);
 	__atomic_sub_fetch(&callers, 1, __ATOMIC_SEQ_CST);
-	pthread_sigmask(SIG_SETMASK, &outside, NULL);
+	quiet_end(&outside);
 	errno = outside_errno;
 }
 
@@ -50,18 +50,24 @@ int device_callers(void)
 	return __atomic_load_n(&callers, __ATOMIC_SEQ_CST);
 }
 
-/* A child made by fork has none of the other threads, and all files of its parent. */
-static void become_child(void)
+/* Keeps all threads from opening a board, up to device_let_go. */
+void device_hold(void)
+{
+	pthread_mutex_lock(&opening);
+}
+
+void device_let_go(void)
+{
+	pthread_mutex_unlock(&opening);
+}
+
+/* Called in a child made by fork, which has none of the other threads, and all files of its parent. */
+void device_begin_child(void)
 {
 	callers = 0;
 	for (int i = 0; device && i < MOST_FILES; i++)
 		if (device->file[i].is_open && device->file[i].opener == getppid())
 			device->file[i].is_shared = 1;
-}
-
-__attribute__((constructor)) static void prepare_for_children(void)
-{
-	pthread_atfork(NULL, NULL, become_child);
 }
 
 static int ends_with(const char *text, const char *end)
@@ -170,9 +176,10 @@ static int open_file(void)
 /* Opens the device, and answers the number of the session's file. One process has one board. */
 int device_open(const char *path)
 {
-	static pthread_mutex_t opening = PTHREAD_MUTEX_INITIALIZER;
 	const char *board = strncmp(path, "/dev/comedi", 11) ? path : getenv("ZENDROUZ_BOARD");
-	pthread_mutex_lock(&opening);
+	struct quiet quiet;
+	quiet_begin(&quiet);
+	device_hold();
 	int result = make_device();
 	if (!result) {
 		device_enter();
@@ -185,7 +192,8 @@ int device_open(const char *path)
 			result = strcmp(device->path, board) ? -ENODEV : open_file();
 		device_leave();
 	}
-	pthread_mutex_unlock(&opening);
+	device_let_go();
+	quiet_end(&quiet);
 	return result;
 }
 

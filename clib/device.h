@@ -102,6 +102,14 @@ struct device {
 /* The device is in memory that a client's children share. It is there once a board was opened. */
 extern struct device *device;
 
+/* quiet.c: what the thread's signals and its cancellation were before a part of a call that nothing interrupts. */
+struct quiet {
+	sigset_t signals;
+	int cancels;
+};
+void quiet_begin(struct quiet *quiet);
+void quiet_end(const struct quiet *quiet);
+
 /* device.c */
 int device_open(const char *path);
 void device_close(int file);
@@ -110,6 +118,9 @@ int device_serves(const char *path);
 void device_enter(void);
 void device_leave(void);
 int device_callers(void);
+void device_hold(void);
+void device_let_go(void);
+void device_begin_child(void);
 
 /* text.c */
 int text_read(const char *path, struct text *text);
@@ -197,6 +208,9 @@ struct wait {
 int turns_wait(uint64_t end, const struct wait *wait);
 int turns_is_alone(void);
 uint64_t turns_number(pid_t thread);
+void turns_hold(void);
+void turns_let_go(void);
+void turns_begin_child(void);
 
 /* threads.c */
 uint64_t threads_sleep(void);

@@ -248,6 +248,7 @@ PUBLIC ssize_t read(int descriptor, void *to, size_t bytes)
 		return names_answer(timers_read(descriptor, to, bytes));
 	if (file == NO_FILE)
 		return rings_stand_for(descriptor) ? rings_read(to, bytes) : REAL(read)(descriptor, to, bytes);
+	pthread_testcancel();
 	int waits = names_waits(descriptor);
 	device_enter();
 	time_call();
@@ -270,6 +271,7 @@ PUBLIC ssize_t write(int descriptor, const void *from, size_t bytes)
 	int file = names_file(descriptor);
 	if (file == NO_FILE)
 		return rings_stand_for(descriptor) ? names_answer(rings_write(from, bytes)) : REAL(write)(descriptor, from, bytes);
+	pthread_testcancel();
 	int waits = names_waits(descriptor);
 	device_enter();
 	time_call();

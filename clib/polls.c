@@ -163,6 +163,7 @@ static int poll_any(struct ask *a, uint64_t end)
 /* A poll of the device's files takes a call's time. */
 static int poll_ours(struct ask *a, int64_t nanoseconds)
 {
+	pthread_testcancel();
 	if (!a->has_file)
 		return names_answer(poll_any(a, time_after(nanoseconds)));
 	if (a->count > MOST_POLLED)

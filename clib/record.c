@@ -5,7 +5,6 @@
 #define _GNU_SOURCE
 #include "server.h"
 #include <fcntl.h>
-#include <pthread.h>
 #include <stdarg.h>
 #include <stdio.h>
 #include <string.h>
@@ -16,15 +15,10 @@ static int record = -1;
 static char held[1 << 16];
 static size_t length_of_held;
 
-/* A child made by fork may have lines of a call of another thread, which writes them itself. */
-static void forget_lines(void)
+/* Called in a child made by fork. It may have lines of a call of another thread, which writes them itself. */
+void record_begin_child(void)
 {
 	length_of_held = 0;
-}
-
-__attribute__((constructor)) static void prepare_for_children(void)
-{
-	pthread_atfork(NULL, NULL, forget_lines);
 }
 
 void record_open(const char *path)

@@ -47,6 +47,7 @@ int answer_says(const char *word);
 /* record.c */
 void record_open(const char *path);
 int record_owns(int descriptor);
+void record_begin_child(void);
 void record_line(const char *text, size_t length);
 void record_flush(void);
 void record_form(const char *form, ...) __attribute__((format(printf, 1, 2)));

@@ -38,33 +38,36 @@ struct turn {
 static struct turn turns[MOST_TURNS];
 static uint64_t last_number, last_turn;
 static pthread_mutex_t lock = PTHREAD_MUTEX_INITIALIZER;
-static __thread sigset_t outside;
+static __thread struct quiet outside;
 
 static void enter(void)
 {
-	sigset_t all;
-	sigfillset(&all);
-	pthread_sigmask(SIG_SETMASK, &all, &outside);
+	quiet_begin(&outside);
 	pthread_mutex_lock(&lock);
 }
 
 static void leave(void)
 {
 	pthread_mutex_unlock(&lock);
-	pthread_sigmask(SIG_SETMASK, &outside, NULL);
+	quiet_end(&outside);
 }
 
-/* A child made by fork has one thread, and none of these waits. */
-static void leave_in_child(void)
+/* Keeps all waits as they are, up to turns_let_go. */
+void turns_hold(void)
+{
+	pthread_mutex_lock(&lock);
+}
+
+void turns_let_go(void)
+{
+	pthread_mutex_unlock(&lock);
+}
+
+/* Called in a child made by fork, which has one thread, and none of these waits. */
+void turns_begin_child(void)
 {
 	for (int i = 0; i < MOST_TURNS; i++)
 		turns[i].is_there = 0;
-	leave();
-}
-
-__attribute__((constructor)) static void prepare_for_children(void)
-{
-	pthread_atfork(enter, leave, leave_in_child);
 }
 
 static struct turn *join(uint64_t end, const struct wait *wait)
