@@ -42,6 +42,8 @@ def clients(check):
     check.client("claims", "bench")
     check.client("wild", "wide")
     check.client("paced", "wide", ZENDROUZ_PACE="10")
+    check.client("apart", "wide")
+    check.client("refused", "refused")
 
 
 # The list of packed.c: what stands for line 0 and 1 is exchanged, and the last four entries are the lines 0 to 3 again.

@@ -11,8 +11,14 @@
 #include <stdio.h>
 #include <stdlib.h>
 #include <string.h>
+#include <linux/close_range.h>
+#include <sys/resource.h>
 #include <sys/syscall.h>
+#include <sys/wait.h>
 #include <unistd.h>
+
+/* up to which number descriptors are closed one by one */
+#define MOST_DESCRIPTORS 1048576
 
 extern char **environ;
 
@@ -56,20 +62,59 @@ static char **environment_of_server(int memory)
 	return copy;
 }
 
-/* What the child does: nothing of the client's may be touched here. */
+/* Lets the program have none of the client's descriptors from 3 on. Where the kernel has no call for it, it is asked for
+ * one after another. */
+static void keep_descriptors(void)
+{
+	struct rlimit most = { 1024, 1024 };
+	if (!syscall(SYS_close_range, 3, ~0u, CLOSE_RANGE_CLOEXEC))
+		return;
+	syscall(SYS_prlimit64, 0, RLIMIT_NOFILE, NULL, &most);
+	for (rlim_t i = 3; i < most.rlim_cur && i < MOST_DESCRIPTORS; i++)
+		syscall(SYS_fcntl, i, F_SETFD, FD_CLOEXEC);
+}
+
+/* Puts a descriptor to a number of the program. */
+static int put(int descriptor, int number)
+{
+	if (descriptor == number)
+		return syscall(SYS_fcntl, number, F_SETFD, 0) ? -1 : number;
+	return syscall(SYS_dup3, descriptor, number, 0);
+}
+
+/* Becomes the program. The client's names of the C library aren't called here: they may look for others, or be looked at. */
 static void become_server(const char *program, char **environment, int socket, int memory)
 {
 	char *words[] = { (char *)program, NULL };
-	sigset_t none;
-	sigemptyset(&none);
-	sigprocmask(SIG_SETMASK, &none, NULL);
-	setsid();
-	if (dup2(socket, 0) == 0 && dup2(socket, 1) == 1 && !fcntl(memory, F_SETFD, 0))
+	const uint64_t no_signals = 0;
+	syscall(SYS_rt_sigprocmask, SIG_SETMASK, &no_signals, NULL, sizeof no_signals);
+	syscall(SYS_setsid);
+	keep_descriptors();
+	if (put(socket, 0) == 0 && put(socket, 1) == 1 && put(memory, memory) == memory)
 		execvpe(program, words, environment);
-	const char text[] = "zendrouz: comedi_serve can't be run: it isn't built, or ZENDROUZ_CORE names another file\n";
-	if (write(2, text, sizeof text - 1) < 0)
-		_exit(126);
-	_exit(127);
+	static const char text[] = "zendrouz: comedi_serve can't be run: it isn't built, or ZENDROUZ_CORE names another file\n";
+	syscall(SYS_write, 2, text, sizeof text - 1);
+	syscall(SYS_exit_group, 127);
+}
+
+/*
+ * Starts the program as nobody's child. A process that runs another program is a child that wait() and SIGCHLD tell of,
+ * whatever it was made with. So the one that is made here makes another, which becomes the program, and ends at once. It is
+ * none that wait() tells of, and is waited for here. Answers 0, or a negative error number.
+ */
+static int start_apart(const char *program, char **environment, int socket, int memory)
+{
+	long child = syscall(SYS_clone, 0, 0, 0, 0, 0);
+	if (child == 0) {
+		if (syscall(SYS_clone, 0, 0, 0, 0, 0) == 0)
+			become_server(program, environment, socket, memory);
+		syscall(SYS_exit_group, 0);
+	}
+	if (child < 0)
+		return -errno;
+	while (syscall(SYS_wait4, child, NULL, __WCLONE, NULL) < 0 && errno == EINTR)
+		;
+	return 0;
 }
 
 int server_start(const char *program, const char *head, size_t length)
@@ -78,16 +123,13 @@ int server_start(const char *program, const char *head, size_t length)
 	if (result)
 		return result;
 	char **environment = environment_of_server(memory);
-	/* no signal at its end: a client that waits for its own children doesn't meet this one */
-	long child = environment ? syscall(SYS_clone, 0, 0, 0, 0, 0) : -1;
-	if (child == 0)
-		become_server(program, environment, socket, memory);
+	result = environment ? start_apart(program, environment, socket, memory) : -ENOMEM;
 	free(environment);
 	syscall(SYS_close, socket);
 	syscall(SYS_close, memory);
 	from = upto = 0;
-	if (child < 0)
-		return -EAGAIN;
+	if (result)
+		return result;
 	/* where the program ends before it has taken all, its last answer says why */
 	rings_write(head, length);
 	return 0;

@@ -106,6 +106,17 @@ static int is_socket(int descriptor)
 	return !fstat(descriptor, &state) && S_ISSOCK(state.st_mode);
 }
 
+/* Lets go of the client's standard error, which tells why a program doesn't start, and has told it by now. Who waits for
+ * its end waits for the client alone. */
+static void leave_standard_error(void)
+{
+	int nothing = syscall(SYS_openat, AT_FDCWD, "/dev/null", O_WRONLY | O_CLOEXEC);
+	if (nothing < 0)
+		return;
+	syscall(SYS_dup3, nothing, STDERR_FILENO, 0);
+	syscall(SYS_close, nothing);
+}
+
 /* The program's side. A program that stands between may have another file in place of one of them. */
 static void join(void)
 {
@@ -119,6 +130,7 @@ static void join(void)
 		fprintf(stderr, "zendrouz: %s=%s isn't the memory of a device\n", RINGS_VARIABLE, memory);
 		_exit(127);
 	}
+	leave_standard_error();
 	outgoing = &rings->answer;
 	incoming = &rings->question;
 	sched_getaffinity(0, sizeof allowed, &allowed);
