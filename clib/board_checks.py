@@ -6,22 +6,12 @@ Call `clib/check`, or one of them by `clib/check COMEDI_SERVE COMEDI boards`.
 import os
 import re
 import shutil
-import stat
 import subprocess
 
-from checking import DEMOS, HERE, LIBRARY, PROGRAM, TESTS, TOP, text_of
+from checking import DEMOS, HERE, LIBRARY, PROGRAM, TESTS, TOP, text_of, write_file
 
 DOCUMENT = os.path.join(TOP, "docs", "CLIENTS.md")
 WITH_BOARD = os.path.join(TOP, "with_board")
-
-
-def write_file(path, text, executable=False):
-    os.makedirs(os.path.dirname(path), exist_ok=True)
-    with open(path, "w", encoding="utf-8") as file:
-        file.write(text)
-    if executable:
-        os.chmod(path, os.stat(path).st_mode | stat.S_IXUSR)
-    return path
 
 
 def copy_file(source, path):

@@ -3,6 +3,7 @@
  * buffer holds are mapped in the session too, and put into the memory, each at its number modulo the buffer's size.
  */
 #define _GNU_SOURCE
+#include "descriptors.h"
 #include "device.h"
 #include "kernel.h"
 #include "server.h"
@@ -13,6 +14,9 @@
 #include <sys/mman.h>
 #include <sys/syscall.h>
 #include <unistd.h>
+
+/* the file of the memory of all buffers; a child made by fork has it under the same number */
+static int memory = -1;
 
 static size_t memory_bytes(const struct subdevice *s)
 {
@@ -101,22 +105,22 @@ int buffer_make_memory(void)
 		device->subdevice[i].memory_offset = whole;
 		whole += memory_bytes(&device->subdevice[i]);
 	}
-	int descriptor = keep_away(memfd_create("comedi-buffers", MFD_CLOEXEC));
-	if (descriptor < 0 || ftruncate(descriptor, whole))
+	memory = keep_away(memfd_create("comedi-buffers", MFD_CLOEXEC));
+	descriptors_protect(&memory);
+	if (memory < 0 || ftruncate(memory, whole))
 		return -ENOMEM;
-	device->memory_descriptor = descriptor;
-	char *memory = mmap(NULL, whole, PROT_READ | PROT_WRITE, MAP_SHARED, descriptor, 0);
-	if (memory == MAP_FAILED)
+	char *place = mmap(NULL, whole, PROT_READ | PROT_WRITE, MAP_SHARED, memory, 0);
+	if (place == MAP_FAILED)
 		return -ENOMEM;
-	device->copied = memory;
+	device->copied = place;
 	for (unsigned i = 0; i < device->subdevices; i++)
-		device->subdevice[i].memory = memory + device->subdevice[i].memory_offset;
+		device->subdevice[i].memory = place + device->subdevice[i].memory_offset;
 	return 0;
 }
 
-int buffer_owns(int descriptor)
+int buffer_memory(void)
 {
-	return device && descriptor > 0 && descriptor == device->memory_descriptor;
+	return memory;
 }
 
 /* A client is about to map the buffer: from now on it is kept filled. */

@@ -4,6 +4,7 @@ import os
 import re
 import shutil
 import signal
+import stat
 import subprocess
 import sys
 import tempfile
@@ -26,6 +27,15 @@ SECONDS_OF_AN_END = 20
 def text_of(name):
     with open(os.path.join(TESTS, name), encoding="utf-8") as file:
         return file.read()
+
+
+def write_file(path, text, executable=False):
+    os.makedirs(os.path.dirname(path), exist_ok=True)
+    with open(path, "w", encoding="utf-8") as file:
+        file.write(text)
+    if executable:
+        os.chmod(path, os.stat(path).st_mode | stat.S_IXUSR)
+    return path
 
 
 def installed(packages, is_there):

@@ -7,7 +7,7 @@ import subprocess
 import threading
 import time
 
-from checking import TESTS, processes_of, python_with_comedi, text_of
+from checking import TESTS, processes_of, python_with_comedi, text_of, write_file
 
 RANDOM_CALLS = 1000000
 RANDOM_SECONDS = 200
@@ -44,6 +44,10 @@ def clients(check):
     check.client("paced", "wide", ZENDROUZ_PACE="10")
     check.client("apart", "wide")
     check.client("refused", "refused")
+    check.client("closed", "wide")
+    check.client("tables", "wide")
+    slow = write_file(check.path("slow"), "#!/bin/sh\nsleep 1\nexec %s\n" % check.serve, True)
+    check.client("slowly", "wide", ZENDROUZ_CORE=slow)
 
 
 # The list of packed.c: what stands for line 0 and 1 is exchanged, and the last four entries are the lines 0 to 3 again.

@@ -2,6 +2,7 @@
  * Opening and closing the device, and who is in it.
  */
 #define _GNU_SOURCE
+#include "descriptors.h"
 #include "device.h"
 #include "server.h"
 #include <errno.h>
@@ -222,9 +223,14 @@ static int has_ended(pid_t process)
 	return !waitid(P_PID, process, &information, WEXITED | WNOHANG | WNOWAIT) && information.si_pid == process;
 }
 
-/* Closes what processes have left open that ended, as the kernel does. What a child of them may have stays open. */
+/* Closes what was left open, as the kernel does: files whose descriptors this process closed past the names of the C
+ * library, and those of processes that have ended. What a child of them may have stays open. */
 void device_close_left(void)
 {
+	unsigned lost = descriptors_take_lost();
+	for (int i = 0; i < MOST_FILES; i++)
+		if (lost >> i & 1 && device->file[i].is_open && device->file[i].opener == getpid())
+			close_file(i);
 	for (int i = 0; i < MOST_FILES; i++) {
 		const struct file *f = &device->file[i];
 		if (f->is_open && !f->is_shared && f->opener != getpid() && has_ended(f->opener))

@@ -94,8 +94,7 @@ struct device {
 	/* whether the time has begun: the first file was opened */
 	int has_begun;
 	enum wake wake;
-	/* the memory of all buffers, which is there before a client makes children, and its start, through which is copied */
-	int memory_descriptor;
+	/* the start of the memory of all buffers, which is there before a client makes children: through it is copied */
 	char *copied;
 };
 
@@ -161,7 +160,7 @@ int buffer_info(int file, comedi_bufinfo *info);
 int buffer_make_memory(void);
 int buffer_map(int file, int number);
 int buffer_take(int file, int number, unsigned most, uint32_t *samples);
-int buffer_owns(int descriptor);
+int buffer_memory(void);
 
 /* board.c */
 int board_ask(void);

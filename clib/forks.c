@@ -5,6 +5,7 @@
  * The lock of the device itself is shared with the children, and isn't held: a child may be made while another thread is
  * within a call, which goes on in the parent.
  */
+#include "descriptors.h"
 #include "device.h"
 #include "server.h"
 #include <pthread.h>
@@ -17,12 +18,14 @@ static void hold_all(void)
 	quiet_begin(&before);
 	device_hold();
 	turns_hold();
+	descriptors_hold();
 	outside = before;
 }
 
 static void let_go_of_all(void)
 {
 	struct quiet before = outside;
+	descriptors_let_go();
 	turns_let_go();
 	device_let_go();
 	quiet_end(&before);
@@ -31,6 +34,7 @@ static void let_go_of_all(void)
 static void begin_child(void)
 {
 	turns_begin_child();
+	descriptors_begin_child();
 	record_begin_child();
 	device_begin_child();
 	let_go_of_all();

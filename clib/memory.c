@@ -18,7 +18,7 @@ int copy_in(void *to, const void *from, size_t bytes)
 {
 	for (size_t count; bytes; to = (char *)to + count, from = (const char *)from + count, bytes -= count) {
 		count = piece_of(bytes);
-		if (syscall(SYS_pwrite64, device->memory_descriptor, from, count, 0) != (long)count)
+		if (syscall(SYS_pwrite64, buffer_memory(), from, count, 0) != (long)count)
 			return -EFAULT;
 		memcpy(to, device->copied, count);
 	}
@@ -30,7 +30,7 @@ int copy_out(void *to, const void *from, size_t bytes)
 	for (size_t count; bytes; to = (char *)to + count, from = (const char *)from + count, bytes -= count) {
 		count = piece_of(bytes);
 		memcpy(device->copied, from, count);
-		if (syscall(SYS_pread64, device->memory_descriptor, to, count, 0) != (long)count)
+		if (syscall(SYS_pread64, buffer_memory(), to, count, 0) != (long)count)
 			return -EFAULT;
 	}
 	return 0;

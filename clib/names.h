@@ -24,11 +24,13 @@
 /* what ends a wait early is there */
 #define CAME 1
 
-/* names.c */
+/* names.c: a descriptor's file of the session, whether its calls wait, and the answer of a call */
 int names_file(int descriptor);
-int names_asynchronous(void);
 int names_waits(int descriptor);
 long names_answer(long result);
+
+/* openings.c: a number that the system has just given */
+int openings_fresh(int descriptor);
 
 /* polls.c */
 int polls_wait(struct pollfd *asked, nfds_t count, int64_t nanoseconds);
@@ -40,15 +42,11 @@ int64_t signals_sleep(uint64_t nanoseconds);
 int signals_exchange(const sigset_t *mask, sigset_t *old);
 void signals_send(void);
 
-/* sets.c */
-void sets_forget(int descriptor);
-
 /* timers.c */
 int timers_are_in(int descriptor);
 uint64_t timers_next(int descriptor);
 void timers_ring(void);
 void timers_put(int descriptor, int set);
-void timers_forget(int descriptor);
 int timers_are_read(int descriptor);
 ssize_t timers_read(int descriptor, void *to, size_t bytes);
 

@@ -239,12 +239,13 @@ static int members_of(struct pollfd *asked, int count, const fd_set *reads, cons
 	return length;
 }
 
-/* Makes a set of those that were asked for an event, and have one of some. Answers how many. */
-static int fill_set(fd_set *set, const struct ask *a, short event, short found)
+/* Makes a set of those that were asked for an event, and have one of some. Answers how many. As the kernel, this writes as
+ * many longs as hold the numbers below `count`: a client may have made its set no longer. */
+static int fill_set(fd_set *set, int count, const struct ask *a, short event, short found)
 {
 	int ready = 0;
 	if (set)
-		FD_ZERO(set);
+		memset(set, 0, (count + NFDBITS - 1) / NFDBITS * sizeof(fd_mask));
 	for (nfds_t i = 0; i < a->count; i++)
 		if (a->asked[i].events & event && a->asked[i].revents & found) {
 			FD_SET(a->asked[i].fd, set);
@@ -254,16 +255,16 @@ static int fill_set(fd_set *set, const struct ask *a, short event, short found)
 }
 
 /* A select is a poll of its members. */
-static int select_ours(struct ask *a, fd_set *reads, fd_set *writes, fd_set *others, int64_t nanoseconds, const sigset_t *signals)
+static int select_ours(int count, struct ask *a, fd_set *reads, fd_set *writes, fd_set *others, int64_t nanoseconds, const sigset_t *signals)
 {
 	if (poll_masked(a, nanoseconds, signals) < 0)
 		return -1;
 	for (nfds_t i = 0; i < a->count; i++)
 		if (a->asked[i].revents & POLLNVAL)
 			return names_answer(-EBADF);
-	int ready = fill_set(reads, a, POLLIN, POLLIN | POLLHUP | POLLERR);
-	ready += fill_set(writes, a, POLLOUT, POLLOUT | POLLERR);
-	return ready + fill_set(others, a, POLLPRI, POLLPRI);
+	int ready = fill_set(reads, count, a, POLLIN, POLLIN | POLLHUP | POLLERR);
+	ready += fill_set(writes, count, a, POLLOUT, POLLOUT | POLLERR);
+	return ready + fill_set(others, count, a, POLLPRI, POLLPRI);
 }
 
 /* As the kernel, this leaves in `time` what is left of it. */
@@ -282,7 +283,7 @@ PUBLIC int select(int count, fd_set *reads, fd_set *writes, fd_set *others, stru
 		return left ? names_answer(-EINTR) : 0;
 	}
 	uint64_t end = time_after(nanoseconds);
-	int result = select_ours(&a, reads, writes, others, nanoseconds, NULL);
+	int result = select_ours(count, &a, reads, writes, others, nanoseconds, NULL);
 	same = clocks_time(end > device->client_now ? end - device->client_now : 0);
 	if (time)
 		*time = (struct timeval){ same.tv_sec, same.tv_nsec / 1000 };
@@ -297,7 +298,7 @@ PUBLIC int pselect(int count, fd_set *reads, fd_set *writes, fd_set *others, con
 	int64_t nanoseconds = clocks_nanoseconds(time);
 	struct ask a = find_ask(asked, members_of(asked, count, reads, writes, others));
 	if (is_ours(&a, nanoseconds))
-		return select_ours(&a, reads, writes, others, nanoseconds, signals);
+		return select_ours(count, &a, reads, writes, others, nanoseconds, signals);
 	int64_t left = !count && time && !signals ? signals_sleep(nanoseconds) : SLEEP_IS_REAL;
 	if (left == SLEEP_IS_REAL)
 		return REAL(pselect)(count, reads, writes, others, time, signals);

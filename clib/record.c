@@ -3,11 +3,13 @@
  * text it is a job for `comedi replay`. Notes are comments there.
  */
 #define _GNU_SOURCE
+#include "descriptors.h"
 #include "server.h"
 #include <fcntl.h>
 #include <stdarg.h>
 #include <stdio.h>
 #include <string.h>
+#include <sys/syscall.h>
 #include <unistd.h>
 
 static int record = -1;
@@ -23,14 +25,10 @@ void record_begin_child(void)
 
 void record_open(const char *path)
 {
-	record = keep_away(open(path, O_WRONLY | O_CREAT | O_TRUNC | O_APPEND | O_CLOEXEC, 0666));
+	record = keep_away(syscall(SYS_openat, AT_FDCWD, path, O_WRONLY | O_CREAT | O_TRUNC | O_APPEND | O_CLOEXEC, 0666));
 	if (record < 0)
 		perror(path);
-}
-
-int record_owns(int descriptor)
-{
-	return record >= 0 && descriptor == record;
+	descriptors_protect(&record);
 }
 
 void record_flush(void)

@@ -7,6 +7,7 @@
  * and `write` of its standard output.
  */
 #define _GNU_SOURCE
+#include "descriptors.h"
 #include "device.h"
 #include "server.h"
 #include <errno.h>
@@ -22,8 +23,6 @@
 #include <sys/time.h>
 #include <unistd.h>
 
-/* descriptors of the device are kept away from the numbers that clients use */
-#define FIRST_DESCRIPTOR 240
 /* bytes of a ring: a power of two, since its bytes are counted on and on */
 #define SIZE (1u << 15)
 /* how long memory is looked at before a sleep, in nanoseconds of the wall clock: as long as the answer of a large read takes */
@@ -59,16 +58,6 @@ static unsigned pause_length, pause_left;
 static int stands_for[2];
 static cpu_set_t allowed;
 
-/* Moves a descriptor away from the numbers that clients use. */
-int keep_away(int descriptor)
-{
-	int away = descriptor < 0 ? -1 : fcntl(descriptor, F_DUPFD_CLOEXEC, FIRST_DESCRIPTOR);
-	if (away < 0)
-		return descriptor;
-	syscall(SYS_close, descriptor);
-	return away;
-}
-
 static int map(int memory)
 {
 	void *place = mmap(NULL, sizeof *rings, PROT_READ | PROT_WRITE, MAP_SHARED, memory, 0);
@@ -87,6 +76,7 @@ int rings_make(int *socket, int *memory)
 	if (socketpair(AF_UNIX, SOCK_STREAM | SOCK_CLOEXEC, 0, pair))
 		return -errno;
 	channel = keep_away(pair[0]);
+	descriptors_protect(&channel);
 	*socket = keep_away(pair[1]);
 	*memory = keep_away(memfd_create("comedi-lines", MFD_CLOEXEC));
 	setsockopt(channel, SOL_SOCKET, SO_RCVTIMEO, &silence, sizeof silence);
@@ -258,11 +248,6 @@ ssize_t rings_write(const char *from, size_t length)
 		move(own, other, at + count);
 	}
 	return length;
-}
-
-int server_owns(int descriptor)
-{
-	return descriptor >= 0 && descriptor == channel && !rings_stand_for(descriptor);
 }
 
 /* Whether the program has ended: then nothing is answered any more. */

@@ -14,12 +14,10 @@ const char *program_path(void);
 const char *program_library(void);
 
 /* rings.c: the bytes between the device and the program. */
-int keep_away(int descriptor);
 int rings_make(int *socket, int *memory);
 int rings_stand_for(int descriptor);
 ssize_t rings_read(char *to, size_t most);
 ssize_t rings_write(const char *from, size_t length);
-int server_owns(int descriptor);
 int server_is_lost(void);
 void server_lose(void);
 
@@ -46,7 +44,6 @@ int answer_says(const char *word);
 
 /* record.c */
 void record_open(const char *path);
-int record_owns(int descriptor);
 void record_begin_child(void);
 void record_line(const char *text, size_t length);
 void record_flush(void);

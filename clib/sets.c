@@ -4,6 +4,7 @@
  */
 #define _GNU_SOURCE
 #include "clocks.h"
+#include "descriptors.h"
 #include "device.h"
 #include "names.h"
 #include <errno.h>
@@ -35,34 +36,52 @@ static int add(int set, int descriptor, const struct epoll_event *event)
 	return -ENOSPC;
 }
 
-/* A descriptor was closed: it is no member and no set any more. */
-void sets_forget(int descriptor)
+/* A number is no set any more. */
+void sets_forget(int set)
 {
 	for (int i = 0; i < MOST_MEMBERS; i++)
-		if (members[i].set == descriptor || members[i].descriptor == descriptor)
+		if (members[i].set == set)
 			members[i].is_there = 0;
+}
+
+/* A number is no file of the device any more, and so no member. */
+void sets_forget_member(int descriptor)
+{
+	for (int i = 0; i < MOST_MEMBERS; i++)
+		if (members[i].descriptor == descriptor)
+			members[i].is_there = 0;
+}
+
+/* Adds, changes or takes out a member, within the lock of the descriptors. */
+static int change_member(int set, int what, int descriptor, const struct epoll_event *event)
+{
+	struct member *m = find(set, descriptor);
+	if (what == EPOLL_CTL_ADD)
+		return m ? -EEXIST : add(set, descriptor, event);
+	if (what != EPOLL_CTL_DEL && what != EPOLL_CTL_MOD)
+		return -EINVAL;
+	if (!m)
+		return -ENOENT;
+	if (what == EPOLL_CTL_DEL)
+		m->is_there = 0;
+	else
+		m->event = *event;
+	return 0;
 }
 
 static int change(int set, int what, int descriptor, const struct epoll_event *event)
 {
-	struct member *m = find(set, descriptor);
-	if (what == EPOLL_CTL_DEL && m)
-		m->is_there = 0;
-	if (what == EPOLL_CTL_DEL)
-		return m ? 0 : -ENOENT;
-	if (!event)
+	struct quiet quiet;
+	if (what != EPOLL_CTL_DEL && !event)
 		return -EFAULT;
-	if (event->events & EPOLLET) {
+	if (what != EPOLL_CTL_DEL && event->events & EPOLLET) {
 		fprintf(stderr, "zendrouz: EPOLLET isn't there for the device file\n");
 		return -EPERM;
 	}
-	if (what == EPOLL_CTL_ADD)
-		return m ? -EEXIST : add(set, descriptor, event);
-	if (what != EPOLL_CTL_MOD)
-		return -EINVAL;
-	if (m)
-		m->event = *event;
-	return m ? 0 : -ENOENT;
+	descriptors_enter(&quiet);
+	int result = change_member(set, what, descriptor, event);
+	descriptors_leave(&quiet);
+	return result;
 }
 
 PUBLIC int epoll_ctl(int set, int what, int descriptor, struct epoll_event *event)
@@ -76,47 +95,58 @@ PUBLIC int epoll_ctl(int set, int what, int descriptor, struct epoll_event *even
 }
 
 /* The set itself, and the device's members of it. Answers how many there are. */
-static int ask_of(int set, struct pollfd *asked, struct member **which)
+static int ask_of(int set, struct pollfd *asked)
 {
+	struct quiet quiet;
 	int count = 1;
 	asked[0] = (struct pollfd){ set, POLLIN, 0 };
+	descriptors_enter(&quiet);
 	for (int i = 0; i < MOST_MEMBERS; i++)
-		if (members[i].is_there && members[i].set == set) {
-			which[count] = members + i;
+		if (members[i].is_there && members[i].set == set)
 			asked[count++] = (struct pollfd){ members[i].descriptor, members[i].event.events & (EPOLLIN | EPOLLOUT), 0 };
-		}
+	descriptors_leave(&quiet);
 	return count;
 }
 
-/* The events of what was found ready. */
-static int take_events(const struct pollfd *asked, int count, struct member **which, struct epoll_event *events, int most)
+/* The events of the device's members that were found ready. Another thread may have taken one out meanwhile. */
+static int take_own_events(const struct pollfd *asked, int count, struct epoll_event *events, int most)
 {
+	struct quiet quiet;
 	int done = 0;
-	for (int i = 1; i < count && done < most; i++)
-		if (asked[i].revents) {
-			events[done] = which[i]->event;
-			events[done++].events = asked[i].revents;
-			if (which[i]->event.events & EPOLLONESHOT)
-				which[i]->event.events = EPOLLONESHOT;
-		}
-	if (asked[0].revents && done < most) {
-		int others = REAL(epoll_wait)(asked[0].fd, events + done, most - done, 0);
-		done += others > 0 ? others : 0;
+	descriptors_enter(&quiet);
+	for (int i = 1; i < count && done < most; i++) {
+		struct member *m = asked[i].revents ? find(asked[0].fd, asked[i].fd) : NULL;
+		if (!m)
+			continue;
+		events[done] = m->event;
+		events[done++].events = asked[i].revents;
+		if (m->event.events & EPOLLONESHOT)
+			m->event.events = EPOLLONESHOT;
 	}
+	descriptors_leave(&quiet);
 	return done;
+}
+
+/* The events of what was found ready, or -1 where there is no such set. */
+static int take_events(const struct pollfd *asked, int count, struct epoll_event *events, int most)
+{
+	int done = take_own_events(asked, count, events, most);
+	if (!asked[0].revents || done == most)
+		return done;
+	int others = REAL(epoll_wait)(asked[0].fd, events + done, most - done, 0);
+	return done ? done + (others > 0 ? others : 0) : others;
 }
 
 /* A poll of the device's members, and of the set itself for the others. Another thread may take what was found there. */
 static int poll_members(int set, struct epoll_event *events, int most, int64_t nanoseconds)
 {
 	struct pollfd asked[MOST_MEMBERS + 1];
-	struct member *which[MOST_MEMBERS + 1];
 	uint64_t end = time_after(nanoseconds);
 	for (;;) {
-		int count = ask_of(set, asked, which);
+		int count = ask_of(set, asked);
 		if (polls_wait(asked, count, nanoseconds) < 0)
 			return -1;
-		int done = take_events(asked, count, which, events, most);
+		int done = take_events(asked, count, events, most);
 		if (done || !asked[0].revents)
 			return done;
 		if (end != NEVER)
@@ -124,13 +154,23 @@ static int poll_members(int set, struct epoll_event *events, int most, int64_t n
 	}
 }
 
+static int has_members(int set)
+{
+	struct quiet quiet;
+	int has = 0;
+	descriptors_enter(&quiet);
+	for (int i = 0; i < MOST_MEMBERS; i++)
+		has |= members[i].is_there && members[i].set == set;
+	descriptors_leave(&quiet);
+	return has;
+}
+
 /* Whether a wait of a set is for the board, or takes its time. */
 static int is_ours(int set, int most, int64_t nanoseconds)
 {
-	for (int i = 0; i < MOST_MEMBERS; i++)
-		if (members[i].is_there && members[i].set == set)
-			return most > 0;
-	return most > 0 && time_is_shown() && (nanoseconds > 0 || timers_are_in(set));
+	if (!device || most <= 0 || set < 0)
+		return 0;
+	return has_members(set) || (time_is_shown() && (nanoseconds > 0 || timers_are_in(set)));
 }
 
 /* A wait with a mask of signals: one that waits already ends it at once. */

@@ -6,6 +6,7 @@
  */
 #define _GNU_SOURCE
 #include "clocks.h"
+#include "descriptors.h"
 #include "device.h"
 #include "names.h"
 #include <errno.h>
@@ -34,7 +35,7 @@ static int ends_waits(int number)
 /* Sends the signal, where a descriptor wants one, since something came while a call waited. */
 void signals_send(void)
 {
-	int descriptor = time_is_board_time() ? names_asynchronous() : -1;
+	int descriptor = time_is_board_time() ? descriptors_asynchronous() : -1;
 	if (descriptor >= 0)
 		raise(signal_of(descriptor));
 }
@@ -51,7 +52,7 @@ static int find_samples(int descriptor, uint64_t until, uint64_t *time)
 /* A wait as turns_wait, which the signal ends with -EINTR. */
 int signals_wait(uint64_t end, const struct wait *wait)
 {
-	int descriptor = names_asynchronous();
+	int descriptor = descriptors_asynchronous();
 	uint64_t next;
 	if (descriptor >= 0 && find_samples(descriptor, end, &next)) {
 		int number = signal_of(descriptor), ends = ends_waits(number), result = turns_wait(next, wait);
@@ -93,7 +94,7 @@ int signals_exchange(const sigset_t *mask, sigset_t *old)
 /* Waits for a signal up to the next samples. Answers 0 where none can come from the device. */
 static int wait_for_signal(void)
 {
-	int descriptor = time_is_board_time() ? names_asynchronous() : -1;
+	int descriptor = time_is_board_time() ? descriptors_asynchronous() : -1;
 	uint64_t next;
 	if (descriptor < 0 || !ends_waits(signal_of(descriptor)))
 		return 0;
@@ -114,7 +115,7 @@ PUBLIC int pause(void)
 PUBLIC int sigsuspend(const sigset_t *mask)
 {
 	sigset_t old;
-	if (!time_is_board_time() || names_asynchronous() < 0)
+	if (!time_is_board_time() || descriptors_asynchronous() < 0)
 		return REAL(sigsuspend)(mask);
 	int done = signals_exchange(mask, &old) || wait_for_signal();
 	pthread_sigmask(SIG_SETMASK, &old, NULL);

@@ -1,0 +1,304 @@
+/*
+ * The table of descriptors: what each of the client's numbers is to this library, a file of the device or a timer. One lock
+ * guards it, and with it the timers (timers.c) and the members of sets (sets.c). Nothing else is locked under that lock,
+ * nothing interrupts a thread that holds it (quiet.c), and none holds it while the client makes a child (forks.c).
+ *
+ * A client can close a number in ways that this library doesn't see, by a system call or within the C library. Then the
+ * system gives the number to another file. So the table alone is never believed of a file of the device: its descriptor is
+ * a socket that is connected to nobody, with an inode that no other file has, and the kernel says by it whether the number
+ * is still this file. What reaches the kernel past this library fails, since a read and a write of such a socket do. A poll
+ * made so finds it ready, so that it doesn't wait for ever but leads to a read that fails.
+ */
+#define _GNU_SOURCE
+#include "descriptors.h"
+#include "device.h"
+#include "names.h"
+#include <errno.h>
+#include <fcntl.h>
+#include <sys/socket.h>
+#include <sys/stat.h>
+#include <sys/syscall.h>
+#include <unistd.h>
+
+/* descriptors of the device are kept away from the numbers that clients use */
+#define FIRST_PRIVATE 240
+#define MOST_PRIVATE 4
+/* how a word of the table is laid out: a kind, the index of the file or of the timer, and the inode of the file */
+#define BITS_OF_KIND 2
+#define BITS_OF_INDEX 6
+#define BITS_OF_BOTH (BITS_OF_KIND + BITS_OF_INDEX)
+
+enum kind { NOTHING, FILE_OF_DEVICE, TIMER };
+
+/* It is written under the lock, and a word of it is read without. Beyond `used` words nothing was ever written. */
+static uint64_t table[DESCRIPTORS];
+static int used;
+/* those that want a signal where samples come, and how many do */
+static unsigned char asynchronous[DESCRIPTORS];
+static int waiting_for_signals;
+/* whose numbers these are: a child made by vfork has this memory, and numbers of its own */
+static pid_t process;
+/* files of the session whose last number went without a close */
+static unsigned lost;
+static pthread_mutex_t lock = PTHREAD_MUTEX_INITIALIZER;
+/* where this library's own descriptors stand */
+static int *privates[MOST_PRIVATE];
+
+void descriptors_hold(void)
+{
+	pthread_mutex_lock(&lock);
+}
+
+void descriptors_let_go(void)
+{
+	pthread_mutex_unlock(&lock);
+}
+
+void descriptors_enter(struct quiet *quiet)
+{
+	quiet_begin(quiet);
+	descriptors_hold();
+}
+
+void descriptors_leave(const struct quiet *quiet)
+{
+	descriptors_let_go();
+	quiet_end(quiet);
+}
+
+/* Called in a child made by fork: the numbers are its own now, and what its parent has lost the parent closes. */
+void descriptors_begin_child(void)
+{
+	process = getpid();
+	lost = 0;
+}
+
+__attribute__((constructor)) static void begin(void)
+{
+	process = getpid();
+}
+
+/* Whether this process has the numbers of the table. */
+int descriptors_are_ours(void)
+{
+	return getpid() == process;
+}
+
+static uint64_t word_of(int descriptor)
+{
+	return descriptor >= 0 && descriptor < DESCRIPTORS ? __atomic_load_n(table + descriptor, __ATOMIC_ACQUIRE) : NOTHING;
+}
+
+static enum kind kind_of(uint64_t word)
+{
+	return word & ((1 << BITS_OF_KIND) - 1);
+}
+
+static int index_of(uint64_t word)
+{
+	return word >> BITS_OF_KIND & ((1 << BITS_OF_INDEX) - 1);
+}
+
+static uint64_t word_with(enum kind kind, int index, uint64_t inode)
+{
+	return inode << BITS_OF_BOTH | (uint64_t)index << BITS_OF_KIND | kind;
+}
+
+/* The inode of a socket, or 0 where a descriptor is none. The kernel is asked, and errno isn't changed. */
+static uint64_t inode_of(int descriptor)
+{
+	struct stat state;
+	int error = errno, is_socket = !syscall(SYS_fstat, descriptor, &state) && S_ISSOCK(state.st_mode);
+	errno = error;
+	return is_socket ? state.st_ino : 0;
+}
+
+static int is_as_written(int descriptor, uint64_t word)
+{
+	return inode_of(descriptor) == word >> BITS_OF_BOTH;
+}
+
+static void write_word(int descriptor, uint64_t word)
+{
+	if (descriptor >= used)
+		__atomic_store_n(&used, descriptor + 1, __ATOMIC_RELEASE);
+	__atomic_store_n(table + descriptor, word, __ATOMIC_RELEASE);
+}
+
+static void want_signals(int descriptor, int wants)
+{
+	__atomic_add_fetch(&waiting_for_signals, wants - asynchronous[descriptor], __ATOMIC_SEQ_CST);
+	asynchronous[descriptor] = wants;
+}
+
+/* Whether a file of the session has a number. */
+static int has_number(int file)
+{
+	for (int i = 0; i < used; i++)
+		if (kind_of(table[i]) == FILE_OF_DEVICE && index_of(table[i]) == file)
+			return 1;
+	return 0;
+}
+
+/* Takes what the table has of a number, under the lock. Answers the file of the session that has no number any more. */
+static int take_out(int descriptor)
+{
+	uint64_t word = word_of(descriptor);
+	if (kind_of(word) == NOTHING)
+		return NO_FILE;
+	write_word(descriptor, NOTHING);
+	if (kind_of(word) == TIMER) {
+		timers_forget(index_of(word));
+		return NO_FILE;
+	}
+	want_signals(descriptor, 0);
+	sets_forget_member(descriptor);
+	return has_number(index_of(word)) ? NO_FILE : index_of(word);
+}
+
+/* A number goes, or is another file's from now on. Answers the file of the session that has none any more, if any. */
+int descriptors_forget(int descriptor)
+{
+	struct quiet quiet;
+	descriptors_enter(&quiet);
+	int file = take_out(descriptor);
+	timers_forget_set(descriptor);
+	sets_forget(descriptor);
+	descriptors_leave(&quiet);
+	return file;
+}
+
+/* A number isn't what its word says: it was closed where this library didn't see it. */
+static void lose(int descriptor, uint64_t word)
+{
+	struct quiet quiet;
+	descriptors_enter(&quiet);
+	if (word_of(descriptor) == word) {
+		int file = take_out(descriptor);
+		lost |= file == NO_FILE ? 0 : 1u << file;
+	}
+	descriptors_leave(&quiet);
+}
+
+/* Answers the file of the session that a number is, or NO_FILE. */
+int descriptors_file(int descriptor)
+{
+	uint64_t word = word_of(descriptor);
+	if (kind_of(word) != FILE_OF_DEVICE)
+		return NO_FILE;
+	if (is_as_written(descriptor, word))
+		return index_of(word);
+	if (descriptors_are_ours())
+		lose(descriptor, word);
+	return NO_FILE;
+}
+
+/* Looks at all numbers. Answers the files of the session that were lost since this was last asked, a bit for each. */
+unsigned descriptors_take_lost(void)
+{
+	for (int i = 0; i < __atomic_load_n(&used, __ATOMIC_ACQUIRE); i++)
+		descriptors_file(i);
+	return __atomic_exchange_n(&lost, 0, __ATOMIC_SEQ_CST);
+}
+
+/* Answers the index of the timer that a number is, or NO_TIMER. */
+int descriptors_timer(int descriptor)
+{
+	uint64_t word = word_of(descriptor);
+	return kind_of(word) == TIMER ? index_of(word) : NO_TIMER;
+}
+
+/* Makes a descriptor for a file of the session. Answers its number, or a negative error number. */
+int descriptors_make(int file, int flags)
+{
+	struct quiet quiet;
+	int descriptor = socket(AF_UNIX, SOCK_STREAM | (flags & O_CLOEXEC ? SOCK_CLOEXEC : 0) | (flags & O_NONBLOCK ? SOCK_NONBLOCK : 0), 0);
+	if (descriptor < 0)
+		return -errno;
+	if (descriptor >= DESCRIPTORS) {
+		REAL(close)(descriptor);
+		return -EMFILE;
+	}
+	descriptors_enter(&quiet);
+	write_word(descriptor, word_with(FILE_OF_DEVICE, file, inode_of(descriptor)));
+	descriptors_leave(&quiet);
+	return descriptor;
+}
+
+/* A number is a timer from now on, within the lock. */
+void descriptors_put_timer(int descriptor, int index)
+{
+	if (descriptor < DESCRIPTORS)
+		write_word(descriptor, word_with(TIMER, index, 0));
+}
+
+/* A number was made of another one, and is the same file. */
+void descriptors_double(int old, int new)
+{
+	struct quiet quiet;
+	uint64_t word = descriptors_file(old) == NO_FILE ? NOTHING : word_of(old);
+	if (new < 0 || new >= DESCRIPTORS || kind_of(word) == NOTHING)
+		return;
+	descriptors_enter(&quiet);
+	write_word(new, word);
+	descriptors_leave(&quiet);
+}
+
+/* Asks the kernel whether a file of the device wants a signal where samples come. */
+void descriptors_note_signals(int descriptor)
+{
+	struct quiet quiet;
+	int flags = REAL(fcntl)(descriptor, F_GETFL);
+	descriptors_enter(&quiet);
+	if (flags >= 0 && kind_of(word_of(descriptor)) == FILE_OF_DEVICE)
+		want_signals(descriptor, (flags & O_ASYNC) != 0);
+	descriptors_leave(&quiet);
+}
+
+/* The first descriptor of the device that wants signals, or -1. */
+int descriptors_asynchronous(void)
+{
+	for (int i = 0; waiting_for_signals && i < __atomic_load_n(&used, __ATOMIC_ACQUIRE); i++)
+		if (asynchronous[i] && descriptors_file(i) != NO_FILE)
+			return i;
+	return -1;
+}
+
+/* Moves a descriptor of this library away from the numbers that clients use. */
+int keep_away(int descriptor)
+{
+	int away = descriptor < 0 ? -1 : REAL(fcntl)(descriptor, F_DUPFD_CLOEXEC, FIRST_PRIVATE);
+	if (away < 0)
+		return descriptor;
+	syscall(SYS_close, descriptor);
+	return away;
+}
+
+/* What stands at a place is a descriptor of this library from now on. The client can't close it. */
+void descriptors_protect(int *place)
+{
+	for (int i = 0; i < MOST_PRIVATE; i++)
+		if (!privates[i] || privates[i] == place) {
+			privates[i] = place;
+			return;
+		}
+}
+
+int descriptors_are_private(int descriptor)
+{
+	for (int i = 0; i < MOST_PRIVATE && descriptor >= 0; i++)
+		if (privates[i] && *privates[i] == descriptor)
+			return 1;
+	return 0;
+}
+
+/* A client is about to take a number of this library's by dup2, which it may. Within the device. */
+void descriptors_make_way(int descriptor)
+{
+	for (int i = 0; i < MOST_PRIVATE; i++)
+		if (privates[i] && *privates[i] == descriptor) {
+			int away = REAL(fcntl)(descriptor, F_DUPFD_CLOEXEC, FIRST_PRIVATE);
+			if (away >= 0)
+				*privates[i] = away;
+		}
+}

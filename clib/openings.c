@@ -1,0 +1,201 @@
+/*
+ * The C library's names by which descriptors come and go. Those of the device are counted: a file of the session is closed
+ * with the last of its descriptors. The library's own descriptors stay.
+ */
+#define _GNU_SOURCE
+#include "descriptors.h"
+#include "device.h"
+#include "names.h"
+#include <errno.h>
+#include <fcntl.h>
+#include <limits.h>
+#include <linux/close_range.h>
+#include <stdarg.h>
+#include <stdio.h>
+#include <sys/epoll.h>
+#include <unistd.h>
+
+static int open_device(const char *path, int flags)
+{
+	int file = device_open(path);
+	if (file < 0)
+		return names_answer(file);
+	int descriptor = descriptors_make(file, flags);
+	if (descriptor < 0)
+		device_close(file);
+	return names_answer(descriptor);
+}
+
+/* A number goes, and with the last one its file. A child made by vfork has numbers of its own, and changes nothing here. */
+static void forget(int descriptor)
+{
+	int file = descriptors_are_ours() ? descriptors_forget(descriptor) : NO_FILE;
+	if (file != NO_FILE)
+		device_close(file);
+}
+
+/* A number that the system has just given. If the device had it, it was closed past these names. */
+int openings_fresh(int descriptor)
+{
+	if (descriptor >= 0)
+		forget(descriptor);
+	return descriptor;
+}
+
+static int mode_of(int flags, va_list values)
+{
+	return flags & O_CREAT || (flags & O_TMPFILE) == O_TMPFILE ? va_arg(values, int) : 0;
+}
+
+#define OPEN(name) \
+	PUBLIC int name(const char *path, int flags, ...) \
+	{ \
+		va_list values; \
+		va_start(values, flags); \
+		int mode = mode_of(flags, values); \
+		va_end(values); \
+		return device_serves(path) ? open_device(path, flags) : openings_fresh(REAL(name)(path, flags, mode)); \
+	}
+#define OPEN_AT(name) \
+	PUBLIC int name(int folder, const char *path, int flags, ...) \
+	{ \
+		va_list values; \
+		va_start(values, flags); \
+		int mode = mode_of(flags, values); \
+		va_end(values); \
+		return device_serves(path) ? open_device(path, flags) : openings_fresh(REAL(name)(folder, path, flags, mode)); \
+	}
+
+OPEN(open)
+OPEN(open64)
+OPEN_AT(openat)
+OPEN_AT(openat64)
+
+PUBLIC int __open_2(const char *path, int flags)
+{
+	return open(path, flags);
+}
+
+PUBLIC int __open64_2(const char *path, int flags)
+{
+	return open(path, flags);
+}
+
+PUBLIC int __openat_2(int folder, const char *path, int flags)
+{
+	return openat(folder, path, flags);
+}
+
+PUBLIC int __openat64_2(int folder, const char *path, int flags)
+{
+	return openat(folder, path, flags);
+}
+
+PUBLIC int epoll_create(int size)
+{
+	return openings_fresh(REAL(epoll_create)(size));
+}
+
+PUBLIC int epoll_create1(int flags)
+{
+	return openings_fresh(REAL(epoll_create1)(flags));
+}
+
+PUBLIC int close(int descriptor)
+{
+	if (descriptors_are_private(descriptor) && descriptors_are_ours())
+		return names_answer(-EBADF);
+	forget(descriptor);
+	return REAL(close)(descriptor);
+}
+
+/* Closes a stream. The C library closes its descriptor itself. */
+PUBLIC int fclose(FILE *stream)
+{
+	int descriptor = fileno(stream), result = REAL(fclose)(stream);
+	if (descriptor >= 0)
+		forget(descriptor);
+	return result;
+}
+
+/* Closes a range of numbers but those of this library. */
+static int close_all_but_ours(unsigned first, unsigned last, int flags)
+{
+	int result = 0;
+	unsigned end = last < DESCRIPTORS ? last : DESCRIPTORS - 1;
+	for (unsigned i = first; i <= end && !result; i++)
+		if (descriptors_are_private(i)) {
+			result = i > first ? REAL(close_range)(first, i - 1, flags) : 0;
+			first = i + 1;
+		} else
+			forget(i);
+	return result || first > last ? result : REAL(close_range)(first, last, flags);
+}
+
+PUBLIC int close_range(unsigned first, unsigned last, int flags)
+{
+	if (flags & CLOSE_RANGE_CLOEXEC || first > last || !descriptors_are_ours())
+		return REAL(close_range)(first, last, flags);
+	return close_all_but_ours(first, last, flags);
+}
+
+PUBLIC void closefrom(int first)
+{
+	if (!descriptors_are_ours() || close_all_but_ours(first < 0 ? 0 : first, UINT_MAX, 0))
+		REAL(closefrom)(first);
+}
+
+/* A descriptor was made of another one. */
+static int doubled(int old, int new)
+{
+	if (new < 0 || new == old || !descriptors_are_ours())
+		return new;
+	forget(new);
+	descriptors_double(old, new);
+	return new;
+}
+
+/* A number is about to be another file's. If this library has it, it moves. */
+static void make_way(int descriptor)
+{
+	if (!descriptors_are_private(descriptor) || !descriptors_are_ours())
+		return;
+	device_enter();
+	descriptors_make_way(descriptor);
+	device_leave();
+}
+
+PUBLIC int dup(int old)
+{
+	return doubled(old, REAL(dup)(old));
+}
+
+PUBLIC int dup2(int old, int new)
+{
+	make_way(new);
+	return doubled(old, REAL(dup2)(old, new));
+}
+
+PUBLIC int dup3(int old, int new, int flags)
+{
+	make_way(new);
+	return doubled(old, REAL(dup3)(old, new, flags));
+}
+
+#define FCNTL(name) \
+	PUBLIC int name(int descriptor, int what, ...) \
+	{ \
+		va_list values; \
+		va_start(values, what); \
+		void *argument = va_arg(values, void *); \
+		va_end(values); \
+		int result = REAL(name)(descriptor, what, argument); \
+		if (what == F_DUPFD || what == F_DUPFD_CLOEXEC) \
+			return doubled(descriptor, result); \
+		if (what == F_SETFL && descriptors_file(descriptor) != NO_FILE) \
+			descriptors_note_signals(descriptor); \
+		return result; \
+	}
+
+FCNTL(fcntl)
+FCNTL(fcntl64)
