@@ -133,24 +133,6 @@ int buffer_map(int file, int number)
 	return result ? (result == -EINVAL ? 0 : result) : fill_memory(file, number, &counts);
 }
 
-/* Gives up to so many samples back: the session reads them. Answers how many. */
-static int release_samples(int file, int number, uint64_t asked)
-{
-	uint32_t samples[SAMPLES_OF_A_LINE];
-	unsigned line = scans_of_line(&device->subdevice[number], SAMPLES_OF_A_LINE);
-	uint64_t done = 0;
-	while (done < asked) {
-		unsigned most = asked - done < line ? asked - done : line;
-		int count = take_samples(file, number, most, samples);
-		if (count < 0)
-			return done || count == -EAGAIN ? (int)done : count;
-		done += count;
-		if ((unsigned)count < most)
-			break;
-	}
-	return done;
-}
-
 /* Marks up to so many words of the memory as written, from the count of written ones on. Answers how many. */
 static int mark_words(int file, int number, uint64_t written, uint64_t asked)
 {
@@ -172,12 +154,14 @@ static int mark_words(int file, int number, uint64_t written, uint64_t asked)
 	return done;
 }
 
+/* The counts in bytes, with those of a sample that the client has moved a part of. */
 static void put_counts(const struct subdevice *s, const struct counts *counts, comedi_bufinfo *info)
 {
-	info->buf_read_count = counts->read * s->sample_bytes;
-	info->buf_write_count = counts->written * s->sample_bytes;
-	info->buf_read_ptr = counts->read % s->buffer * s->sample_bytes;
-	info->buf_write_ptr = counts->written % s->buffer * s->sample_bytes;
+	int is_input = board_is_input(s);
+	info->buf_read_count = counts->read * s->sample_bytes + (is_input ? s->part : 0);
+	info->buf_write_count = counts->written * s->sample_bytes + (is_input ? 0 : s->part);
+	info->buf_read_ptr = counts->read % s->buffer * s->sample_bytes + (is_input ? s->part : 0);
+	info->buf_write_ptr = counts->written % s->buffer * s->sample_bytes + (is_input ? 0 : s->part);
 }
 
 /* An input: samples are given back, and where nothing is left of a command that ended, its end is reported. A command
@@ -185,17 +169,18 @@ static void put_counts(const struct subdevice *s, const struct counts *counts, c
 static int input_info(int file, int number, comedi_bufinfo *info, struct counts *counts)
 {
 	struct subdevice *s = &device->subdevice[number];
-	int released = 0;
+	ssize_t released = 0;
 	if (info->bytes_read && counts->written > counts->read) {
-		uint64_t asked = info->bytes_read / s->sample_bytes, there = counts->written - counts->read;
-		released = release_samples(file, number, asked < there ? asked : there);
-		int result = released < 0 ? released : ask_counts(file, number, counts);
+		uint64_t there = (counts->written - counts->read) * s->sample_bytes - s->part;
+		released = stream_take(file, number, NULL, info->bytes_read < there ? info->bytes_read : there);
+		released = released == -EAGAIN ? 0 : released;
+		int result = released < 0 ? (int)released : ask_counts(file, number, counts);
 		if (result)
 			return result;
 	}
 	int failed = answer_says("overrun") || answer_says("fifo");
 	int ended = (failed || answer_says(" done") || answer_says(" dry")) && counts->written == counts->read;
-	info->bytes_read = released * s->sample_bytes;
+	info->bytes_read = released;
 	info->bytes_written = 0;
 	put_counts(s, counts, info);
 	if (ended && !(failed && released)) {

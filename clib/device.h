@@ -49,6 +49,10 @@ struct subdevice {
 	 * has given and the session not taken. They are a part of such a piece, or what the client couldn't take */
 	unsigned rests;
 	uint32_t rest[SAMPLES_OF_A_LINE + MOST_ENTRIES / 16];
+	/* a client may move a part of a sample: how many bytes an input has given of its first rest, or how many an output has
+	 * got of its next sample, and these bytes */
+	unsigned part;
+	char part_bytes[sizeof(lsampl_t)];
 	/* the memory that clients map, where it starts in the file of all such memory, whether anyone has mapped it, and
 	 * up to which sample it is filled */
 	void *memory;
@@ -132,6 +136,7 @@ int device_ioctl(int file, unsigned long request, void *argument);
 ssize_t device_read(int file, void *to, size_t bytes, int waits);
 ssize_t device_write(int file, const void *from, size_t bytes, int waits);
 int take_samples(int file, int number, unsigned most, uint32_t *samples);
+ssize_t stream_take(int file, int number, char *to, size_t bytes);
 int stream_ready_to_read(int file);
 int stream_ready_to_write(int file);
 int stream_next_time(int file, int reads, int writes, uint64_t *time);
@@ -151,6 +156,7 @@ int scans_can_fetch(int number);
 int scans_fetch(int file, int number, uint32_t *sample);
 void scans_give_back(struct subdevice *s, unsigned count, const uint32_t *samples);
 int scans_put(int file, int number, unsigned count, const uint32_t *samples);
+int scans_end(int file, int number);
 int scans_map(int file, int number, uint64_t count);
 int scans_peek(int file, int number, uint64_t from, uint32_t *samples);
 int scans_release(int file, int number, unsigned count);

@@ -40,17 +40,21 @@ static int range_information(const void *argument)
 	return copy_in(&asked, argument, sizeof asked) ? -EFAULT : board_ranges(&asked);
 }
 
-/* A command or its test: the command that the test answers comes back, but for its list. */
+/* A command or its test. What the test leaves of the command comes back, but for its list. A command that is taken is
+ * only read: it may be in memory that can't be written. */
 static int command_call_or_test(int file, unsigned request, void *argument)
 {
 	comedi_cmd command;
 	if (copy_in(&command, argument, sizeof command))
 		return -EFAULT;
 	int result = request == COMEDI_CMD ? command_call(file, &command) : command_test(&command);
-	if (result >= 0 || result == -EAGAIN)
-		if (copy_out(argument, &command, sizeof command))
-			return -EFAULT;
-	return result;
+	if (request == COMEDI_CMD && result != -EAGAIN)
+		return result;
+	if (request == COMEDI_CMD)
+		command.data = NULL;
+	if (result < 0 && result != -EAGAIN)
+		return result;
+	return copy_out(argument, &command, sizeof command) ? -EFAULT : result;
 }
 
 static int instruction_call(int file, unsigned request, const void *argument)
@@ -112,7 +116,8 @@ static int poll_call(int file, unsigned number)
 		return -EBUSY;
 	if (result)
 		return kernel_result(CALL_BUFFER, result);
-	return (counts.written - counts.read) * device->subdevice[number].sample_bytes;
+	const struct subdevice *s = &device->subdevice[number];
+	return (counts.written - counts.read) * s->sample_bytes - (board_is_input(s) ? s->part : 0);
 }
 
 /* Which subdevice read and write of a file are for. */

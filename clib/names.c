@@ -35,6 +35,12 @@ long names_answer(long result)
 	return -1;
 }
 
+/* Whether a request is one that the kernel answers itself, before it asks the driver of a file. */
+static int is_of_any_file(unsigned long request)
+{
+	return request == FIONBIO || request == FIOASYNC || request == FIOCLEX || request == FIONCLEX;
+}
+
 PUBLIC int ioctl(int descriptor, unsigned long request, ...)
 {
 	va_list values;
@@ -42,8 +48,12 @@ PUBLIC int ioctl(int descriptor, unsigned long request, ...)
 	void *argument = va_arg(values, void *);
 	va_end(values);
 	int file = names_file(descriptor);
-	if (file == NO_FILE)
-		return REAL(ioctl)(descriptor, request, argument);
+	if (file == NO_FILE || is_of_any_file(request)) {
+		int result = REAL(ioctl)(descriptor, request, argument);
+		if (file != NO_FILE && request == FIOASYNC)
+			descriptors_note_signals(descriptor);
+		return result;
+	}
 	device_enter();
 	int result = device_ioctl(file, request, argument);
 	device_leave();

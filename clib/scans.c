@@ -20,7 +20,7 @@ void scans_begin(struct subdevice *s, unsigned entries, int each_wakes)
 	s->unit_entries = packed ? entries : 1;
 	s->unit_samples = packed ? (entries + BITS_OF(s) - 1) / BITS_OF(s) : 1;
 	s->waking_samples = each_wakes ? entries / s->unit_entries * s->unit_samples : 0;
-	s->rests = 0;
+	s->rests = s->part = 0;
 }
 
 /* How many samples so many entries are, and how many entries hold so many samples at least. */
@@ -115,7 +115,7 @@ int scans_count(int file, int number, struct counts *counts)
 	if (result)
 		return result;
 	if (answer_says(" idle"))
-		s->rests = 0;
+		s->rests = s->part = 0;
 	counts->read = samples_of(s, entries[0]) - (is_input ? s->rests : 0);
 	counts->written = samples_of(s, entries[1]) + (is_input ? 0 : s->rests);
 	uint64_t room = entries[1] - entries[0] < s->buffer ? samples_of(s, s->buffer - (entries[1] - entries[0])) : 0;
@@ -279,12 +279,18 @@ static int write_scans(int file, int number, unsigned count, const uint32_t *sam
 	return count;
 }
 
+/* Asks for the end of an output's command that has ended: it is reported to any word. Answers as scans_take. */
+int scans_end(int file, int number)
+{
+	const uint32_t none = 0;
+	return write_entries(file, number, &none, 1);
+}
+
 /* Stores up to so many samples, of a line at most, after all others. Answers how many had room, -EAGAIN where none had, or
  * as scans_take. */
 int scans_put(int file, int number, unsigned count, const uint32_t *samples)
 {
 	struct counts counts;
-	uint32_t none = 0;
 	int stored;
 	if (!board_is_digital(&device->subdevice[number]))
 		stored = write_entries(file, number, samples, count);
@@ -292,9 +298,8 @@ int scans_put(int file, int number, unsigned count, const uint32_t *samples)
 		int result = scans_count(file, number, &counts);
 		if (result)
 			return kernel_result(CALL_WRITE, result);
-		/* a command that has ended reports it to any word */
 		if (!answer_says(" runs"))
-			return write_entries(file, number, &none, 1);
+			return scans_end(file, number);
 		stored = write_scans(file, number, counts.room < count ? counts.room : count, samples);
 	}
 	return stored ? stored : -EAGAIN;

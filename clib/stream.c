@@ -18,15 +18,15 @@ int take_samples(int file, int number, unsigned most, uint32_t *samples)
 	return mapped ? mapped : scans_take(file, number, most, samples);
 }
 
-/* Samples as the client has them: 16 bits, or 32. */
-static int copy_samples(const struct subdevice *s, char *to, const uint32_t *samples, unsigned count)
+/* Copies bytes of samples, as the client has them: in 16 bits each, or in 32. */
+static int copy_samples(const struct subdevice *s, char *to, const uint32_t *samples, unsigned count, size_t from, size_t bytes)
 {
-	sampl_t narrow[SAMPLES_OF_A_LINE];
+	static sampl_t narrow[SAMPLES_OF_A_LINE];
 	if (s->sample_bytes == sizeof *samples)
-		return copy_out(to, samples, count * sizeof *samples);
+		return copy_out(to, (const char *)samples + from, bytes);
 	for (unsigned i = 0; i < count; i++)
 		narrow[i] = samples[i];
-	return copy_out(to, narrow, count * sizeof *narrow);
+	return copy_out(to, (const char *)narrow + from, bytes);
 }
 
 /* Whether samples are there. To take some where none is would report the command's end, which the next read has to. */
@@ -36,24 +36,41 @@ static int holds_samples(int file, int number)
 	return !scans_count(file, number, &counts) && counts.written > counts.read;
 }
 
-/* Takes what is there, line by line. Answers the number of bytes, or as take_samples. */
-static ssize_t read_present(int file, int number, char *to, size_t bytes)
+/* Gives the client up to so many bytes of samples that were taken, without the first ones of the first sample where it has
+ * them already. What is left of the last one is the first of the next read. Answers how many, or a negative error number. */
+static ssize_t hand_over(struct subdevice *s, char *to, const uint32_t *samples, unsigned count, size_t most)
 {
+	size_t there = (size_t)count * s->sample_bytes - s->part, bytes = there < most ? there : most;
+	if (to && copy_samples(s, to, samples, count, s->part, bytes)) {
+		scans_give_back(s, count, samples);
+		return -EFAULT;
+	}
+	s->part = (s->part + bytes) % s->sample_bytes;
+	if (s->part)
+		scans_give_back(s, 1, samples + count - 1);
+	return bytes;
+}
+
+/* How many samples so many bytes reach into, from the first one on that isn't given as a whole. */
+static size_t samples_of_bytes(const struct subdevice *s, size_t bytes)
+{
+	return (s->part + bytes + s->sample_bytes - 1) / s->sample_bytes;
+}
+
+/* Takes what is there, line by line, and gives it to the client, or to nobody if `to` is NULL. Answers the number of bytes,
+ * or as take_samples. */
+ssize_t stream_take(int file, int number, char *to, size_t bytes)
+{
+	static uint32_t samples[SAMPLES_OF_A_LINE];
 	struct subdevice *s = &device->subdevice[number];
-	uint32_t samples[SAMPLES_OF_A_LINE];
 	size_t done = 0, line = scans_of_line(s, SAMPLES_OF_A_LINE);
 	while (done < bytes && (!done || holds_samples(file, number))) {
-		size_t most = (bytes - done) / s->sample_bytes;
-		if (most > line)
-			most = line;
+		size_t wanted = samples_of_bytes(s, bytes - done), most = wanted < line ? wanted : line;
 		int count = take_samples(file, number, most, samples);
-		if (count < 0)
-			return done ? (ssize_t)done : count;
-		if (copy_samples(s, to + done, samples, count)) {
-			scans_give_back(s, count, samples);
-			return done ? (ssize_t)done : -EFAULT;
-		}
-		done += count * s->sample_bytes;
+		ssize_t moved = count < 0 ? count : hand_over(s, to ? to + done : NULL, samples, count, bytes - done);
+		if (moved < 0)
+			return done ? (ssize_t)done : moved;
+		done += moved;
 		if ((size_t)count < most)
 			break;
 	}
@@ -122,25 +139,22 @@ static ssize_t read_next(int file, int number, char *to)
 	uint64_t before = device->now;
 	int count = scans_fetch(file, number, &sample);
 	device->file[file].has_waited = device->now > before;
-	if (count < 0)
-		return count;
-	if (copy_samples(s, to, &sample, 1)) {
-		scans_give_back(s, 1, &sample);
-		return -EFAULT;
-	}
-	return s->sample_bytes;
+	return count < 0 ? count : hand_over(s, to, &sample, 1, s->sample_bytes);
 }
 
-/* A read or a write of no bytes reports an error, and nothing else. */
+/* A read or a write of no bytes reports an error, which ends the command, and nothing else. */
 static int move_nothing(int file, int number)
 {
 	struct counts counts;
+	uint32_t none;
 	int result = scans_count(file, number, &counts);
 	if (result)
 		return kernel_result(CALL_READ, result);
 	if (answer_says(" idle"))
 		return -EINVAL;
-	return answer_says("overrun") || answer_says("fifo") || answer_says("underrun") ? -EPIPE : 0;
+	if (!answer_says("overrun") && !answer_says("fifo") && !answer_says("underrun"))
+		return 0;
+	return board_is_input(&device->subdevice[number]) ? take_samples(file, number, 0, &none) : scans_end(file, number);
 }
 
 ssize_t device_read(int file, void *to, size_t bytes, int waits)
@@ -151,11 +165,8 @@ ssize_t device_read(int file, void *to, size_t bytes, int waits)
 	const struct subdevice *s = &device->subdevice[number];
 	if (!bytes)
 		return move_nothing(file, number);
-	bytes -= bytes % s->sample_bytes;
-	if (!bytes)
-		return -EINVAL;
 	ssize_t result = 0;
-	if (waits && awaits_first(file, bytes / s->sample_bytes)) {
+	if (waits && awaits_first(file, samples_of_bytes(s, bytes))) {
 		int is_one = bytes == s->sample_bytes && device->pace <= 0 && turns_is_alone() && scans_can_fetch(number);
 		result = is_one ? read_next(file, number, to) : wait_for_first(file, number);
 		if (result == -EAGAIN)
@@ -163,49 +174,76 @@ ssize_t device_read(int file, void *to, size_t bytes, int waits)
 	}
 	while (!result) {
 		unsigned wanted = 0;
-		result = read_present(file, number, to, bytes);
+		result = stream_take(file, number, to, bytes);
 		if (result != -EAGAIN || !waits)
 			break;
 		device->file[file].has_waited = 1;
-		result = wanted_samples(file, number, bytes / s->sample_bytes, &wanted);
+		result = wanted_samples(file, number, samples_of_bytes(s, bytes), &wanted);
 		if (!result)
 			result = wait_for_samples(file, number, wanted);
 	}
 	return result == END_REPORTED ? 0 : result;
 }
 
+/* Takes so many samples from the client, of which an output may have got the first bytes already. */
 static int copy_values(const struct subdevice *s, uint32_t *values, const char *from, unsigned count)
 {
-	sampl_t narrow[VALUES_OF_A_LINE];
-	if (s->sample_bytes == sizeof *values)
-		return copy_in(values, from, count * sizeof *values);
-	if (copy_in(narrow, from, count * sizeof *narrow))
+	static sampl_t narrow[VALUES_OF_A_LINE];
+	char *bytes = s->sample_bytes == sizeof *values ? (char *)values : (char *)narrow;
+	memcpy(bytes, s->part_bytes, s->part);
+	if (copy_in(bytes + s->part, from, (size_t)count * s->sample_bytes - s->part))
 		return -EFAULT;
-	for (unsigned i = 0; i < count; i++)
+	for (unsigned i = 0; i < count && bytes == (char *)narrow; i++)
 		values[i] = narrow[i];
 	return 0;
 }
 
-/* Stores what there is room for, line by line. */
+/* Keeps bytes that are no whole sample, if there is room for one. Answers how many, or as scans_put. */
+static ssize_t keep_part(int file, int number, const char *from, size_t bytes)
+{
+	struct subdevice *s = &device->subdevice[number];
+	struct counts counts;
+	int result = scans_count(file, number, &counts);
+	if (result)
+		return kernel_result(CALL_WRITE, result);
+	if (!answer_says(" runs"))
+		return scans_end(file, number);
+	if (!s->part && !counts.room)
+		return -EAGAIN;
+	if (copy_in(s->part_bytes + s->part, from, bytes))
+		return -EFAULT;
+	s->part += bytes;
+	return bytes;
+}
+
+/* Stores what there is room for, line by line. Answers the number of bytes, or as scans_put. */
 static ssize_t write_present(int file, int number, const char *from, size_t bytes)
 {
-	const struct subdevice *s = &device->subdevice[number];
-	uint32_t values[VALUES_OF_A_LINE];
+	static uint32_t values[VALUES_OF_A_LINE];
+	struct subdevice *s = &device->subdevice[number];
 	size_t done = 0, line = scans_of_line(s, VALUES_OF_A_LINE);
 	while (done < bytes) {
-		size_t most = (bytes - done) / s->sample_bytes;
-		if (most > line)
-			most = line;
-		if (copy_values(s, values, from + done, most))
-			return done ? (ssize_t)done : -EFAULT;
-		int count = scans_put(file, number, most, values);
+		size_t whole = (s->part + bytes - done) / s->sample_bytes, most = whole < line ? whole : line;
+		if (!whole) {
+			ssize_t kept = keep_part(file, number, from + done, bytes - done);
+			return kept >= 0 ? (ssize_t)done + kept : done ? (ssize_t)done : kept;
+		}
+		int count = copy_values(s, values, from + done, most) ? -EFAULT : scans_put(file, number, most, values);
 		if (count < 0)
 			return done ? (ssize_t)done : count;
-		done += count * s->sample_bytes;
+		done += (size_t)count * s->sample_bytes - s->part;
+		s->part = 0;
 		if ((size_t)count < most)
 			break;
 	}
 	return done;
+}
+
+/* How many samples have to find room for a write of so many bytes to be done: all, or half of the buffer. */
+static unsigned wanted_room(const struct subdevice *s, size_t bytes)
+{
+	size_t half = half_of_buffer(s), all = (s->part + bytes) / s->sample_bytes;
+	return all > half ? half : all ? all : 1;
 }
 
 ssize_t device_write(int file, const void *from, size_t bytes, int waits)
@@ -213,20 +251,15 @@ ssize_t device_write(int file, const void *from, size_t bytes, int waits)
 	int number = device->file[file].write_subdevice;
 	if (number == NO_SUBDEVICE)
 		return -EIO;
-	const struct subdevice *s = &device->subdevice[number];
 	if (!bytes)
 		return move_nothing(file, number);
-	bytes -= bytes % s->sample_bytes;
-	if (!bytes)
-		return -EINVAL;
 	for (;;) {
 		ssize_t result = write_present(file, number, from, bytes);
 		if (result == END_REPORTED)
 			return 0;
 		if (result != -EAGAIN || !waits)
 			return result;
-		unsigned half = half_of_buffer(s), wanted = bytes / s->sample_bytes < half ? bytes / s->sample_bytes : half;
-		result = wait_for_samples(file, number, wanted);
+		result = wait_for_samples(file, number, wanted_room(&device->subdevice[number], bytes));
 		if (result)
 			return result;
 	}
