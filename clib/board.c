@@ -46,8 +46,9 @@ static void set_channel(struct channel *c, const long *numbers, unsigned ranges)
 /* A line of the answer: numbers alone. */
 static void read_line(char *line)
 {
-	long numbers[MOST_NUMBERS] = { 0 };
+	static long numbers[MOST_NUMBERS];
 	unsigned count = 0;
+	memset(numbers, 0, sizeof numbers);
 	for (char *end; count < MOST_NUMBERS; line = end, count++) {
 		numbers[count] = strtol(line, &end, 10);
 		if (end == line)
@@ -124,7 +125,7 @@ static unsigned present_flags(int file, int number, const struct claim *c)
 
 int board_subdevices(int file, comedi_subdinfo *to)
 {
-	comedi_subdinfo all[MOST_SUBDEVICES];
+	static comedi_subdinfo all[MOST_SUBDEVICES];
 	struct claim claims[MOST_SUBDEVICES];
 	memset(all, 0, sizeof all);
 	ask_claims(claims);
@@ -146,8 +147,8 @@ int board_channels(const comedi_chaninfo *asked)
 {
 	if (asked->subdev >= device->subdevices)
 		return -EINVAL;
+	static unsigned numbers[MOST_CHANNELS];
 	const struct subdevice *s = &device->subdevice[asked->subdev];
-	unsigned numbers[MOST_CHANNELS];
 	if ((asked->maxdata_list && !(s->flags & SDF_MAXDATA)) || asked->flaglist || (asked->rangelist && !(s->flags & SDF_RANGETYPE)))
 		return -EINVAL;
 	for (unsigned i = 0; i < s->channels; i++)

@@ -60,8 +60,8 @@ static void fill_rest(struct subdevice *s, uint64_t read)
 /* Fills the memory with the samples between the counts that aren't there yet. */
 static int fill_memory(int file, int number, const struct counts *counts)
 {
+	static uint32_t samples[SAMPLES_OF_A_LINE];
 	struct subdevice *s = &device->subdevice[number];
-	uint32_t samples[SAMPLES_OF_A_LINE];
 	if (!s->is_mapped || !board_is_input(s))
 		return 0;
 	fill_rest(s, counts->read);
@@ -136,8 +136,8 @@ int buffer_map(int file, int number)
 /* Marks up to so many words of the memory as written, from the count of written ones on. Answers how many. */
 static int mark_words(int file, int number, uint64_t written, uint64_t asked)
 {
+	static uint32_t samples[VALUES_OF_A_LINE];
 	const struct subdevice *s = &device->subdevice[number];
-	uint32_t samples[VALUES_OF_A_LINE];
 	unsigned line = scans_of_line(s, VALUES_OF_A_LINE);
 	uint64_t done = 0;
 	while (done < asked) {

@@ -45,6 +45,7 @@ def clients(check):
     check.client("apart", "wide")
     check.client("refused", "refused")
     check.client("closed", "wide")
+    check.client("stack", "wide", LD_BIND_NOW="1")
     run = check.client("bytes", "wide")
     # eight words of the first output, and one of the second
     words = [int(line.split()[4]) for line in run.outs()]

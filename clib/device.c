@@ -89,7 +89,7 @@ int device_serves(const char *path)
 static int report_failure(const char *path, const struct text *text)
 {
 	if (!*server_answer()) {
-		fprintf(stderr, "zendrouz: %s: comedi_serve has ended\n", path);
+		message("%s: comedi_serve has ended", path);
 		return -EIO;
 	}
 	text_say_refusal(path, text, server_answer());

@@ -219,6 +219,8 @@ void turns_begin_child(void);
 
 /* threads.c */
 uint64_t threads_sleep(void);
+void threads_hold(void);
+void threads_let_go(void);
 
 /* a wait for nothing but its end, in time.c */
 extern const struct wait time_sleep;

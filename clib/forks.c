@@ -17,16 +17,20 @@ static void hold_all(void)
 	struct quiet before;
 	quiet_begin(&before);
 	device_hold();
+	threads_hold();
 	turns_hold();
 	descriptors_hold();
+	messages_hold();
 	outside = before;
 }
 
 static void let_go_of_all(void)
 {
 	struct quiet before = outside;
+	messages_let_go();
 	descriptors_let_go();
 	turns_let_go();
+	threads_let_go();
 	device_let_go();
 	quiet_end(&before);
 }

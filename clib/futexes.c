@@ -43,7 +43,9 @@ static int is_wait(long call, long operation, const struct timespec *time, uint6
 	return 1;
 }
 
-PUBLIC long syscall(long call, ...)
+/* A system call has up to six words. All are passed on, also where the client gave fewer: then the others lie beyond them on
+ * its stack, and mean nothing. */
+__attribute__((no_sanitize("address"))) PUBLIC long syscall(long call, ...)
 {
 	long words[6];
 	va_list values;

@@ -87,7 +87,7 @@ static int ask_loudly(int length)
 {
 	int result = ask(length, note_output);
 	if (result == -EIO && !strncmp(server_answer(), "refused", 7))
-		fprintf(stderr, "zendrouz: %s: %.*s\n", server_answer(), length, line);
+		message("%s: %.*s", server_answer(), length, line);
 	return result;
 }
 

@@ -10,6 +10,7 @@
 #include <errno.h>
 #include <poll.h>
 #include <string.h>
+#include <sys/mman.h>
 #include <sys/select.h>
 #include <time.h>
 #include <unistd.h>
@@ -21,6 +22,10 @@
 
 /* with files of the device among them */
 #define MOST_POLLED 256
+/* so many have room on the client's stack */
+#define FEW 32
+/* what a select isn't answered */
+#define NOT_OURS (-2)
 #define READS (POLLIN | POLLRDNORM)
 #define WRITES (POLLOUT | POLLWRNORM)
 
@@ -47,10 +52,33 @@ static int is_ours(const struct ask *a, int64_t nanoseconds)
 	return a->has_file || a->has_timer || (time_is_shown() && nanoseconds > 0);
 }
 
-/* Asks the kernel for the files that aren't the device's. */
-static int ask_for_others(struct ask *a, const struct timespec *time)
+/* Room for what is asked for together: on the stack for few, and else in pages of its own, since a signal's handler may
+ * poll, too, and must not ask for memory. */
+struct room {
+	struct pollfd few[FEW], *files;
+	size_t bytes;
+};
+
+static int make_room(struct room *room, nfds_t count)
 {
-	struct pollfd others[MOST_POLLED];
+	room->files = room->few;
+	room->bytes = count > FEW ? count * sizeof *room->files : 0;
+	if (!room->bytes)
+		return 0;
+	room->files = REAL(mmap)(NULL, room->bytes, PROT_READ | PROT_WRITE, MAP_PRIVATE | MAP_ANONYMOUS, -1, 0);
+	return room->files == MAP_FAILED ? -ENOMEM : 0;
+}
+
+static void give_room_back(void *what)
+{
+	struct room *room = what;
+	if (room->bytes && room->files != MAP_FAILED)
+		munmap(room->files, room->bytes);
+}
+
+/* Asks the kernel for the files that aren't the device's, of which these are a copy. */
+static int ask_with_copy(struct ask *a, struct pollfd *others, const struct timespec *time)
+{
 	for (nfds_t i = 0; i < a->count; i++) {
 		others[i] = a->asked[i];
 		if (names_file(others[i].fd) != NO_FILE)
@@ -59,6 +87,21 @@ static int ask_for_others(struct ask *a, const struct timespec *time)
 	int ready = REAL(ppoll)(others, a->count, time, NULL);
 	for (nfds_t i = 0; i < a->count; i++)
 		a->asked[i].revents = ready < 0 || others[i].fd < 0 ? 0 : others[i].revents;
+	return ready;
+}
+
+/* Asks the kernel for the files that aren't the device's. A thread that is cancelled meanwhile keeps no memory. */
+static int ask_for_others(struct ask *a, const struct timespec *time)
+{
+	struct room room;
+	int ready = -1;
+	if (make_room(&room, a->count)) {
+		errno = ENOMEM;
+		return -1;
+	}
+	pthread_cleanup_push(give_room_back, &room);
+	ready = ask_with_copy(a, room.files, time);
+	pthread_cleanup_pop(1);
 	return ready;
 }
 
@@ -226,17 +269,33 @@ PUBLIC int __ppoll_chk(struct pollfd *asked, nfds_t count, const struct timespec
 	return ppoll(asked, count, time, signals);
 }
 
-/* The members of sets, as a poll has them. Answers how many there are. */
-static int members_of(struct pollfd *asked, int count, const fd_set *reads, const fd_set *writes, const fd_set *others)
+/* The three sets of a select, of numbers below a count. */
+struct sets {
+	int count;
+	fd_set *reads, *writes, *others;
+};
+
+/* What a number is asked for. */
+static short events_of(const struct sets *sets, int number)
 {
-	int length = 0;
-	for (int i = 0; i < count; i++) {
-		short events = (reads && FD_ISSET(i, reads) ? POLLIN : 0) | (writes && FD_ISSET(i, writes) ? POLLOUT : 0);
-		events |= others && FD_ISSET(i, others) ? POLLPRI : 0;
-		if (events)
-			asked[length++] = (struct pollfd){ i, events, 0 };
-	}
-	return length;
+	short events = (sets->reads && FD_ISSET(number, sets->reads) ? POLLIN : 0) | (sets->writes && FD_ISSET(number, sets->writes) ? POLLOUT : 0);
+	return events | (sets->others && FD_ISSET(number, sets->others) ? POLLPRI : 0);
+}
+
+static nfds_t members_of(const struct sets *sets)
+{
+	nfds_t members = 0;
+	for (int i = 0; i < sets->count; i++)
+		members += events_of(sets, i) != 0;
+	return members;
+}
+
+/* The members of sets, as a poll has them. */
+static void put_members(const struct sets *sets, struct pollfd *asked)
+{
+	for (int i = 0; i < sets->count; i++)
+		if (events_of(sets, i))
+			*asked++ = (struct pollfd){ i, events_of(sets, i), 0 };
 }
 
 /* Makes a set of those that were asked for an event, and have one of some. Answers how many. As the kernel, this writes as
@@ -255,35 +314,56 @@ static int fill_set(fd_set *set, int count, const struct ask *a, short event, sh
 }
 
 /* A select is a poll of its members. */
-static int select_ours(int count, struct ask *a, fd_set *reads, fd_set *writes, fd_set *others, int64_t nanoseconds, const sigset_t *signals)
+static int select_members(const struct sets *sets, struct ask *a, int64_t nanoseconds, const sigset_t *signals)
 {
 	if (poll_masked(a, nanoseconds, signals) < 0)
 		return -1;
 	for (nfds_t i = 0; i < a->count; i++)
 		if (a->asked[i].revents & POLLNVAL)
 			return names_answer(-EBADF);
-	int ready = fill_set(reads, count, a, POLLIN, POLLIN | POLLHUP | POLLERR);
-	ready += fill_set(writes, count, a, POLLOUT, POLLOUT | POLLERR);
-	return ready + fill_set(others, count, a, POLLPRI, POLLPRI);
+	int ready = fill_set(sets->reads, sets->count, a, POLLIN, POLLIN | POLLHUP | POLLERR);
+	ready += fill_set(sets->writes, sets->count, a, POLLOUT, POLLOUT | POLLERR);
+	return ready + fill_set(sets->others, sets->count, a, POLLPRI, POLLPRI);
+}
+
+/* A select, or NOT_OURS where it isn't for the device and takes none of its time. */
+static int select_ours(const struct sets *sets, int64_t nanoseconds, const sigset_t *signals)
+{
+	struct room room;
+	int result = NOT_OURS;
+	nfds_t members = members_of(sets);
+	if (make_room(&room, members))
+		return names_answer(-ENOMEM);
+	pthread_cleanup_push(give_room_back, &room);
+	put_members(sets, room.files);
+	struct ask a = find_ask(room.files, members);
+	if (is_ours(&a, nanoseconds))
+		result = select_members(sets, &a, nanoseconds, signals);
+	pthread_cleanup_pop(1);
+	return result;
+}
+
+/* A select of no time of the device's. One of no files that has an end and no mask is a sleep. */
+static int select_nothing(int64_t nanoseconds)
+{
+	int64_t left = signals_sleep(nanoseconds);
+	return left == SLEEP_IS_REAL ? NOT_OURS : left ? names_answer(-EINTR) : 0;
 }
 
 /* As the kernel, this leaves in `time` what is left of it. */
 PUBLIC int select(int count, fd_set *reads, fd_set *writes, fd_set *others, struct timeval *time)
 {
-	struct pollfd asked[FD_SETSIZE];
-	if (count < 0 || count > FD_SETSIZE || (time && (time->tv_sec < 0 || time->tv_usec < 0)))
+	const struct sets sets = { count, reads, writes, others };
+	if (!device || count < 0 || count > FD_SETSIZE || (time && (time->tv_sec < 0 || time->tv_usec < 0)))
 		return REAL(select)(count, reads, writes, others, time);
 	struct timespec same = { time ? time->tv_sec : 0, time ? time->tv_usec * 1000 : 0 };
 	int64_t nanoseconds = time ? clocks_nanoseconds(&same) : -1;
-	struct ask a = find_ask(asked, members_of(asked, count, reads, writes, others));
-	if (!is_ours(&a, nanoseconds)) {
-		int64_t left = !count && time ? signals_sleep(nanoseconds) : SLEEP_IS_REAL;
-		if (left == SLEEP_IS_REAL)
-			return REAL(select)(count, reads, writes, others, time);
-		return left ? names_answer(-EINTR) : 0;
-	}
 	uint64_t end = time_after(nanoseconds);
-	int result = select_ours(count, &a, reads, writes, others, nanoseconds, NULL);
+	int result = select_ours(&sets, nanoseconds, NULL);
+	if (result == NOT_OURS) {
+		result = !count && time ? select_nothing(nanoseconds) : NOT_OURS;
+		return result == NOT_OURS ? REAL(select)(count, reads, writes, others, time) : result;
+	}
 	same = clocks_time(end > device->client_now ? end - device->client_now : 0);
 	if (time)
 		*time = (struct timeval){ same.tv_sec, same.tv_nsec / 1000 };
@@ -292,15 +372,11 @@ PUBLIC int select(int count, fd_set *reads, fd_set *writes, fd_set *others, stru
 
 PUBLIC int pselect(int count, fd_set *reads, fd_set *writes, fd_set *others, const struct timespec *time, const sigset_t *signals)
 {
-	struct pollfd asked[FD_SETSIZE];
-	if (count < 0 || count > FD_SETSIZE || (time && !clocks_is_time(time)))
+	const struct sets sets = { count, reads, writes, others };
+	if (!device || count < 0 || count > FD_SETSIZE || (time && !clocks_is_time(time)))
 		return REAL(pselect)(count, reads, writes, others, time, signals);
-	int64_t nanoseconds = clocks_nanoseconds(time);
-	struct ask a = find_ask(asked, members_of(asked, count, reads, writes, others));
-	if (is_ours(&a, nanoseconds))
-		return select_ours(count, &a, reads, writes, others, nanoseconds, signals);
-	int64_t left = !count && time && !signals ? signals_sleep(nanoseconds) : SLEEP_IS_REAL;
-	if (left == SLEEP_IS_REAL)
-		return REAL(pselect)(count, reads, writes, others, time, signals);
-	return left ? names_answer(-EINTR) : 0;
+	int result = select_ours(&sets, clocks_nanoseconds(time), signals);
+	if (result == NOT_OURS && !count && time && !signals)
+		result = select_nothing(clocks_nanoseconds(time));
+	return result == NOT_OURS ? REAL(pselect)(count, reads, writes, others, time, signals) : result;
 }

@@ -5,6 +5,7 @@
 #define _GNU_SOURCE
 #include "descriptors.h"
 #include "server.h"
+#include <errno.h>
 #include <fcntl.h>
 #include <stdarg.h>
 #include <stdio.h>
@@ -27,7 +28,7 @@ void record_open(const char *path)
 {
 	record = keep_away(syscall(SYS_openat, AT_FDCWD, path, O_WRONLY | O_CREAT | O_TRUNC | O_APPEND | O_CLOEXEC, 0666));
 	if (record < 0)
-		perror(path);
+		message("%s: %s", path, strerror(errno));
 	descriptors_protect(&record);
 }
 
@@ -50,7 +51,7 @@ void record_line(const char *text, size_t length)
 
 static void put_form(const char *start, const char *form, va_list values)
 {
-	char text[1024];
+	static char text[1024];
 	int place = sprintf(text, "%s", start);
 	int length = place + vsnprintf(text + place, sizeof text - place - 1, form, values);
 	if (length < place || length > (int)sizeof text - 2)

@@ -13,7 +13,6 @@
 #include <errno.h>
 #include <fcntl.h>
 #include <sched.h>
-#include <stdio.h>
 #include <stdlib.h>
 #include <string.h>
 #include <sys/mman.h>
@@ -117,7 +116,7 @@ static void join(void)
 	if (!stands_for[0] && !stands_for[1])
 		return;
 	if (map(atoi(memory))) {
-		fprintf(stderr, "zendrouz: %s=%s isn't the memory of a device\n", RINGS_VARIABLE, memory);
+		message("%s=%s isn't the memory of a device", RINGS_VARIABLE, memory);
 		_exit(127);
 	}
 	leave_standard_error();

@@ -157,8 +157,8 @@ static int moved(enum call call, int result)
 /* Reads what is there of so many entries, once `wanted` are. Answers the number of samples, or as scans_take. */
 static int read_when(int file, int number, unsigned wanted, unsigned entries, uint32_t *samples)
 {
+	static uint64_t numbers[1 + SAMPLES_OF_A_LINE];
 	const struct subdevice *s = &device->subdevice[number];
-	uint64_t numbers[1 + SAMPLES_OF_A_LINE];
 	int asked = wanted ? question_fetch(file, number, wanted, entries) : question_codes(file, number, entries);
 	int result = moved(CALL_READ, asked);
 	if (result)
@@ -196,8 +196,8 @@ static unsigned take_rest(struct subdevice *s, unsigned most, uint32_t *samples)
 /* Reads whole scans for so many samples, and keeps what is too much of the last one. */
 static int read_scans(int file, int number, unsigned most, uint32_t *samples)
 {
+	static uint32_t whole[SAMPLES_OF_A_LINE];
 	struct subdevice *s = &device->subdevice[number];
-	uint32_t whole[SAMPLES_OF_A_LINE];
 	int count = read_entries(file, number, entries_of(s, most), whole);
 	if (count <= 0)
 		return count;
@@ -264,8 +264,8 @@ static int write_entries(int file, int number, const uint32_t *values, unsigned 
 /* Writes the scans that are whole with what the client gives, and keeps the rest. */
 static int write_scans(int file, int number, unsigned count, const uint32_t *samples)
 {
+	static uint32_t values[VALUES_OF_A_LINE], whole[VALUES_OF_A_LINE + MOST_ENTRIES / 16];
 	struct subdevice *s = &device->subdevice[number];
-	uint32_t values[VALUES_OF_A_LINE], whole[VALUES_OF_A_LINE + MOST_ENTRIES / 16];
 	unsigned all = s->rests + count, scans = all / s->unit_samples;
 	memcpy(whole, s->rest, s->rests * sizeof *whole);
 	memcpy(whole + s->rests, samples, count * sizeof *whole);
@@ -315,8 +315,8 @@ int scans_map(int file, int number, uint64_t count)
 /* Mapped samples, of a line at most, from one on that is counted from the first one that isn't released. Answers how many. */
 int scans_peek(int file, int number, uint64_t from, uint32_t *samples)
 {
+	static uint64_t numbers[1 + SAMPLES_OF_A_LINE];
 	const struct subdevice *s = &device->subdevice[number];
-	uint64_t numbers[1 + SAMPLES_OF_A_LINE];
 	unsigned most = SAMPLES_OF_A_LINE / s->unit_entries * s->unit_entries;
 	int result = question_peek(file, number, entries_of(s, from), most);
 	if (result)

@@ -42,6 +42,11 @@ int answer_numbers(uint64_t *numbers, int most);
 int answer_is(const char *word);
 int answer_says(const char *word);
 
+/* messages.c: lines on standard error */
+void message(const char *form, ...) __attribute__((format(printf, 1, 2)));
+void messages_hold(void);
+void messages_let_go(void);
+
 /* record.c */
 void record_open(const char *path);
 void record_begin_child(void);

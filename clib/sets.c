@@ -7,8 +7,8 @@
 #include "descriptors.h"
 #include "device.h"
 #include "names.h"
+#include "server.h"
 #include <errno.h>
-#include <stdio.h>
 #include <sys/epoll.h>
 
 #define MOST_MEMBERS 64
@@ -75,7 +75,7 @@ static int change(int set, int what, int descriptor, const struct epoll_event *e
 	if (what != EPOLL_CTL_DEL && !event)
 		return -EFAULT;
 	if (what != EPOLL_CTL_DEL && event->events & EPOLLET) {
-		fprintf(stderr, "zendrouz: EPOLLET isn't there for the device file\n");
+		message("EPOLLET isn't there for the device file");
 		return -EPERM;
 	}
 	descriptors_enter(&quiet);

@@ -9,10 +9,10 @@
 #include "descriptors.h"
 #include "device.h"
 #include "names.h"
+#include "server.h"
 #include <errno.h>
 #include <fcntl.h>
 #include <signal.h>
-#include <stdio.h>
 #include <unistd.h>
 
 /* The signal of a descriptor. */
@@ -99,7 +99,7 @@ static int wait_for_signal(void)
 	if (descriptor < 0 || !ends_waits(signal_of(descriptor)))
 		return 0;
 	if (!find_samples(descriptor, device->horizon, &next)) {
-		fprintf(stderr, "zendrouz: a wait for a signal, and no sample comes any more\n");
+		message("a wait for a signal, and no sample comes any more");
 		return 0;
 	}
 	if (!turns_wait(next, &time_sleep))

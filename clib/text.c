@@ -70,7 +70,7 @@ static int read_bytes(const char *path, struct text *text)
 	text->bytes = calloc(1, MOST_BYTES + 64);
 	text->length = 0;
 	while (text->bytes && text->length <= MOST_BYTES && !error) {
-		ssize_t count = read(descriptor, text->bytes + text->length, MOST_BYTES + 1 - text->length);
+		ssize_t count = syscall(SYS_read, descriptor, text->bytes + text->length, MOST_BYTES + 1 - text->length);
 		if (count == 0)
 			break;
 		if (count < 0)
@@ -78,7 +78,7 @@ static int read_bytes(const char *path, struct text *text)
 		else
 			text->length += count;
 	}
-	close(descriptor);
+	syscall(SYS_close, descriptor);
 	return text->bytes ? -error : -ENOMEM;
 }
 
@@ -87,7 +87,7 @@ int text_read(const char *path, struct text *text)
 {
 	int result = read_bytes(path, text);
 	if (result)
-		fprintf(stderr, "zendrouz: %s: %s\n", path, strerror(-result));
+		message("%s: %s", path, strerror(-result));
 	else
 		complete(text, cut(text));
 	return result;
@@ -120,16 +120,17 @@ static void show_line(const struct text *text, unsigned number, char *shown)
 void text_say_refusal(const char *path, const struct text *text, const char *answer)
 {
 	unsigned number = 0;
-	char cause[32] = "", shown[4 * MOST_SHOWN + 3];
+	static char shown[4 * MOST_SHOWN + 3];
+	char cause[32] = "";
 	sscanf(answer, "refused %u %31s", &number, cause);
 	if (number && number <= text->lines) {
 		show_line(text, number, shown);
-		fprintf(stderr, "zendrouz: %s:%u: refused %s: %s\n", path, number, cause, shown);
+		message("%s:%u: refused %s: %s", path, number, cause, shown);
 	} else if (!number)
-		fprintf(stderr, "zendrouz: %s: refused %s: it has more than %d bytes\n", path, cause, MOST_BYTES);
+		message("%s: refused %s: it has more than %d bytes", path, cause, MOST_BYTES);
 	else if (!text->lines)
-		fprintf(stderr, "zendrouz: %s: refused %s: it has no line\n", path, cause);
+		message("%s: refused %s: it has no line", path, cause);
 	else
-		fprintf(stderr, "zendrouz: %s: refused %s after line %u, the board's last: %s\n", path, cause, text->lines,
+		message("%s: refused %s after line %u, the board's last: %s", path, cause, text->lines,
 			strcmp(cause, "Missing") ? "its last block breaks a rule" : "a line is missing there");
 }

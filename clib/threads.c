@@ -14,6 +14,21 @@
 #include <unistd.h>
 
 #define TASKS "/proc/self/task"
+#define ROOM 4096
+
+/* one thread looks at the others at a time, and reads what the kernel shows of them here */
+static pthread_mutex_t looking = PTHREAD_MUTEX_INITIALIZER;
+static char names[ROOM] __attribute__((aligned(8))), status[ROOM];
+
+void threads_hold(void)
+{
+	pthread_mutex_lock(&looking);
+}
+
+void threads_let_go(void)
+{
+	pthread_mutex_unlock(&looking);
+}
 
 /* These make system calls directly: the names of the C library may be cancelled, and a wait has no file of its own then. */
 static int open_file(const char *path, int flags)
@@ -43,7 +58,7 @@ static uint64_t switches_of(const char *status)
  * for itself, or else of its switches. */
 static int sleeps(pid_t thread, uint64_t *sum)
 {
-	char path[64], status[4096];
+	char path[64];
 	snprintf(path, sizeof path, TASKS "/%d/status", thread);
 	if (!read_text(path, status, sizeof status))
 		return 1;
@@ -56,7 +71,6 @@ static int sleeps(pid_t thread, uint64_t *sum)
 /* One look at each thread but this one. */
 static int all_sleep(uint64_t *sum)
 {
-	char names[4096] __attribute__((aligned(8)));
 	int folder = open_file(TASKS, O_RDONLY | O_DIRECTORY), sleep = folder >= 0;
 	long length = 0;
 	while (sleep && (length = syscall(SYS_getdents64, folder, names, sizeof names)) > 0)
@@ -77,6 +91,12 @@ static int all_sleep(uint64_t *sum)
  */
 uint64_t threads_sleep(void)
 {
+	struct quiet quiet;
 	uint64_t sum = 1;
-	return all_sleep(&sum) && !device_callers() ? sum : 0;
+	quiet_begin(&quiet);
+	threads_hold();
+	int sleep = all_sleep(&sum) && !device_callers();
+	threads_let_go();
+	quiet_end(&quiet);
+	return sleep ? sum : 0;
 }

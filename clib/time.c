@@ -57,7 +57,7 @@ void time_say_end(void)
 	int length = snprintf(fraction, sizeof fraction, ".%09u", (unsigned)(device->horizon % 1000000000));
 	while (length && (fraction[length - 1] == '0' || fraction[length - 1] == '.'))
 		fraction[--length] = 0;
-	fprintf(stderr, "zendrouz: the signals of %s end at %llu%s s of board time: from here on nothing changes\n", device->path,
+	message("the signals of %s end at %llu%s s of board time: from here on nothing changes", device->path,
 		(unsigned long long)device->horizon / 1000000000, fraction);
 }
 
