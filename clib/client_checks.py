@@ -120,6 +120,20 @@ def many(check):
         check.compare_record(name, "wide", run, codes)
 
 
+def wakes(check):
+    """Threads that are woken by what another one does to the board, in board time and with a pace."""
+    for _ in range(1 if check.quick else 5):
+        check.client("woken", "wide")
+        run = check.client("pair", "wide")
+        check.expect("pair: the samples of its record", len(check.replayed("wide", run.record)[0]) == 4000, run.record[-20:])
+    watched = "command: 0\ncancel: 0\nthe last read: Invalid argument\n0 samples in 0 reads, 0 looks, 2000 ms\n"
+    for settings in ({}, {"ZENDROUZ_PACE": "2"}):
+        run = check.run("wide", [check.path("tests/pair"), "watch"], 20, **settings)
+        # with a pace the times are the machine's
+        right = run.out == watched or settings and run.out.startswith(watched[:watched.index(" looks") - 1])
+        check.expect("a watch that cancels a read %s" % settings, right and not run.err, run.out, run.err)
+
+
 def cancellations(check):
     """Threads that are cancelled within a call, with a record, whose writing is one more place, and without."""
     for settings in ({}, {"ZENDROUZ_LOG": ""}):

@@ -136,6 +136,7 @@ int command_call(int file, comedi_cmd *command)
 	if (result == -EAGAIN || result == -EINVAL)
 		ask_test(command);
 	if (!result) {
+		device_changed();
 		scans_begin(s, command->chanlist_len, device->wake == WAKE_SCAN || command->flags & CMDF_WAKE_EOS);
 		s->filled = 0;
 	}

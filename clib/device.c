@@ -34,6 +34,7 @@ void device_enter(void)
 	if (pthread_mutex_lock(&device->lock) == EOWNERDEAD) {
 		pthread_mutex_consistent(&device->lock);
 		server_lose();
+		device_changed();
 	}
 }
 
@@ -44,6 +45,18 @@ void device_leave(void)
 	__atomic_sub_fetch(&callers, 1, __ATOMIC_SEQ_CST);
 	quiet_end(&outside);
 	errno = outside_errno;
+}
+
+/* How often a call changed what others wait for. */
+uint64_t device_changes(void)
+{
+	return __atomic_load_n(&device->changes, __ATOMIC_SEQ_CST);
+}
+
+/* A call has changed what others wait for: they look again. */
+void device_changed(void)
+{
+	__atomic_add_fetch(&device->changes, 1, __ATOMIC_SEQ_CST);
 }
 
 int device_callers(void)
@@ -202,6 +215,7 @@ static void close_file(int file)
 {
 	line_of_session("close %d", file);
 	device->file[file].is_open = 0;
+	device_changed();
 }
 
 /* A file is closed by the process that opened it; a child only forgets it. */

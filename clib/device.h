@@ -9,6 +9,7 @@
 #define DEVICE_H
 
 #include <comedi.h>
+#include <limits.h>
 #include <pthread.h>
 #include <signal.h>
 #include <stddef.h>
@@ -91,6 +92,8 @@ struct device {
 	/* board time, in nanoseconds, which ends at the horizon; and the client's, which is the same and has no end */
 	uint64_t now, horizon, client_now, call_time;
 	double pace;
+	/* how often a call changed what others wait for: a command, a trigger, a cancel, a close, and that nothing is answered */
+	uint64_t changes;
 	uint64_t wall_start;
 	/* whether the client's clocks show its time, and what each showed at 0 */
 	int shows_time;
@@ -121,6 +124,8 @@ int device_serves(const char *path);
 void device_enter(void);
 void device_leave(void);
 int device_callers(void);
+uint64_t device_changes(void);
+void device_changed(void);
 void device_hold(void);
 void device_let_go(void);
 void device_begin_child(void);
@@ -192,6 +197,8 @@ void time_call(void);
 void time_to(uint64_t time);
 void time_say_end(void);
 void time_spend(uint64_t nanoseconds);
+void time_catch_up(void);
+uint64_t time_left(uint64_t end);
 int time_wait(uint64_t time);
 int time_is_board_time(void);
 int time_is_shown(void);
@@ -201,15 +208,20 @@ uint64_t time_after(int64_t nanoseconds);
 uint64_t time_of_wall(void);
 
 /*
- * turns.c. How a thread waits for something: `pause` waits really, for up to so many nanoseconds of the wall clock, and
- * answers 0 where nothing came. What else it answers ends the wait, and is the answer. `due`, if any, has the time at which
- * something comes by itself, which other threads may change.
+ * turns.c. A wait, with all that can end it before its time. `pause` waits really, for up to so many nanoseconds of the wall
+ * clock, with the client's signals let in, and answers 0 where nothing came. What else it answers ends the wait, and is the
+ * answer. `due`, if any, has the time at which something comes by itself, which other threads may change. `seen`, if any, is
+ * the count of changes of the board (device_changes) that the thread has seen: one more ends the wait with BOARD_CHANGED.
+ * `signals`, if any, is the mask with which the client waits, in place of its own: then all signals are blocked already.
  */
 struct wait {
-	int (*pause)(void *what, uint64_t nanoseconds);
+	int (*pause)(void *what, uint64_t nanoseconds, const sigset_t *signals);
 	uint64_t (*due)(void *what);
 	void *what;
+	const uint64_t *seen;
+	const sigset_t *signals;
 };
+#define BOARD_CHANGED INT_MAX
 int turns_wait(uint64_t end, const struct wait *wait);
 int turns_is_alone(void);
 uint64_t turns_number(pid_t thread);

@@ -17,18 +17,20 @@ struct futex {
 	long address, value, is_private, wakes;
 };
 
-static int pause_futex(void *what, uint64_t nanoseconds)
+static int pause_futex(void *what, uint64_t nanoseconds, const sigset_t *signals)
 {
 	const struct futex *f = what;
 	struct timespec end = clocks_of_wall(nanoseconds);
-	if (!REAL(syscall)(SYS_futex, f->address, FUTEX_WAIT_BITSET | f->is_private, f->value, &end, NULL, f->wakes))
-		return CAME;
-	return errno == ETIMEDOUT ? 0 : -errno;
+	int error = EINTR;
+	if (!signals_let_in(signals))
+		error = REAL(syscall)(SYS_futex, f->address, FUTEX_WAIT_BITSET | f->is_private, f->value, &end, NULL, f->wakes) ? errno : 0;
+	signals_keep_out(signals);
+	return !error ? CAME : error == ETIMEDOUT ? 0 : -error;
 }
 
 static long wait_for_futex(const struct futex *f, uint64_t end)
 {
-	int result = turns_wait(end, &(struct wait){ pause_futex, NULL, (void *)f });
+	int result = turns_wait(end, &(struct wait){ .pause = pause_futex, .what = (void *)f });
 	return result == CAME ? 0 : names_answer(result ? result : -ETIMEDOUT);
 }
 

@@ -169,6 +169,7 @@ static int do_trigger(int file, const comedi_insn *instruction, const unsigned *
 	unsigned number = number_of(instruction);
 	int runner = board_runner(number);
 	int result = line_of_session("insn %d %u inttrig %u", runner == NO_FILE ? file : runner, number, data[0]);
+	device_changed();
 	return result ? kernel_result(CALL_TRIGGER, result) : 1;
 }
 

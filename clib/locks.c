@@ -26,17 +26,19 @@ __attribute__((constructor)) static void find_python(void)
 	dlerror();
 }
 
-static int pause_semaphore(void *what, uint64_t nanoseconds)
+static int pause_semaphore(void *what, uint64_t nanoseconds, const sigset_t *signals)
 {
 	struct timespec end = clocks_of_wall(nanoseconds);
-	if (!REAL(sem_clockwait)(what, CLOCK_MONOTONIC, &end))
-		return CAME;
-	return errno == ETIMEDOUT ? 0 : -errno;
+	int error = EINTR;
+	if (!signals_let_in(signals))
+		error = REAL(sem_clockwait)(what, CLOCK_MONOTONIC, &end) ? errno : 0;
+	signals_keep_out(signals);
+	return !error ? CAME : error == ETIMEDOUT ? 0 : -error;
 }
 
 static int wait_for_semaphore(sem_t *semaphore, uint64_t end)
 {
-	int result = signals_wait(end, &(struct wait){ pause_semaphore, NULL, semaphore });
+	int result = signals_wait(end, &(struct wait){ .pause = pause_semaphore, .what = semaphore });
 	return result == CAME ? 0 : names_answer(result ? result : -ETIMEDOUT);
 }
 
@@ -81,11 +83,13 @@ struct condition {
 };
 
 /* A wait that may have missed a signal ends too, as such waits may. */
-static int pause_condition(void *what, uint64_t nanoseconds)
+static int pause_condition(void *what, uint64_t nanoseconds, const sigset_t *signals)
 {
 	struct condition *c = what;
 	struct timespec end = clocks_of_wall(nanoseconds);
+	signals_let_in(signals);
 	int result = REAL(pthread_cond_clockwait)(c->variable, c->mutex, CLOCK_MONOTONIC, &end);
+	signals_keep_out(signals);
 	if (result == ETIMEDOUT && *(volatile unsigned *)signals_of(c->variable) == c->signals)
 		return 0;
 	return result && result != ETIMEDOUT ? -result : CAME;
@@ -106,7 +110,7 @@ static int wait_for_condition(pthread_cond_t *variable, pthread_mutex_t *mutex, 
 	struct condition c = { variable, mutex, *signals_of(variable) };
 	if ((const char *)variable >= python && (const char *)variable < python_end)
 		return wait_for_python(&c, end);
-	int result = turns_wait(end, &(struct wait){ pause_condition, NULL, &c });
+	int result = turns_wait(end, &(struct wait){ .pause = pause_condition, .what = &c });
 	return result == CAME ? 0 : result ? -result : ETIMEDOUT;
 }
 
@@ -133,11 +137,13 @@ struct lock {
 	int result;
 };
 
-static int pause_lock(void *what, uint64_t nanoseconds)
+static int pause_lock(void *what, uint64_t nanoseconds, const sigset_t *signals)
 {
 	struct lock *l = what;
 	struct timespec end = clocks_of_wall(nanoseconds);
+	signals_let_in(signals);
 	l->result = l->real(l->lock, CLOCK_MONOTONIC, &end);
+	signals_keep_out(signals);
 	return l->result == ETIMEDOUT ? 0 : CAME;
 }
 
@@ -146,7 +152,7 @@ static int wait_for_lock(struct lock l, clockid_t clock, const struct timespec *
 {
 	if (!clocks_rule(clock, time))
 		return l.real(l.lock, clock, time);
-	turns_wait(clocks_end(clock, time), &(struct wait){ pause_lock, NULL, &l });
+	turns_wait(clocks_end(clock, time), &(struct wait){ .pause = pause_lock, .what = &l });
 	return l.result;
 }
 

@@ -3,6 +3,7 @@
  * back before anything else is asked, so that a client's children can go on.
  */
 #define _GNU_SOURCE
+#include "device.h"
 #include "server.h"
 #include <errno.h>
 #include <fcntl.h>
@@ -180,6 +181,7 @@ int server_hear(void (*each)(char *line))
 		each(heard);
 	}
 	server_lose();
+	device_changed();
 	return -EIO;
 }
 

@@ -29,16 +29,19 @@
 #define READS (POLLIN | POLLRDNORM)
 #define WRITES (POLLOUT | POLLWRNORM)
 
-/* What is asked for together. */
+/* What is asked for together. `signals` is the mask with which is waited, if the client gave one, and `seen` the changes of
+ * the board up to the last look. */
 struct ask {
 	struct pollfd *asked;
 	nfds_t count;
 	int has_file, has_timer;
+	const sigset_t *signals;
+	uint64_t seen;
 };
 
 static struct ask find_ask(struct pollfd *asked, nfds_t count)
 {
-	struct ask a = { asked, count, 0, 0 };
+	struct ask a = { .asked = asked, .count = count };
 	for (nfds_t i = 0; i < count; i++) {
 		a.has_file |= names_file(asked[i].fd) != NO_FILE;
 		a.has_timer |= time_is_shown() && timers_are_in(asked[i].fd);
@@ -77,21 +80,21 @@ static void give_room_back(void *what)
 }
 
 /* Asks the kernel for the files that aren't the device's, of which these are a copy. */
-static int ask_with_copy(struct ask *a, struct pollfd *others, const struct timespec *time)
+static int ask_with_copy(struct ask *a, struct pollfd *others, const struct timespec *time, const sigset_t *signals)
 {
 	for (nfds_t i = 0; i < a->count; i++) {
 		others[i] = a->asked[i];
 		if (names_file(others[i].fd) != NO_FILE)
 			others[i].fd = -1;
 	}
-	int ready = REAL(ppoll)(others, a->count, time, NULL);
+	int ready = REAL(ppoll)(others, a->count, time, signals);
 	for (nfds_t i = 0; i < a->count; i++)
 		a->asked[i].revents = ready < 0 || others[i].fd < 0 ? 0 : others[i].revents;
 	return ready;
 }
 
 /* Asks the kernel for the files that aren't the device's. A thread that is cancelled meanwhile keeps no memory. */
-static int ask_for_others(struct ask *a, const struct timespec *time)
+static int ask_for_others(struct ask *a, const struct timespec *time, const sigset_t *signals)
 {
 	struct room room;
 	int ready = -1;
@@ -100,22 +103,22 @@ static int ask_for_others(struct ask *a, const struct timespec *time)
 		return -1;
 	}
 	pthread_cleanup_push(give_room_back, &room);
-	ready = ask_with_copy(a, room.files, time);
+	ready = ask_with_copy(a, room.files, time, signals);
 	pthread_cleanup_pop(1);
 	return ready;
 }
 
 /* Asks the kernel, and waits really for up to so long. Answers how many of the other files are ready. */
-static int ask_kernel(struct ask *a, uint64_t nanoseconds)
+static int ask_kernel(struct ask *a, uint64_t nanoseconds, const sigset_t *signals)
 {
 	struct timespec time = clocks_time(nanoseconds);
-	return a->has_file ? ask_for_others(a, &time) : REAL(ppoll)(a->asked, a->count, &time, NULL);
+	return a->has_file ? ask_for_others(a, &time, signals) : REAL(ppoll)(a->asked, a->count, &time, signals);
 }
 
 /* What is ready now. */
 static int ask_ready(struct ask *a)
 {
-	int ready = ask_kernel(a, 0);
+	int ready = ask_kernel(a, 0, NULL);
 	if (ready < 0)
 		return -errno;
 	for (nfds_t i = 0; i < a->count && a->has_file; i++) {
@@ -149,7 +152,9 @@ static uint64_t next_time(const struct ask *a)
 static int look(struct ask *a, uint64_t *next)
 {
 	device_enter();
+	time_catch_up();
 	timers_ring();
+	a->seen = device_changes();
 	int ready = ask_ready(a);
 	if (a->has_file && server_is_lost())
 		ready = -EIO;
@@ -160,9 +165,9 @@ static int look(struct ask *a, uint64_t *next)
 }
 
 /* A real wait for the other files. */
-static int pause_poll(void *what, uint64_t nanoseconds)
+static int pause_poll(void *what, uint64_t nanoseconds, const sigset_t *signals)
 {
-	int ready = ask_kernel(what, nanoseconds);
+	int ready = ask_kernel(what, nanoseconds, signals);
 	return ready < 0 ? -errno : ready ? CAME : 0;
 }
 
@@ -178,15 +183,12 @@ static uint64_t next_timer(void *what)
 	return first;
 }
 
+/* Waits for the other files, the timers, and a change of the board. A poll of files that aren't the device's is ended by the
+ * signal of one that is, too. */
 static int wait_until(struct ask *a, uint64_t time)
 {
-	const struct wait wait = { pause_poll, a->has_timer ? next_timer : NULL, a };
-	if (device->pace <= 0)
-		return a->has_file ? turns_wait(time, &wait) : signals_wait(time, &wait);
-	device_enter();
-	int result = time_wait(time);
-	device_leave();
-	return result;
+	const struct wait wait = { pause_poll, a->has_timer ? next_timer : NULL, a, a->has_file ? &a->seen : NULL, a->signals };
+	return a->has_file ? turns_wait(time, &wait) : signals_wait(time, &wait);
 }
 
 /* Time goes on to the next sample, the next timer, or the end of the wait. */
@@ -221,12 +223,14 @@ static int poll_ours(struct ask *a, int64_t nanoseconds)
 	return names_answer(result);
 }
 
-/* A poll of some files for another name, for so long or for ever. */
-int polls_wait(struct pollfd *asked, nfds_t count, int64_t nanoseconds)
+/* A poll of some files for another name, for so long or for ever, with a mask of signals if there is one: then all signals
+ * are blocked already. */
+int polls_wait(struct pollfd *asked, nfds_t count, int64_t nanoseconds, const sigset_t *signals)
 {
 	struct timespec time = clocks_time(nanoseconds);
 	struct ask a = find_ask(asked, count);
-	return is_ours(&a, nanoseconds) ? poll_ours(&a, nanoseconds) : REAL(ppoll)(asked, count, nanoseconds < 0 ? NULL : &time, NULL);
+	a.signals = signals;
+	return is_ours(&a, nanoseconds) ? poll_ours(&a, nanoseconds) : REAL(ppoll)(asked, count, nanoseconds < 0 ? NULL : &time, signals);
 }
 
 PUBLIC int poll(struct pollfd *asked, nfds_t count, int milliseconds)
@@ -243,14 +247,25 @@ PUBLIC int __poll_chk(struct pollfd *asked, nfds_t count, int milliseconds, size
 	return poll(asked, count, milliseconds);
 }
 
-/* A poll with a mask of signals: one that waits already ends it at once. */
+/* The end of a poll with a mask of signals, also where its thread is cancelled. */
+void polls_restore_signals(void *signals)
+{
+	pthread_sigmask(SIG_SETMASK, signals, NULL);
+}
+
+/* A poll with a mask of signals: one that waits already ends it at once, and another one is let in by its waits. */
 static int poll_masked(struct ask *a, int64_t nanoseconds, const sigset_t *signals)
 {
 	sigset_t old;
+	int result;
 	if (!signals)
 		return poll_ours(a, nanoseconds);
-	int result = signals_exchange(signals, &old) ? names_answer(-EINTR) : poll_ours(a, nanoseconds);
-	pthread_sigmask(SIG_SETMASK, &old, NULL);
+	if (signals_exchange(signals, &old))
+		return names_answer(-EINTR);
+	a->signals = signals;
+	pthread_cleanup_push(polls_restore_signals, &old);
+	result = poll_ours(a, nanoseconds);
+	pthread_cleanup_pop(1);
 	return result;
 }
 

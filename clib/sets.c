@@ -138,13 +138,13 @@ static int take_events(const struct pollfd *asked, int count, struct epoll_event
 }
 
 /* A poll of the device's members, and of the set itself for the others. Another thread may take what was found there. */
-static int poll_members(int set, struct epoll_event *events, int most, int64_t nanoseconds)
+static int poll_members(int set, struct epoll_event *events, int most, int64_t nanoseconds, const sigset_t *signals)
 {
 	struct pollfd asked[MOST_MEMBERS + 1];
 	uint64_t end = time_after(nanoseconds);
 	for (;;) {
 		int count = ask_of(set, asked);
-		if (polls_wait(asked, count, nanoseconds) < 0)
+		if (polls_wait(asked, count, nanoseconds, signals) < 0)
 			return -1;
 		int done = take_events(asked, count, events, most);
 		if (done || !asked[0].revents)
@@ -177,10 +177,14 @@ static int is_ours(int set, int most, int64_t nanoseconds)
 static int wait_masked(int set, struct epoll_event *events, int most, int64_t nanoseconds, const sigset_t *signals)
 {
 	sigset_t old;
+	int result;
 	if (!signals)
-		return poll_members(set, events, most, nanoseconds);
-	int result = signals_exchange(signals, &old) ? names_answer(-EINTR) : poll_members(set, events, most, nanoseconds);
-	pthread_sigmask(SIG_SETMASK, &old, NULL);
+		return poll_members(set, events, most, nanoseconds, NULL);
+	if (signals_exchange(signals, &old))
+		return names_answer(-EINTR);
+	pthread_cleanup_push(polls_restore_signals, &old);
+	result = poll_members(set, events, most, nanoseconds, signals);
+	pthread_cleanup_pop(1);
 	return result;
 }
 
@@ -193,7 +197,7 @@ PUBLIC int epoll_wait(int set, struct epoll_event *events, int most, int millise
 {
 	if (!is_ours(set, most, nanoseconds_of(milliseconds)))
 		return REAL(epoll_wait)(set, events, most, milliseconds);
-	return poll_members(set, events, most, nanoseconds_of(milliseconds));
+	return poll_members(set, events, most, nanoseconds_of(milliseconds), NULL);
 }
 
 PUBLIC int epoll_pwait(int set, struct epoll_event *events, int most, int milliseconds, const sigset_t *signals)

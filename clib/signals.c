@@ -22,14 +22,14 @@ static int signal_of(int descriptor)
 	return number > 0 ? number : SIGIO;
 }
 
-/* Whether a signal that is sent now would end a wait: it is let in, and not ignored. */
-static int ends_waits(int number)
+/* Whether a signal that is sent now would end a wait with a mask, or with the thread's own: it is let in, and not ignored. */
+static int ends_waits(int number, const sigset_t *mask)
 {
 	struct sigaction action;
 	sigset_t blocked;
 	pthread_sigmask(SIG_SETMASK, NULL, &blocked);
 	sigaction(number, NULL, &action);
-	return !sigismember(&blocked, number) && action.sa_handler != SIG_IGN;
+	return !sigismember(mask ? mask : &blocked, number) && action.sa_handler != SIG_IGN;
 }
 
 /* Sends the signal, where a descriptor wants one, since something came while a call waited. */
@@ -52,17 +52,25 @@ static int find_samples(int descriptor, uint64_t until, uint64_t *time)
 /* A wait as turns_wait, which the signal ends with -EINTR. */
 int signals_wait(uint64_t end, const struct wait *wait)
 {
-	int descriptor = descriptors_asynchronous();
-	uint64_t next;
-	if (descriptor >= 0 && find_samples(descriptor, end, &next)) {
-		int number = signal_of(descriptor), ends = ends_waits(number), result = turns_wait(next, wait);
-		if (result)
-			return result;
-		raise(number);
-		if (ends)
-			return -EINTR;
+	int descriptor, comes, result = BOARD_CHANGED;
+	uint64_t next, seen;
+	while (result == BOARD_CHANGED) {
+		descriptor = descriptors_asynchronous();
+		if (descriptor < 0)
+			return turns_wait(end, wait);
+		struct wait both = *wait;
+		both.seen = &seen;
+		seen = device_changes();
+		comes = find_samples(descriptor, end, &next);
+		result = turns_wait(comes ? next : end, &both);
 	}
-	return turns_wait(end, wait);
+	if (result || !comes)
+		return result;
+	int number = signal_of(descriptor), ends = ends_waits(number, wait->signals);
+	raise(number);
+	signals_let_in(wait->signals);
+	signals_keep_out(wait->signals);
+	return ends ? -EINTR : turns_wait(end, wait);
 }
 
 /* A sleep of the client up to a time. Answers what is left of it where a signal ended it. */
@@ -79,37 +87,90 @@ int64_t signals_sleep(uint64_t nanoseconds)
 	return time_is_board_time() ? signals_sleep_until(device->client_now + nanoseconds) : SLEEP_IS_REAL;
 }
 
-/* Lets signals in that a mask lets in. Answers whether one was waiting, so that a wait with this mask ends at once. */
-int signals_exchange(const sigset_t *mask, sigset_t *old)
+/* Whether a read or a write that a signal has ended goes on (SA_RESTART). The kernel doesn't say which handler has run, so
+ * it's so where all handlers of the client want it. */
+int signals_restart(void)
+{
+	struct sigaction action;
+	for (int i = 1; i < NSIG; i++)
+		if (!sigaction(i, NULL, &action) && action.sa_handler != SIG_IGN && action.sa_handler != SIG_DFL && !(action.sa_flags & SA_RESTART))
+			return 0;
+	return 1;
+}
+
+/* Whether a signal waits that a mask lets in and that has a handler. */
+static int is_waiting(const sigset_t *mask)
 {
 	sigset_t waiting;
-	int there = 0;
+	struct sigaction action;
+	int is = 0;
 	sigpending(&waiting);
-	for (int i = 1; i < NSIG; i++)
-		there |= sigismember(&waiting, i) == 1 && !sigismember(mask, i);
-	pthread_sigmask(SIG_SETMASK, mask, old);
-	return there;
+	for (int i = 1; i < NSIG && !is; i++)
+		if (sigismember(&waiting, i) == 1 && !sigismember(mask, i) && !sigaction(i, NULL, &action))
+			is = action.sa_handler != SIG_IGN && action.sa_handler != SIG_DFL;
+	return is;
+}
+
+/* Blocks all signals for a wait with a mask, unless one waits that it lets in: that is let in. Answers whether it was. */
+int signals_exchange(const sigset_t *mask, sigset_t *old)
+{
+	sigset_t all;
+	sigfillset(&all);
+	pthread_sigmask(SIG_SETMASK, &all, old);
+	if (!is_waiting(mask))
+		return 0;
+	pthread_sigmask(SIG_SETMASK, mask, NULL);
+	pthread_sigmask(SIG_SETMASK, old, NULL);
+	return 1;
+}
+
+/* Lets the client's signals in for a piece of a wait that takes no mask. Answers whether one was waiting, which ends such a
+ * wait: its handler has run. Where there is no mask, none was blocked. */
+int signals_let_in(const sigset_t *mask)
+{
+	int was_waiting = mask && is_waiting(mask);
+	if (mask)
+		pthread_sigmask(SIG_SETMASK, mask, NULL);
+	return was_waiting;
+}
+
+/* Blocks all signals again, at the end of such a piece. */
+void signals_keep_out(const sigset_t *mask)
+{
+	sigset_t all;
+	sigfillset(&all);
+	if (mask)
+		pthread_sigmask(SIG_SETMASK, &all, NULL);
 }
 
 /* Waits for a signal up to the next samples. Answers 0 where none can come from the device. */
-static int wait_for_signal(void)
+static int wait_for_signal(const sigset_t *mask)
 {
-	int descriptor = time_is_board_time() ? descriptors_asynchronous() : -1;
-	uint64_t next;
-	if (descriptor < 0 || !ends_waits(signal_of(descriptor)))
-		return 0;
-	if (!find_samples(descriptor, device->horizon, &next)) {
-		message("a wait for a signal, and no sample comes any more");
-		return 0;
+	struct wait wait = time_sleep;
+	uint64_t next = NEVER, seen;
+	int descriptor, comes, result = BOARD_CHANGED;
+	wait.seen = &seen;
+	wait.signals = mask;
+	while (result == BOARD_CHANGED) {
+		descriptor = time_is_board_time() ? descriptors_asynchronous() : -1;
+		if (descriptor < 0 || !ends_waits(signal_of(descriptor), mask))
+			return 0;
+		seen = device_changes();
+		comes = find_samples(descriptor, device->horizon, &next);
+		if (!comes && turns_is_alone()) {
+			message("a wait for a signal, and no sample comes any more");
+			return 0;
+		}
+		result = turns_wait(comes ? next : NEVER, &wait);
 	}
-	if (!turns_wait(next, &time_sleep))
+	if (!result)
 		raise(signal_of(descriptor));
 	return 1;
 }
 
 PUBLIC int pause(void)
 {
-	return wait_for_signal() ? names_answer(-EINTR) : REAL(pause)();
+	return wait_for_signal(NULL) ? names_answer(-EINTR) : REAL(pause)();
 }
 
 PUBLIC int sigsuspend(const sigset_t *mask)
@@ -117,7 +178,11 @@ PUBLIC int sigsuspend(const sigset_t *mask)
 	sigset_t old;
 	if (!time_is_board_time() || descriptors_asynchronous() < 0)
 		return REAL(sigsuspend)(mask);
-	int done = signals_exchange(mask, &old) || wait_for_signal();
+	if (signals_exchange(mask, &old))
+		return names_answer(-EINTR);
+	int done = wait_for_signal(mask);
+	if (done)
+		pthread_sigmask(SIG_SETMASK, mask, NULL);
 	pthread_sigmask(SIG_SETMASK, &old, NULL);
 	return done ? names_answer(-EINTR) : REAL(sigsuspend)(mask);
 }
@@ -127,12 +192,17 @@ struct wanted {
 	siginfo_t *information;
 };
 
-static int pause_signal(void *what, uint64_t nanoseconds)
+static int pause_signal(void *what, uint64_t nanoseconds, const sigset_t *signals)
 {
 	struct wanted *w = what;
 	struct timespec time = clocks_time(nanoseconds);
-	int number = REAL(sigtimedwait)(w->set, w->information, &time);
-	return number >= 0 ? number : errno == EAGAIN ? 0 : -errno;
+	int number = REAL(sigtimedwait)(w->set, w->information, &(struct timespec){ 0, 0 }), error = EINTR;
+	if (number < 0 && !signals_let_in(signals)) {
+		number = REAL(sigtimedwait)(w->set, w->information, &time);
+		error = errno;
+	}
+	signals_keep_out(signals);
+	return number >= 0 ? number : error == EAGAIN ? 0 : -error;
 }
 
 /* The signal of the device is blocked here, and is there once it was sent. */
@@ -141,6 +211,6 @@ PUBLIC int sigtimedwait(const sigset_t *restrict set, siginfo_t *restrict inform
 	struct wanted w = { set, information };
 	if (!time_is_shown() || !clocks_is_time(time))
 		return REAL(sigtimedwait)(set, information, time);
-	int result = signals_wait(time_after(clocks_nanoseconds(time)), &(struct wait){ pause_signal, NULL, &w });
+	int result = signals_wait(time_after(clocks_nanoseconds(time)), &(struct wait){ .pause = pause_signal, .what = &w });
 	return names_answer(result ? result : -EAGAIN);
 }

@@ -4,6 +4,7 @@
 #define _GNU_SOURCE
 #include "device.h"
 #include "kernel.h"
+#include "names.h"
 #include "server.h"
 #include <errno.h>
 #include <stdio.h>
@@ -103,6 +104,20 @@ static int wanted_samples(int file, int number, uint64_t asked, unsigned *wanted
 	return 0;
 }
 
+/* Waits until a time at which so many samples are there, or have room, or the command has ended. If another call changes
+ * the command meanwhile, or a signal comes whose handler restarts calls, that is asked again. Answers 0, or a negative error
+ * number. */
+static int wait_until(int file, int number, unsigned count, uint64_t time)
+{
+	for (;;) {
+		int result = time_wait(time);
+		if (result != BOARD_CHANGED && !(result == -EINTR && signals_restart()))
+			return result;
+		if (scans_await(file, number, count, &time) || time <= device->now)
+			return 0;
+	}
+}
+
 static int wait_for_samples(int file, int number, unsigned count)
 {
 	uint64_t time;
@@ -112,7 +127,7 @@ static int wait_for_samples(int file, int number, unsigned count)
 	/* where the time stands still nothing will come */
 	if (device->pace <= 0 && time <= device->now)
 		return -EIO;
-	return time_wait(time);
+	return wait_until(file, number, count, time);
 }
 
 /* Whether a read is woken by its first sample, after one that had to wait. Then one question awaits it, where a read that
@@ -128,7 +143,7 @@ static int wait_for_first(int file, int number)
 	uint64_t time;
 	struct file *f = &device->file[file];
 	f->has_waited = !scans_await(file, number, 1, &time) && time > device->now;
-	return f->has_waited ? time_wait(time) : 0;
+	return f->has_waited ? wait_until(file, number, 1, time) : 0;
 }
 
 /* Reads one sample, once it is there: where no other thread and no clock goes on meanwhile, by one question. */

@@ -18,6 +18,8 @@
 #include <string.h>
 #include <time.h>
 
+#define HOUR 3600000000000
+
 /* what the thread's last look at a clock showed, and the one before it */
 static __thread uint64_t last_look = NEVER, look_before = NEVER;
 
@@ -72,13 +74,30 @@ void time_to(uint64_t time)
 	device->now = time < device->horizon ? time : device->horizon;
 }
 
+/* With a pace the board's time is the wall clock's, whoever asks. */
+void time_catch_up(void)
+{
+	if (device->pace > 0)
+		time_to(paced_time());
+}
+
+/* With a pace: how many nanoseconds of the wall clock are left up to a time of the board, and at most an hour. */
+uint64_t time_left(uint64_t end)
+{
+	uint64_t now = paced_time();
+	double left = end > now ? (end - now) / device->pace + 1 : 0;
+	return left < HOUR ? left : HOUR;
+}
+
 /* The thread is busy for so long: nobody else has a turn meanwhile. */
 void time_spend(uint64_t nanoseconds)
 {
-	if (device->pace > 0)
-		time_wait(device->client_now + nanoseconds);
-	else
-		time_to(device->client_now + nanoseconds);
+	uint64_t end = device->client_now + nanoseconds;
+	if (device->pace <= 0)
+		time_to(end);
+	while (device->client_now < end)
+		if (time_wait(end) < 0)
+			break;
 }
 
 /* A call starts. */
@@ -87,32 +106,31 @@ void time_call(void)
 	time_to(device->pace > 0 ? paced_time() : device->client_now + device->call_time);
 }
 
-static int pause_sleep(void *what, uint64_t nanoseconds)
+/* A wait for nothing but its end. Signals are let in and looked for at once. */
+static int pause_sleep(void *what, uint64_t nanoseconds, const sigset_t *signals)
 {
 	struct timespec t = { nanoseconds / 1000000000, nanoseconds % 1000000000 };
 	(void)what;
-	return nanoseconds && REAL(nanosleep)(&t, NULL) ? -EINTR : 0;
+	return (nanoseconds || signals) && REAL(ppoll)(NULL, 0, &t, signals) ? -EINTR : 0;
 }
 
-const struct wait time_sleep = { pause_sleep, NULL, NULL };
+const struct wait time_sleep = { .pause = pause_sleep };
 
-/* Waits until a time, within a call. Where others may call meanwhile a signal ends the wait with -EINTR. */
+/* Waits for the board until a time, within a call. Answers 0, or BOARD_CHANGED where another call has changed what comes, or
+ * -EINTR where a signal has come. */
 int time_wait(uint64_t time)
 {
-	int result = 0;
+	struct wait wait = time_sleep;
+	uint64_t seen = device_changes();
+	wait.seen = &seen;
 	if (device->pace <= 0 && turns_is_alone()) {
 		time_to(time);
 		return 0;
 	}
-	uint64_t now = device->pace > 0 ? paced_time() : 0;
 	device_leave();
-	if (device->pace <= 0)
-		result = turns_wait(time, &time_sleep);
-	else if (time > now)
-		result = pause_sleep(NULL, (time - now) / device->pace + 1);
+	int result = turns_wait(time, &wait);
 	device_enter();
-	if (device->pace > 0)
-		time_to(paced_time());
+	time_catch_up();
 	return result;
 }
 

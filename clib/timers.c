@@ -274,7 +274,7 @@ ssize_t timers_read(int descriptor, void *to, size_t bytes)
 	while (!(count = take_count(descriptor))) {
 		if (!names_waits(descriptor))
 			return -EAGAIN;
-		if (polls_wait(&asked, 1, -1) < 0)
+		if (polls_wait(&asked, 1, -1, NULL) < 0)
 			return -errno;
 	}
 	device_enter();

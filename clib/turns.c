@@ -6,6 +6,11 @@
  * wait ends; of equal ends the one that began first. Up to then each wait is a real one, in short pieces, so that what a
  * thread does to end the wait of another ends it at once. A thread that runs on and on is waited for until its calls have
  * taken a millisecond more than the wait's end, or for a second of the wall clock.
+ *
+ * All that can end a wait is in its `struct wait`, where the others see it. A thread whose wait is over, since the board has
+ * changed, has something to do, though it still sleeps: no time goes on before it has seen that.
+ *
+ * A signal of the client is let in by a piece of a wait alone, which it ends. Between two pieces it would be lost.
  */
 #define _GNU_SOURCE
 #include "device.h"
@@ -16,10 +21,12 @@
 #include <unistd.h>
 
 #define MOST_TURNS 256
-/* nanoseconds of the wall clock: of a piece of the first wait, and of those behind it, and how long a thread may run */
+/* nanoseconds of the wall clock: of a piece of the first wait, of those behind it, and of one that is paced, and how long a
+ * thread may run */
 #define SHORTEST_PIECE 10000
 #define LONGEST_PIECE 500000
 #define PIECE_BEHIND 200000
+#define PACED_PIECE 1000000
 #define PATIENCE 1000000000
 #define HOUR 3600000000000
 /* nanoseconds of board time */
@@ -84,13 +91,6 @@ static struct turn *join(uint64_t end, const struct wait *wait)
 	return turn;
 }
 
-static void quit(void *turn)
-{
-	enter();
-	((struct turn *)turn)->is_there = 0;
-	leave();
-}
-
 /* When a wait ends, or something comes by itself. */
 static uint64_t end_of(const struct turn *turn)
 {
@@ -123,6 +123,23 @@ static int is_under_another(const struct turn *turn)
 		if (turns[i].is_there && turns[i].thread == turn->thread && turns[i].number > turn->number)
 			return 1;
 	return 0;
+}
+
+/* Whether the board has changed since a thread that waits for it has looked. */
+static int is_news(const struct wait *wait)
+{
+	return wait->seen && device_changes() != *wait->seen;
+}
+
+/* Whether a thread that waits has to look at the board again. */
+static int have_news(void)
+{
+	int have = 0;
+	enter();
+	for (int i = 0; i < MOST_TURNS; i++)
+		have |= turns[i].is_there && is_news(turns[i].wait) && !is_under_another(turns + i);
+	leave();
+	return have;
 }
 
 /* Whether a wait has an end, and the earliest. */
@@ -163,16 +180,23 @@ static uint64_t has_turn(struct turn *turn)
 		return 0;
 	}
 	turn->piece = !turn->piece ? SHORTEST_PIECE : 2 * turn->piece < LONGEST_PIECE ? 2 * turn->piece : LONGEST_PIECE;
-	return is_over(turn) ? OVER : threads_sleep();
+	uint64_t sleep = is_over(turn) ? OVER : threads_sleep();
+	return have_news() ? 0 : sleep;
+}
+
+/* One piece of a wait. */
+static int pause_once(const struct wait *wait, uint64_t nanoseconds, const sigset_t *signals)
+{
+	return is_news(wait) ? BOARD_CHANGED : wait->pause(wait->what, nanoseconds, signals);
 }
 
 /* Real waits, until what is waited for is there or the wait has its turn: the others sleep, what is waited for isn't there,
  * and none of them has run meanwhile. */
-static int wait_in_pieces(struct turn *turn)
+static int wait_in_pieces(struct turn *turn, const sigset_t *signals)
 {
 	const struct wait *wait = turn->wait;
 	uint64_t before = 0, sleep = 0;
-	int result = wait->pause(wait->what, 0);
+	int result = pause_once(wait, 0, signals);
 	while (!result && end_of(turn) > turn->start) {
 		sleep = has_turn(turn);
 		if (sleep && sleep == before && is_first(turn)) {
@@ -181,20 +205,67 @@ static int wait_in_pieces(struct turn *turn)
 			break;
 		}
 		before = sleep;
-		result = wait->pause(wait->what, sleep ? 0 : turn->piece ? turn->piece : PIECE_BEHIND);
+		result = pause_once(wait, sleep ? 0 : turn->piece ? turn->piece : PIECE_BEHIND, signals);
 	}
 	return result;
 }
 
-/* The thread's wait is known before it sleeps at all. If it is cancelled, it has no turn any more. */
-static int wait_for_turn(uint64_t end, const struct wait *wait)
+/* A wait that nothing in the board's time ends. */
+static int wait_for_ever(const struct wait *wait, const sigset_t *signals)
 {
+	int result = 0;
+	while (!result)
+		result = wait->pause(wait->what, HOUR, signals);
+	return result;
+}
+
+/* A wait with a pace: the board's time is the wall clock's. */
+static int wait_paced(uint64_t end, const struct wait *wait, const sigset_t *signals)
+{
+	int result = pause_once(wait, 0, signals);
+	for (uint64_t left; !result && (left = time_left(end)); )
+		result = pause_once(wait, left < PACED_PIECE ? left : PACED_PIECE, signals);
+	return result;
+}
+
+/* What a thread has while it waits, and gives back where it is cancelled: a turn, and its own mask of signals. */
+struct waiting {
+	struct turn *turn;
+	sigset_t signals;
+};
+
+static void stop_waiting(void *what)
+{
+	const struct waiting *waiting = what;
+	enter();
+	if (waiting->turn)
+		waiting->turn->is_there = 0;
+	leave();
+	pthread_sigmask(SIG_SETMASK, &waiting->signals, NULL);
+}
+
+static int wait_really(uint64_t end, const struct wait *wait, struct waiting *waiting)
+{
+	const sigset_t *signals = wait->signals ? wait->signals : &waiting->signals;
+	if (device->pace > 0)
+		return wait_paced(end, wait, signals);
+	if (end == NEVER && !wait->due && !wait->seen)
+		return wait_for_ever(wait, signals);
+	waiting->turn = join(end, wait);
+	return waiting->turn ? wait_in_pieces(waiting->turn, signals) : pause_once(wait, end - device->client_now, signals);
+}
+
+/* A wait among several threads. It is known before the thread sleeps at all. If the thread is cancelled, it has no turn any
+ * more. */
+static int wait_among_others(uint64_t end, const struct wait *wait)
+{
+	struct waiting waiting = { 0 };
+	sigset_t all;
 	int result;
-	struct turn *turn = join(end, wait);
-	if (!turn)
-		return wait->pause(wait->what, end - device->client_now);
-	pthread_cleanup_push(quit, turn);
-	result = wait_in_pieces(turn);
+	sigfillset(&all);
+	pthread_sigmask(SIG_SETMASK, &all, &waiting.signals);
+	pthread_cleanup_push(stop_waiting, &waiting);
+	result = wait_really(end, wait, &waiting);
 	pthread_cleanup_pop(1);
 	return result;
 }
@@ -202,11 +273,11 @@ static int wait_for_turn(uint64_t end, const struct wait *wait)
 /* A wait of the only thread. */
 static int wait_alone(uint64_t end, const struct wait *wait)
 {
-	int result = wait->pause(wait->what, 0);
+	int result = wait->pause(wait->what, 0, wait->signals);
 	uint64_t due = wait->due ? wait->due(wait->what) : NEVER;
 	end = due < end ? due : end;
 	while (!result && end == NEVER)
-		result = wait->pause(wait->what, HOUR);
+		result = wait->pause(wait->what, HOUR, wait->signals);
 	if (!result)
 		go_on(end);
 	return result;
@@ -217,15 +288,8 @@ int turns_is_alone(void)
 	return __libc_single_threaded;
 }
 
-/* Waits up to a time of the client, or for ever. */
+/* Waits up to a time of the client, or for ever. Answers 0 where the time has come, or what has ended the wait before. */
 int turns_wait(uint64_t end, const struct wait *wait)
 {
-	int result = 0;
-	if (turns_is_alone())
-		return wait_alone(end, wait);
-	if (end != NEVER || wait->due)
-		return wait_for_turn(end, wait);
-	while (!result)
-		result = wait->pause(wait->what, HOUR);
-	return result;
+	return device->pace <= 0 && turns_is_alone() ? wait_alone(end, wait) : wait_among_others(end, wait);
 }
