@@ -19,6 +19,8 @@ LIBRARY = "libzendrouz_comedi.so"
 PROGRAM = "comedi_serve"
 # what is built once, and stands in the folder of each part by a link
 BUILT = (LIBRARY, "counting.so", "tests", "sanitized", "programs")
+# the last line of a record of which nothing is missing
+WHOLE = "# the record is whole"
 SECONDS = 60
 SECONDS_OF_ALL = 600
 SECONDS_OF_AN_END = 20
@@ -200,6 +202,10 @@ class Check:
         if os.path.exists(record):
             with open(record, encoding="utf-8") as file:
                 lines = file.read().splitlines()
+            if lines[-1:] == [WHOLE]:
+                lines.pop()
+            else:
+                self.expect("%s: its record is whole" % (words,), environment.get("ZENDROUZ_LOG"), lines[-5:])
         return Run(started.returncode, out.decode(errors="replace"), err.decode(errors="replace"), lines)
 
     def replayed(self, board, record):

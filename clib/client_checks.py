@@ -7,7 +7,7 @@ import subprocess
 import threading
 import time
 
-from checking import TESTS, processes_of, python_with_comedi, text_of, write_file
+from checking import TESTS, WHOLE, processes_of, python_with_comedi, text_of, write_file
 
 RANDOM_CALLS = 1000000
 RANDOM_SECONDS = 200
@@ -132,6 +132,45 @@ def wakes(check):
         # with a pace the times are the machine's
         right = run.out == watched or settings and run.out.startswith(watched[:watched.index(" looks") - 1])
         check.expect("a watch that cancels a read %s" % settings, right and not run.err, run.out, run.err)
+
+
+def text_at(path):
+    with open(path, encoding="utf-8") as file:
+        return file.read()
+
+
+def records(check):
+    """A record that can't be written, or not to its end, isn't dropped without a word."""
+    late, path = [check.path("tests/late")], check.path("cut")
+    for log, error in (("/nowhere/record", "No such file or directory"), (check.folder, "Is a directory")):
+        run = check.run("small", late, ZENDROUZ_LOG=log)
+        check.expect("a record %s" % log, run.out == "open: %s\n" % error and run.err == "zendrouz: ZENDROUZ_LOG=%s: %s\n" % (log, error), run.out, run.err)
+    said = "zendrouz: ZENDROUZ_LOG=%s: %s. The record ends here, and the program goes on\n"
+    run = check.run("small", late, ZENDROUZ_LOG="/dev/full")
+    check.expect("a record on a full device", run.out == text_of("late.expected") and run.err == said % ("/dev/full", "No space left on device"), run.out, run.err)
+    # up to 150 KiB, in which the device's memory has room, and the record hasn't
+    small = ["sh", "-c", "trap '' XFSZ; ulimit -f 300; exec \"$0\" 2 10000", check.path("tests/many")]
+    run = check.run("wide", small, ZENDROUZ_LOG=path)
+    check.expect("a record that becomes too large", run.out == codes_of_many(10000)[1] and said % (path, "File too large") in run.err, run.out, run.err)
+    text = text_at(path)
+    samples, _, refusal = check.replayed("wide", text.splitlines())
+    right = text.endswith("\n") and WHOLE not in text and samples == codes_of_many(10000)[0][:len(samples)]
+    check.expect("its lines, up to there", right and len(samples) > 1000 and not refusal, refusal, text[-200:])
+
+
+def records_of_two(check):
+    """A client that runs on: its record is whole at any time, and no other program writes into it."""
+    path = check.path("cut")
+    started = check.start([check.path("tests/many"), "2", "4000000000"], check.settings("wide", ZENDROUZ_LOG=path))
+    line = started.stdout.readline()
+    out, err = check.finish(check.start([check.path("tests/late")], check.settings("small", ZENDROUZ_LOG=path)))
+    busy = "zendrouz: ZENDROUZ_LOG=%s: another program writes its record there. Give each program a file of its own\n" % path
+    check.expect("a record of two programs", out == b"open: Device or resource busy\n" and err == busy.encode(), out, err)
+    started.kill()
+    check.finish(started)
+    lines = text_at(path).splitlines()
+    check.expect("the record of a client that is killed", line == b"command: 0\n" and len(lines) > 4 and lines[-1] == WHOLE and lines.count(WHOLE) == 1, lines[-5:])
+    check.expect_no_process("a client that is killed")
 
 
 def cancellations(check):

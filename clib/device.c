@@ -127,16 +127,15 @@ static int load(const char *path)
 {
 	snprintf(device->path, sizeof device->path, "%s", path);
 	int result = start_program(path);
-	if (result)
-		return result;
-	result = buffer_make_memory();
+	if (!result)
+		result = buffer_make_memory();
+	if (!result)
+		result = record_open();
 	if (result)
 		return result;
 	for (int i = 0; i < MOST_FILES; i++)
 		device->file[i].is_open = 0;
 	time_start();
-	if (getenv("ZENDROUZ_LOG") && *getenv("ZENDROUZ_LOG"))
-		record_open(getenv("ZENDROUZ_LOG"));
 	return 0;
 }
 

@@ -100,6 +100,9 @@ struct device {
 	uint64_t clock_start[CLOCKS];
 	/* whether the time has begun: the first file was opened */
 	int has_begun;
+	/* how many bytes of the record are written, and whether its next lines couldn't be */
+	uint64_t record_length;
+	int record_is_cut;
 	enum wake wake;
 	/* the start of the memory of all buffers, which is there before a client makes children: through it is copied */
 	char *copied;

@@ -1,21 +1,35 @@
 /*
- * The record: the lines of the session as they were asked, in the file that ZENDROUZ_LOG names. Behind the board's
- * text it is a job for `comedi replay`. Notes are comments there.
+ * The record: the lines of the session as they were asked, in the file that ZENDROUZ_LOG names. Behind the board's text it
+ * is a job for `comedi replay`. Notes are comments there.
+ *
+ * The last line says that the record is whole. It's written after the lines of each call, and the next call's lines are
+ * written over it. So it's missing where a line couldn't be written, and where the client was killed in the middle. In a
+ * pipe or on a terminal nothing can be written over, and there is no such line.
  */
 #define _GNU_SOURCE
 #include "descriptors.h"
+#include "device.h"
 #include "server.h"
 #include <errno.h>
 #include <fcntl.h>
+#include <limits.h>
 #include <stdarg.h>
 #include <stdio.h>
+#include <stdlib.h>
 #include <string.h>
+#include <sys/file.h>
+#include <sys/stat.h>
 #include <sys/syscall.h>
 #include <unistd.h>
 
+#define WHOLE "# the record is whole\n"
+
 static int record = -1;
+/* whether it's a file in which can be written over, and its name */
+static int is_file;
+static char name[PATH_MAX];
 /* the lines of one call, which are written at its end */
-static char held[1 << 16];
+static char held[(1 << 16) + sizeof WHOLE];
 static size_t length_of_held;
 
 /* Called in a child made by fork. It may have lines of a call of another thread, which writes them itself. */
@@ -24,26 +38,92 @@ void record_begin_child(void)
 	length_of_held = 0;
 }
 
-void record_open(const char *path)
+/* Writes the lines, at the place where they belong in a file, and behind them that the record is whole. Answers 0, or an
+ * error number. */
+static int write_held(int descriptor)
 {
-	record = keep_away(syscall(SYS_openat, AT_FDCWD, path, O_WRONLY | O_CREAT | O_TRUNC | O_APPEND | O_CLOEXEC, 0666));
-	if (record < 0)
-		message("%s: %s", path, strerror(errno));
+	size_t length = length_of_held, done = 0;
+	if (is_file) {
+		memcpy(held + length, WHOLE, sizeof WHOLE - 1);
+		length += sizeof WHOLE - 1;
+	}
+	while (done < length) {
+		long count = is_file ? syscall(SYS_pwrite64, descriptor, held + done, length - done, device->record_length + done)
+			: syscall(SYS_write, descriptor, held + done, length - done);
+		if (count <= 0)
+			return count ? errno : ENOSPC;
+		done += count;
+	}
+	return 0;
+}
+
+/* Begins the record in a file that was opened, unless another program has its own there. Answers 0, or an error number. */
+static int begin(int descriptor)
+{
+	struct stat state;
+	if (fstat(descriptor, &state))
+		return errno;
+	is_file = S_ISREG(state.st_mode);
+	device->record_length = device->record_is_cut = length_of_held = 0;
+	if (!is_file)
+		return 0;
+	if (flock(descriptor, LOCK_EX | LOCK_NB) && errno == EWOULDBLOCK)
+		return EBUSY;
+	return ftruncate(descriptor, 0) ? errno : write_held(descriptor);
+}
+
+/* Says why there is no record. */
+static int refuse(int error)
+{
+	const char *busy = "another program writes its record there. Give each program a file of its own";
+	message("ZENDROUZ_LOG=%s: %s", name, error == EBUSY ? busy : strerror(error));
+	return -error;
+}
+
+/* Opens the record under the name that the environment has, if any. Answers 0, or a negative error number after a line. */
+int record_open(void)
+{
+	const char *path = getenv("ZENDROUZ_LOG");
+	if (!path || !*path)
+		return 0;
+	snprintf(name, sizeof name, "%s", path);
+	int descriptor = keep_away(syscall(SYS_openat, AT_FDCWD, path, O_WRONLY | O_CREAT | O_CLOEXEC | O_NOCTTY, 0666));
+	int error = descriptor < 0 ? errno : begin(descriptor);
+	if (error && descriptor >= 0)
+		syscall(SYS_close, descriptor);
+	if (error)
+		return refuse(error);
+	record = descriptor;
 	descriptors_protect(&record);
+	return 0;
+}
+
+/* Ends the record where lines can't be written. What was written of them goes, and the line that says that it's whole. */
+static void cut_off(int error)
+{
+	device->record_is_cut = 1;
+	if (is_file && ftruncate(record, device->record_length))
+		error = errno;
+	message("ZENDROUZ_LOG=%s: %s. The record ends here, and the program goes on", name, strerror(error));
 }
 
 void record_flush(void)
 {
-	if (length_of_held && write(record, held, length_of_held) != (ssize_t)length_of_held)
-		record = -1;
+	if (!length_of_held)
+		return;
+	int error = device->record_is_cut ? 0 : write_held(record);
+	if (error)
+		cut_off(error);
+	device->record_length += error ? 0 : length_of_held;
 	length_of_held = 0;
 }
 
 void record_line(const char *text, size_t length)
 {
-	if (length_of_held + length > sizeof held)
+	const size_t room = sizeof held - sizeof WHOLE;
+	if (length_of_held + length > room)
 		record_flush();
-	if (record < 0 || length > sizeof held)
+	if (record < 0 || length > room)
 		return;
 	memcpy(held + length_of_held, text, length);
 	length_of_held += length;

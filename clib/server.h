@@ -48,7 +48,7 @@ void messages_hold(void);
 void messages_let_go(void);
 
 /* record.c */
-void record_open(const char *path);
+int record_open(void);
 void record_begin_child(void);
 void record_line(const char *text, size_t length);
 void record_flush(void);

@@ -10,7 +10,7 @@ from pathlib import Path
 from unittest import mock
 
 from needed import CLIB_TESTS, CLIENTS, SMALL, Case, build_clients, needs
-from zendrouz import Board, Overrun, ProgramTimedOut, Signals, const, find, replay
+from zendrouz import Board, Overrun, ProgramTimedOut, RecordCut, Signals, const, find, replay
 from zendrouz.bench import CommandEnd, ProgramRun, run_program
 from zendrouz.texts import GREATEST_HORIZON, head_of
 
@@ -96,6 +96,23 @@ class Programs(Case):
         self.assertEqual(str(pickle.loads(pickle.dumps(error))), str(error))
         while runs(child):  # it was killed, but that isn't awaited
             time.sleep(0.01)
+
+    def test_a_record_that_is_cut_off_is_no_run_without_a_loss(self) -> None:
+        """The record may have no more bytes than the device's memory needs."""
+        words = ["sh", "-c", "trap '' XFSZ; ulimit -f 300; exec \"$0\" 2 10000", str(CLIENTS / "many")]
+        with self.assertRaises(RecordCut) as raised:
+            run_program(words, board=CLIB_TESTS / "wide.board")
+        error = raised.exception
+        self.assertIn("sh: the record isn't whole", str(error))
+        self.assertIn("File too large", str(error))
+        self.assertEqual(error.run.status, 0)
+        self.assertGreater(len(replay(error.run.record).samples(0)), 1000)
+        self.assertEqual(str(pickle.loads(pickle.dumps(error))), str(error))
+
+    def test_a_record_is_whole_though_the_program_was_killed(self) -> None:
+        run = run_program(["sh", "-c", "\"$0\" 2 1000; kill -9 $$", str(CLIENTS / "many")], board=CLIB_TESTS / "wide.board")
+        self.assertEqual(run.status, -signal.SIGKILL)
+        self.assertEqual(len(run.ends), 1)
 
     def test_a_program_that_is_not_there(self) -> None:
         with self.assertRaises(FileNotFoundError):

@@ -3,7 +3,7 @@
 Times are in nanoseconds, and levels in micro-units. docs/BENCH.md has the first steps.
 """
 from .answers import Conversion, Done, Dry, End, Fifo, Idle, Out, Overrun, Sample, Taken, Underrun
-from .bench import CommandEnd, ProgramRun, ProgramTimedOut, run_program
+from .bench import CommandEnd, ProgramRun, ProgramTimedOut, RecordCut, run_program
 from .jobs import ask, expand, insn, loop, replay, run, soak, test, watch
 from .programs import Missing, find
 from .refusals import ComediError, Failed, Refused, TimedOut
@@ -15,7 +15,7 @@ from .texts import (FALLING, Board, Channel, ChannelForm, Command, Flag, Job, Re
 __all__ = [
     "Board", "Channel", "ChannelForm", "ComediError", "Command", "CommandEnd", "Conversion", "Done", "Dry", "End",
     "FALLING", "Failed", "Fifo", "Flag", "Idle", "Info", "Job", "Missing", "Out", "Overrun", "ProgramRun", "ProgramTimedOut",
-    "Reference", "Refused", "Sample", "Session", "Signals", "Source", "Subdevice", "SweepFailed", "Taken", "TimedOut", "Underrun",
+    "RecordCut", "Reference", "Refused", "Sample", "Session", "Signals", "Source", "Subdevice", "SweepFailed", "Taken", "TimedOut", "Underrun",
     "Wave", "ask", "const", "expand", "find", "insn", "loop", "record", "replay", "run", "run_program", "saw", "sine",
     "soak", "square", "sweep", "table", "test", "watch",
 ]

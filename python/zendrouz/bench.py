@@ -21,6 +21,8 @@ from .refusals import TimedOut
 from .texts import Board, PathLike, Signals, head_of, write_file
 
 _END = re.compile(r"^# (\d+) end: (?:ok 0|err 32) (.*)$", re.M)
+#: The last line of a record of which nothing is missing.
+_WHOLE = "# the record is whole\n"
 
 
 @dataclass(frozen=True)
@@ -64,6 +66,22 @@ class ProgramTimedOut(TimedOut):
         return "%s. The last line of its record: %s" % (super().__str__(), self.run.record.splitlines()[-1])
 
 
+class RecordCut(Exception):
+    """A program's record isn't whole: a line couldn't be written. So it isn't known what the program lost.
+
+    `run` has what the program did, and its record as far as it goes. The reason is the last line of `run.error`.
+    """
+
+    def __init__(self, name: str, run: ProgramRun) -> None:
+        super().__init__(name, run)
+        self.name, self.run = name, run
+
+    def __str__(self) -> str:
+        said = [line for line in self.run.error.splitlines() if line.startswith("zendrouz: ZENDROUZ_LOG=")]
+        return "%s: the record isn't whole, so it isn't known what was lost. %s" % (
+            self.name, said[-1] if said else "Is there room for it in %s?" % tempfile.gettempdir())
+
+
 def run_program(args: Sequence[PathLike], *, board: Union[Board, PathLike], signals: Union[Signals, str, None] = None,
                 call_ns: Optional[int] = None, timeout: float = 60.0, input: str = "", folder: Optional[PathLike] = None,
                 environment: Optional[Mapping[str, str]] = None) -> ProgramRun:
@@ -71,8 +89,9 @@ def run_program(args: Sequence[PathLike], *, board: Union[Board, PathLike], sign
 
     `board` and `signals` are as in `head_of`. Each call of the device file takes `call_ns` nanoseconds of the board's
     time, 1000 where that isn't said. After `timeout` seconds the program is killed with its children, and
-    `ProgramTimedOut` is raised. `input` is what the program reads, `folder` where it runs. `environment` has variables besides those of this
-    process, as ZENDROUZ_WAKE (docs/CLIENTS.md has them all).
+    `ProgramTimedOut` is raised, and `RecordCut` if the record of what it asked isn't whole. `input` is what the program
+    reads, `folder` where it runs. `environment` has variables besides those of this process, as ZENDROUZ_WAKE
+    (docs/CLIENTS.md has them all).
     """
     with tempfile.TemporaryDirectory(prefix="zendrouz_") as name:
         files = Path(name)
@@ -85,11 +104,13 @@ def run_program(args: Sequence[PathLike], *, board: Union[Board, PathLike], sign
             variables["ZENDROUZ_CALL_NS"] = str(call_ns)
         with open(files / "input", "rb") as given, open(files / "output", "wb") as output, open(files / "error", "wb") as error:
             status, is_late = _run([os.fspath(arg) for arg in args], variables, folder, (given, output, error), timeout)
-        lines = _text(files / "log")
+        lines, is_whole = _record(files / "log")
         ends = [CommandEnd(int(time), end) for time, words in _END.findall(lines) for end in [end_of(words.split())] if end]
         run = ProgramRun(status, _text(files / "output"), _text(files / "error"), head + lines, tuple(ends))
     if is_late:
         raise ProgramTimedOut(os.path.basename(args[0]), timeout, run)
+    if not is_whole:
+        raise RecordCut(os.path.basename(args[0]), run)
     return run
 
 
@@ -115,6 +136,12 @@ def _run(words: Sequence[str], variables: Mapping[str, str], folder: Optional[Pa
     except BaseException:
         kill(started)
         raise
+
+
+def _record(path: Path) -> Tuple[str, bool]:
+    """The lines of a record, and whether it is whole. A program that opened no board has none."""
+    text = _text(path)
+    return (text[:-len(_WHOLE)], True) if text.endswith(_WHOLE) else (text, not path.exists())
 
 
 def _text(path: Path) -> str:

@@ -7,7 +7,7 @@ from typing import Any, Callable, Generator, List, Optional, Sequence, Tuple, Ty
 
 import pytest
 
-from .bench import ProgramRun, ProgramTimedOut, run_program
+from .bench import ProgramRun, ProgramTimedOut, RecordCut, run_program
 from .jobs import SECONDS, JobLike, Replay, replay, text_of
 from .session import Session
 from .texts import Board, PathLike, Signals, write_file
@@ -33,8 +33,8 @@ class Bench:
         title = shorten(" ".join([os.path.basename(args[0]), *map(str, args[1:])]), 60)
         try:
             run = run_program(args, board=board, signals=signals, call_ns=call_ns, **settings)
-        except ProgramTimedOut as late:
-            self._keep(title, late.run.record)
+        except (ProgramTimedOut, RecordCut) as failed:
+            self._keep(title, failed.run.record)
             raise
         self._keep(title, run.record)
         return run
