@@ -7,7 +7,7 @@ import subprocess
 import threading
 import time
 
-from checking import TESTS, WHOLE, processes_of, python_with_comedi, text_of, write_file
+from checking import LIBRARY, TESTS, WHOLE, processes_of, python_with_comedi, text_of, write_file
 
 RANDOM_CALLS = 1000000
 RANDOM_SECONDS = 200
@@ -46,6 +46,8 @@ def clients(check):
     check.client("refused", "refused")
     check.client("closed", "wide")
     check.client("stack", "wide", LD_BIND_NOW="1")
+    for more in ("", ":" + check.path("old_library.so")):
+        check.client("condition", "wide", LD_PRELOAD=check.path(LIBRARY) + more)
     run = check.client("bytes", "wide")
     # eight words of the first output, and one of the second
     words = [int(line.split()[4]) for line in run.outs()]

@@ -15,7 +15,7 @@
 	({ \
 		static __typeof__(&name) found; \
 		if (!found) \
-			found = (__typeof__(&name))dlsym(RTLD_NEXT, #name); \
+			found = (__typeof__(&name))names_find(#name); \
 		found; \
 	})
 
@@ -23,6 +23,9 @@
 #define SLEEP_IS_REAL (-1)
 /* what ends a wait early is there */
 #define CAME 1
+
+/* finding.c: the next function of a name, after this library's */
+void *names_find(const char *name);
 
 /* names.c: a descriptor's file of the session, whether its calls wait, and the answer of a call */
 int names_file(int descriptor);
