@@ -141,6 +141,28 @@ def text_at(path):
         return file.read()
 
 
+WRONG_SETTINGS = (("CALL_NS", "", "a number of nanoseconds, in digits alone such as 1000"),
+                  ("CALL_NS", "1us", "a number of nanoseconds, in digits alone such as 1000"),
+                  ("CALL_NS", "-1", "a number of nanoseconds, in digits alone such as 1000"),
+                  ("PACE", "fast", "a number above 0, such as 1 or 0.5"), ("PACE", "nan", "a number above 0, such as 1 or 0.5"),
+                  ("PACE", "0.0", "a number above 0, such as 1 or 0.5"), ("WAKE", "smaple", "sample, scan or full"),
+                  ("CLOCK", "sytem", "board or system"), ("START", "2030-01-01", "a date from 2000 to 2037, such as 2030-01-01T00:00:00Z"),
+                  ("START", "1999-12-31T23:59:59Z", "a date from 2000 to 2037, such as 2030-01-01T00:00:00Z"))
+
+
+def settings(check):
+    """Settings that can't be read refuse the board, and the others do what they say."""
+    late = [check.path("tests/late")]
+    for name, value, wanted in WRONG_SETTINGS:
+        run = check.run("small", late, **{"ZENDROUZ_" + name: value})
+        said = "zendrouz: ZENDROUZ_%s=%s: that can't be read. Give %s, or unset it\n" % (name, value, wanted)
+        check.expect("the setting %s=%s" % (name, value), run.out == "open: Invalid argument\n" and run.err == said, run.out, run.err)
+    for more in ({"ZENDROUZ_CALL_NS": "1000"}, {"ZENDROUZ_WAKE": "full", "ZENDROUZ_CLOCK": "board"}, {"ZENDROUZ_WAKE": "", "ZENDROUZ_START": ""}):
+        check.client("late", "small", **more)
+    for _ in range(2):
+        check.client("date", "wide", ZENDROUZ_START="2030-01-01T00:00:00Z")
+
+
 def records(check):
     """A record that can't be written, or not to its end, isn't dropped without a word."""
     late, path = [check.path("tests/late")], check.path("cut")

@@ -1,6 +1,7 @@
 /*
  * The clocks that a client asks. From the first open on they show its own time. They start at what the system's showed, a
- * whole second up, so that what a client noted before stays in the past, and the fractions are those of the board.
+ * whole second up, so that what a client noted before stays in the past, and the fractions are those of the board. Or the
+ * date starts at one that is set.
  */
 #define _GNU_SOURCE
 #include "clocks.h"
@@ -34,12 +35,19 @@ static int clock_of(clockid_t clock)
 	return NO_CLOCK;
 }
 
+/* What the clocks show at the board's time 0. A date that is set is that of the clocks that show dates; the others go on, so
+ * that none falls. */
 void clocks_start(void)
 {
 	struct timespec now;
 	for (int i = 0; i < CLOCKS; i++)
 		if (clock_of(i) == i && !REAL(clock_gettime)(i, &now))
 			device->clock_start[i] = (now.tv_sec + 1) * SECOND;
+	if (!device->start_date)
+		return;
+	uint64_t ahead = device->clock_start[CLOCK_TAI] - device->clock_start[CLOCK_REALTIME];
+	device->clock_start[CLOCK_REALTIME] = device->start_date * SECOND;
+	device->clock_start[CLOCK_TAI] = device->start_date * SECOND + ahead;
 }
 
 struct timespec clocks_time(uint64_t nanoseconds)

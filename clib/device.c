@@ -126,7 +126,9 @@ static int start_program(const char *path)
 static int load(const char *path)
 {
 	snprintf(device->path, sizeof device->path, "%s", path);
-	int result = start_program(path);
+	int result = settings_read();
+	if (!result)
+		result = start_program(path);
 	if (!result)
 		result = buffer_make_memory();
 	if (!result)

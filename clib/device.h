@@ -95,9 +95,9 @@ struct device {
 	/* how often a call changed what others wait for: a command, a trigger, a cancel, a close, and that nothing is answered */
 	uint64_t changes;
 	uint64_t wall_start;
-	/* whether the client's clocks show its time, and what each showed at 0 */
+	/* whether the client's clocks show its time, what each showed at 0, and the date at 0 if it's set, in seconds */
 	int shows_time;
-	uint64_t clock_start[CLOCKS];
+	uint64_t clock_start[CLOCKS], start_date;
 	/* whether the time has begun: the first file was opened */
 	int has_begun;
 	/* how many bytes of the record are written, and whether its next lines couldn't be */
@@ -193,6 +193,9 @@ int command_call(int file, comedi_cmd *command);
 int instruction_do(int file, comedi_insn *instruction, unsigned *data);
 int instruction_list(int file, const comedi_insnlist *list);
 int instruction_one(int file, const comedi_insn *instruction);
+
+/* settings.c */
+int settings_read(void);
 
 /* time.c */
 void time_start(void);

@@ -35,15 +35,10 @@ static uint64_t paced_time(void)
 	return (time_of_wall() - device->wall_start) * device->pace;
 }
 
+/* The time begins, by the settings that were read. */
 void time_start(void)
 {
-	const char *calls = getenv("ZENDROUZ_CALL_NS"), *pace = getenv("ZENDROUZ_PACE"), *wake = getenv("ZENDROUZ_WAKE");
-	const char *clock = getenv("ZENDROUZ_CLOCK");
-	device->call_time = calls ? strtoull(calls, NULL, 10) : 1000;
-	device->pace = pace ? strtod(pace, NULL) : 0;
-	device->wake = !wake ? WAKE_FULL : !strcmp(wake, "sample") ? WAKE_SAMPLE : !strcmp(wake, "scan") ? WAKE_SCAN : WAKE_FULL;
 	device->wall_start = time_of_wall();
-	device->shows_time = device->pace <= 0 && !(clock && !strcmp(clock, "system"));
 	clocks_start();
 	device->has_begun = 1;
 }

@@ -64,6 +64,18 @@ class Programs(Case):
         run = run_program([CLIENTS / "late"], board=SMALL, call_ns=5000)
         self.assertIn("\n5000 insn 0 0 gtod\n10000 insn 0 0 gtod\n", run.record)
 
+    def test_the_date_is_the_same_in_each_run(self) -> None:
+        run = run_program([CLIENTS / "date"], board=CLIB_TESTS / "wide.board")
+        self.assertEqual(run.output, (CLIB_TESTS / "date.expected").read_text())
+        later = run_program([CLIENTS / "date"], board=CLIB_TESTS / "wide.board", start="2031-02-03T04:05:05Z")
+        self.assertEqual(later.output, "opened: 2031-02-03T04:05:05Z\nslept: 2031-02-03T04:05:10Z\nthe code: 155\n")
+        self.assertNotIn("203", run_program([CLIENTS / "date"], board=CLIB_TESTS / "wide.board", start=None).output)
+
+    def test_a_setting_that_cannot_be_read_is_said(self) -> None:
+        run = run_program([CLIENTS / "late"], board=SMALL, environment={"ZENDROUZ_WAKE": "smaple"})
+        self.assertEqual(run.output, "open: Invalid argument\n")
+        self.assertIn("ZENDROUZ_WAKE=smaple: that can't be read. Give sample, scan or full, or unset it", run.error)
+
     def test_the_library_may_stand_in_any_folder(self) -> None:
         with tempfile.TemporaryDirectory(prefix="a b:c ") as folder:
             library = shutil.copy(find("libzendrouz_comedi.so"), folder)

@@ -21,6 +21,8 @@ from .refusals import TimedOut
 from .texts import Board, PathLike, Signals, head_of, write_file
 
 _END = re.compile(r"^# (\d+) end: (?:ok 0|err 32) (.*)$", re.M)
+#: The date that a program's clocks show where it opens the board, so that it does the same in each run.
+START = "2030-01-01T00:00:00Z"
 #: The last line of a record of which nothing is missing.
 _WHOLE = "# the record is whole\n"
 
@@ -84,21 +86,22 @@ class RecordCut(Exception):
 
 def run_program(args: Sequence[PathLike], *, board: Union[Board, PathLike], signals: Union[Signals, str, None] = None,
                 call_ns: Optional[int] = None, timeout: float = 60.0, input: str = "", folder: Optional[PathLike] = None,
-                environment: Optional[Mapping[str, str]] = None) -> ProgramRun:
+                environment: Optional[Mapping[str, str]] = None, start: Optional[str] = START) -> ProgramRun:
     """Runs a program, to which the modelled board is `/dev/comedi0`, up to its end.
 
     `board` and `signals` are as in `head_of`. Each call of the device file takes `call_ns` nanoseconds of the board's
     time, 1000 where that isn't said. After `timeout` seconds the program is killed with its children, and
     `ProgramTimedOut` is raised, and `RecordCut` if the record of what it asked isn't whole. `input` is what the program
     reads, `folder` where it runs. `environment` has variables besides those of this process, as ZENDROUZ_WAKE
-    (docs/CLIENTS.md has them all).
+    (docs/CLIENTS.md has them all). `start` is the date that its clocks show from the open of the board on, and None
+    that of the system.
     """
     with tempfile.TemporaryDirectory(prefix="zendrouz_") as name:
         files = Path(name)
         head = head_of(board, signals)
         write_file(files / "board", head)
         write_file(files / "input", input)
-        variables = {**os.environ, **(environment or {})}
+        variables = {**os.environ, **({"ZENDROUZ_START": start} if start else {}), **(environment or {})}
         variables.update(_device(files, variables.get("LD_PRELOAD")))
         if call_ns is not None:
             variables["ZENDROUZ_CALL_NS"] = str(call_ns)
