@@ -220,6 +220,7 @@ int descriptors_make(int file, int flags)
 		return -EMFILE;
 	}
 	descriptors_enter(&quiet);
+	device->file[file].never_waits = (flags & O_NONBLOCK) != 0;
 	write_word(descriptor, word_with(FILE_OF_DEVICE, file, inode_of(descriptor)));
 	descriptors_leave(&quiet);
 	return descriptor;
@@ -244,14 +245,18 @@ void descriptors_double(int old, int new)
 	descriptors_leave(&quiet);
 }
 
-/* Asks the kernel whether a file of the device wants a signal where samples come. */
-void descriptors_note_signals(int descriptor)
+/* Asks the kernel for the flags of a file of the device that were set: whether its calls wait, and whether it wants a signal
+ * where samples come. */
+void descriptors_note_flags(int descriptor)
 {
 	struct quiet quiet;
 	int flags = REAL(fcntl)(descriptor, F_GETFL);
 	descriptors_enter(&quiet);
-	if (flags >= 0 && kind_of(word_of(descriptor)) == FILE_OF_DEVICE)
+	uint64_t word = word_of(descriptor);
+	if (flags >= 0 && kind_of(word) == FILE_OF_DEVICE) {
+		device->file[index_of(word)].never_waits = (flags & O_NONBLOCK) != 0;
 		want_signals(descriptor, (flags & O_ASYNC) != 0);
+	}
 	descriptors_leave(&quiet);
 }
 

@@ -22,7 +22,7 @@ void descriptors_put_timer(int descriptor, int index);
 void descriptors_double(int old, int new);
 int descriptors_forget(int descriptor);
 unsigned descriptors_take_lost(void);
-void descriptors_note_signals(int descriptor);
+void descriptors_note_flags(int descriptor);
 int descriptors_asynchronous(void);
 int keep_away(int descriptor);
 void descriptors_protect(int *place);

@@ -63,8 +63,9 @@ struct subdevice {
 };
 
 struct file {
-	/* whether a child of its opener may have it too, and whether its last read had to wait */
-	int is_open, is_shared, has_waited;
+	/* whether a child of its opener may have it too, whether its last read had to wait, and whether its calls never wait:
+	 * O_NONBLOCK as it was set last */
+	int is_open, is_shared, has_waited, never_waits;
 	pid_t opener;
 	int read_subdevice, write_subdevice;
 };

@@ -21,11 +21,6 @@ int names_file(int descriptor)
 	return descriptors_file(descriptor);
 }
 
-int names_waits(int descriptor)
-{
-	return !(REAL(fcntl)(descriptor, F_GETFL) & O_NONBLOCK);
-}
-
 /* A result of the device as a call of the library answers it. */
 long names_answer(long result)
 {
@@ -50,8 +45,8 @@ PUBLIC int ioctl(int descriptor, unsigned long request, ...)
 	int file = names_file(descriptor);
 	if (file == NO_FILE || is_of_any_file(request)) {
 		int result = REAL(ioctl)(descriptor, request, argument);
-		if (file != NO_FILE && request == FIOASYNC)
-			descriptors_note_signals(descriptor);
+		if (file != NO_FILE)
+			descriptors_note_flags(descriptor);
 		return result;
 	}
 	device_enter();
@@ -68,11 +63,10 @@ PUBLIC ssize_t read(int descriptor, void *to, size_t bytes)
 	if (file == NO_FILE)
 		return rings_stand_for(descriptor) ? rings_read(to, bytes) : REAL(read)(descriptor, to, bytes);
 	pthread_testcancel();
-	int waits = names_waits(descriptor);
 	device_enter();
 	time_call();
 	uint64_t start = device->now;
-	ssize_t result = device_read(file, to, bytes, waits);
+	ssize_t result = device_read(file, to, bytes, !device->file[file].never_waits);
 	int waited = device->now > start;
 	device_leave();
 	if (waited && result > 0)
@@ -91,11 +85,10 @@ PUBLIC ssize_t write(int descriptor, const void *from, size_t bytes)
 	if (file == NO_FILE)
 		return rings_stand_for(descriptor) ? names_answer(rings_write(from, bytes)) : REAL(write)(descriptor, from, bytes);
 	pthread_testcancel();
-	int waits = names_waits(descriptor);
 	device_enter();
 	time_call();
 	uint64_t start = device->now;
-	ssize_t result = device_write(file, from, bytes, waits);
+	ssize_t result = device_write(file, from, bytes, !device->file[file].never_waits);
 	int waited = device->now > start;
 	device_leave();
 	if (waited && result > 0)

@@ -27,9 +27,8 @@
 /* finding.c: the next function of a name, after this library's */
 void *names_find(const char *name);
 
-/* names.c: a descriptor's file of the session, whether its calls wait, and the answer of a call */
+/* names.c: a descriptor's file of the session, and the answer of a call */
 int names_file(int descriptor);
-int names_waits(int descriptor);
 long names_answer(long result);
 
 /* openings.c: a number that the system has just given */

@@ -193,7 +193,7 @@ PUBLIC int dup3(int old, int new, int flags)
 		if (what == F_DUPFD || what == F_DUPFD_CLOEXEC) \
 			return doubled(descriptor, result); \
 		if (what == F_SETFL && descriptors_file(descriptor) != NO_FILE) \
-			descriptors_note_signals(descriptor); \
+			descriptors_note_flags(descriptor); \
 		return result; \
 	}
 

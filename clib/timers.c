@@ -8,6 +8,7 @@
 #include "device.h"
 #include "names.h"
 #include <errno.h>
+#include <fcntl.h>
 #include <poll.h>
 #include <sys/timerfd.h>
 #include <unistd.h>
@@ -272,7 +273,7 @@ ssize_t timers_read(int descriptor, void *to, size_t bytes)
 	if (bytes < sizeof count)
 		return -EINVAL;
 	while (!(count = take_count(descriptor))) {
-		if (!names_waits(descriptor))
+		if (REAL(fcntl)(descriptor, F_GETFL) & O_NONBLOCK)
 			return -EAGAIN;
 		if (polls_wait(&asked, 1, -1, NULL) < 0)
 			return -errno;
