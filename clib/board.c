@@ -164,8 +164,13 @@ int board_channels(const comedi_chaninfo *asked)
 
 int board_ranges(const comedi_rangeinfo *asked)
 {
-	unsigned number = asked->range_type >> 24 & 15, channel = asked->range_type >> 16 & 255;
-	if (number >= device->subdevices || channel >= device->subdevice[number].channels)
+	unsigned number = asked->range_type >> 24, channel = asked->range_type >> 16 & 255;
+	if (number >= device->subdevices)
+		return -EINVAL;
+	/* where all channels have the same ranges, the channel isn't looked at */
+	if (!(device->subdevice[number].flags & SDF_RANGETYPE))
+		channel = 0;
+	if (channel >= device->subdevice[number].channels)
 		return -EINVAL;
 	const struct channel *c = &device->subdevice[number].channel[channel];
 	if (RANGE_LENGTH(asked->range_type) != c->ranges)

@@ -221,6 +221,7 @@ int descriptors_make(int file, int flags)
 	}
 	descriptors_enter(&quiet);
 	device->file[file].never_waits = (flags & O_NONBLOCK) != 0;
+	device->file[file].mode = flags & O_ACCMODE;
 	write_word(descriptor, word_with(FILE_OF_DEVICE, file, inode_of(descriptor)));
 	descriptors_leave(&quiet);
 	return descriptor;

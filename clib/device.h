@@ -66,6 +66,8 @@ struct file {
 	/* whether a child of its opener may have it too, whether its last read had to wait, and whether its calls never wait:
 	 * O_NONBLOCK as it was set last */
 	int is_open, is_shared, has_waited, never_waits;
+	/* O_RDONLY, O_WRONLY or O_RDWR, as it was opened */
+	int mode;
 	pid_t opener;
 	int read_subdevice, write_subdevice;
 };
@@ -190,7 +192,8 @@ int board_ranges(const comedi_rangeinfo *asked);
 int command_test(comedi_cmd *command);
 int command_call(int file, comedi_cmd *command);
 
-/* instruction.c */
+/* instruction.c; and how many values an instruction has at most, as in the kernel */
+#define MOST_DATA 65536
 int instruction_do(int file, comedi_insn *instruction, unsigned *data);
 int instruction_list(int file, const comedi_insnlist *list);
 int instruction_one(int file, const comedi_insn *instruction);

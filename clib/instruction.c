@@ -9,8 +9,7 @@
 #include <stdio.h>
 #include <string.h>
 
-/* as the kernel: no more data, and no longer waits */
-#define MOST_DATA 65536
+/* as the kernel: no longer waits */
 #define MOST_WAIT 100000
 #define MOST_INSTRUCTIONS 65536
 #define BITS_OF_A_WORD 32
@@ -58,6 +57,9 @@ static int do_read(int file, const comedi_insn *instruction, unsigned *data)
 static int do_write(int file, const comedi_insn *instruction, const unsigned *data)
 {
 	unsigned unused;
+	/* an input takes no values, also not none */
+	if (!instruction->n && instruction->subdev < device->subdevices && board_is_input(&device->subdevice[instruction->subdev]))
+		return -EINVAL;
 	if (!instruction->n)
 		return read_line(file, number_of(instruction), instruction->chanspec, 1, &unused);
 	for (unsigned done = 0; done < instruction->n; done += READINGS_OF_A_LINE) {
@@ -170,6 +172,9 @@ static int do_trigger(int file, const comedi_insn *instruction, const unsigned *
 	int runner = board_runner(number);
 	int result = line_of_session("insn %d %u inttrig %u", runner == NO_FILE ? file : runner, number, data[0]);
 	device_changed();
+	/* where no command waits for a trigger, the kernel doesn't look at the lock */
+	if (result == -EACCES && runner == NO_FILE)
+		return -EAGAIN;
 	return result ? kernel_result(CALL_TRIGGER, result) : 1;
 }
 

@@ -61,8 +61,13 @@ static int instruction_call(int file, unsigned request, const void *argument)
 {
 	comedi_insn instruction;
 	comedi_insnlist list;
+	if (request == COMEDI_INSN && copy_in(&instruction, argument, sizeof instruction))
+		return -EFAULT;
+	/* in a list too many values are refused, and here the rest of them is left */
+	if (request == COMEDI_INSN && instruction.n > MOST_DATA)
+		instruction.n = MOST_DATA;
 	if (request == COMEDI_INSN)
-		return copy_in(&instruction, argument, sizeof instruction) ? -EFAULT : instruction_one(file, &instruction);
+		return instruction_one(file, &instruction);
 	return copy_in(&list, argument, sizeof list) ? -EFAULT : instruction_list(file, &list);
 }
 
@@ -76,18 +81,22 @@ static int buffer_information(int file, void *argument)
 }
 
 /* The buffer has the size that the board's text says. A smaller one is as good; a larger one, or another limit, is refused
- * as of a user who may not. */
+ * as of a user who may not. While a command has the buffer, its size can't be changed. A subdevice without commands has
+ * none. */
 static int buffer_size(void *argument)
 {
 	comedi_bufconfig asked;
 	if (copy_in(&asked, argument, sizeof asked))
 		return -EFAULT;
-	if (asked.subdevice >= device->subdevices || !(device->subdevice[asked.subdevice].flags & SDF_CMD))
+	if (asked.subdevice >= device->subdevices)
 		return -EINVAL;
 	const struct subdevice *s = &device->subdevice[asked.subdevice];
-	unsigned size = s->buffer * s->sample_bytes;
-	if (asked.maximum_size || asked.size > size)
+	int has_buffer = (s->flags & SDF_CMD) != 0;
+	unsigned size = has_buffer ? s->buffer * s->sample_bytes : 0;
+	if (has_buffer && (asked.maximum_size || asked.size > size))
 		return -EPERM;
+	if (has_buffer && asked.size && board_runner(asked.subdevice) != NO_FILE)
+		return -EBUSY;
 	asked.size = asked.maximum_size = size;
 	return copy_out(argument, &asked, sizeof asked);
 }
@@ -112,9 +121,12 @@ static int cancel_call(int file, unsigned number)
 static int poll_call(int file, unsigned number)
 {
 	struct counts counts;
+	int runner = board_runner(number);
+	if (number >= device->subdevices)
+		return -EINVAL;
+	if (runner != file)
+		return runner == NO_FILE ? 0 : -EBUSY;
 	int result = scans_count(file, number, &counts);
-	if (result == -EACCES)
-		return -EBUSY;
 	if (result)
 		return kernel_result(CALL_BUFFER, result);
 	const struct subdevice *s = &device->subdevice[number];

@@ -13,7 +13,7 @@ static const struct {
 	int session, kernel;
 } differences[] = {
 	/* A subdevice that isn't there. do_lock_ioctl, do_unlock_ioctl, do_cancel_ioctl, do_bufinfo_ioctl and
-	 * parse_insn answer EINVAL; only __comedi_get_user_cmd has ENODEV. */
+	 * parse_insn answer EINVAL; only __comedi_get_user_cmd has ENODEV. Of an unused one parse_insn answers EIO. */
 	{ CALL_LOCK, -ENODEV, -EINVAL },
 	{ CALL_UNLOCK, -ENODEV, -EINVAL },
 	{ CALL_CANCEL, -ENODEV, -EINVAL },
@@ -24,9 +24,7 @@ static const struct {
 	{ CALL_CANCEL, -EIO, -EINVAL },
 	{ CALL_BUFFER, -EIO, -EINVAL },
 	{ CALL_TRIGGER, -EIO, -EINVAL },
-	/* An unused subdevice. parse_insn answers EINVAL. do_lock_ioctl looks at no type: the lock is granted, and
-	 * keeps nobody from anything. */
-	{ CALL_INSTRUCTION, -EIO, -EINVAL },
+	/* An unused subdevice. do_lock_ioctl looks at no type: the lock is granted, and keeps nobody from anything. */
 	{ CALL_LOCK, -EIO, 0 },
 	{ CALL_UNLOCK, -EIO, 0 },
 	/* A file that doesn't run the command. comedi_read, comedi_write and do_bufinfo_ioctl answer EINVAL; EACCES

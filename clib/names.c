@@ -63,6 +63,8 @@ PUBLIC ssize_t read(int descriptor, void *to, size_t bytes)
 	if (file == NO_FILE)
 		return rings_stand_for(descriptor) ? rings_read(to, bytes) : REAL(read)(descriptor, to, bytes);
 	pthread_testcancel();
+	if (device->file[file].mode == O_WRONLY || (ssize_t)bytes < 0)
+		return names_answer((ssize_t)bytes < 0 ? -EFAULT : -EBADF);
 	device_enter();
 	time_call();
 	uint64_t start = device->now;
@@ -85,6 +87,8 @@ PUBLIC ssize_t write(int descriptor, const void *from, size_t bytes)
 	if (file == NO_FILE)
 		return rings_stand_for(descriptor) ? names_answer(rings_write(from, bytes)) : REAL(write)(descriptor, from, bytes);
 	pthread_testcancel();
+	if (device->file[file].mode == O_RDONLY || (ssize_t)bytes < 0)
+		return names_answer((ssize_t)bytes < 0 ? -EFAULT : -EBADF);
 	device_enter();
 	time_call();
 	uint64_t start = device->now;
@@ -101,6 +105,8 @@ PUBLIC ssize_t readv(int descriptor, const struct iovec *pieces, int count)
 {
 	if (names_file(descriptor) == NO_FILE)
 		return REAL(readv)(descriptor, pieces, count);
+	if (count < 0 || count > IOV_MAX)
+		return names_answer(-EINVAL);
 	ssize_t done = 0;
 	for (int i = 0; i < count; i++) {
 		if (!pieces[i].iov_len)
@@ -119,6 +125,8 @@ PUBLIC ssize_t writev(int descriptor, const struct iovec *pieces, int count)
 {
 	if (names_file(descriptor) == NO_FILE)
 		return REAL(writev)(descriptor, pieces, count);
+	if (count < 0 || count > IOV_MAX)
+		return names_answer(-EINVAL);
 	ssize_t done = 0;
 	for (int i = 0; i < count; i++) {
 		if (!pieces[i].iov_len)
@@ -136,12 +144,15 @@ PUBLIC ssize_t writev(int descriptor, const struct iovec *pieces, int count)
 /* The buffer of the subdevice that read is for, or with PROT_WRITE write. Answers the subdevice. */
 static int map_buffer(int file, size_t bytes, int protection, off_t offset)
 {
+	int mode = device->file[file].mode;
+	if (mode == O_WRONLY || (mode == O_RDONLY && protection & PROT_WRITE))
+		return -EACCES;
 	int number = protection & PROT_WRITE ? device->file[file].write_subdevice : device->file[file].read_subdevice;
 	if (number == NO_SUBDEVICE || offset)
 		return -EINVAL;
 	size_t page = sysconf(_SC_PAGESIZE), whole = (size_t)device->subdevice[number].buffer * device->subdevice[number].sample_bytes;
 	if (bytes > (whole + page - 1) / page * page)
-		return -EINVAL;
+		return -EFAULT;
 	int result = buffer_map(file, number);
 	return result ? result : number;
 }

@@ -182,6 +182,17 @@ PUBLIC int dup3(int old, int new, int flags)
 	return doubled(old, REAL(dup3)(old, new, flags));
 }
 
+/* What a call of fcntl is answered that asks for flags, or has set some. The kernel's are those of the socket. */
+static int flags_of(int descriptor, int what, int result)
+{
+	int file = result >= 0 && (what == F_GETFL || what == F_SETFL) ? descriptors_file(descriptor) : NO_FILE;
+	if (file == NO_FILE)
+		return result;
+	if (what == F_SETFL)
+		descriptors_note_flags(descriptor);
+	return what == F_GETFL ? (result & ~O_ACCMODE) | device->file[file].mode : result;
+}
+
 #define FCNTL(name) \
 	PUBLIC int name(int descriptor, int what, ...) \
 	{ \
@@ -192,9 +203,7 @@ PUBLIC int dup3(int old, int new, int flags)
 		int result = REAL(name)(descriptor, what, argument); \
 		if (what == F_DUPFD || what == F_DUPFD_CLOEXEC) \
 			return doubled(descriptor, result); \
-		if (what == F_SETFL && descriptors_file(descriptor) != NO_FILE) \
-			descriptors_note_flags(descriptor); \
-		return result; \
+		return flags_of(descriptor, what, result); \
 	}
 
 FCNTL(fcntl)

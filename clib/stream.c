@@ -231,6 +231,18 @@ static ssize_t keep_part(int file, int number, const char *from, size_t bytes)
 	return bytes;
 }
 
+/* A write from a pointer that leads nowhere. As in the kernel it is looked at only if there is room. */
+static int refuse_pointer(int file, int number)
+{
+	struct counts counts;
+	int result = scans_count(file, number, &counts);
+	if (result)
+		return kernel_result(CALL_WRITE, result);
+	if (!answer_says(" runs"))
+		return scans_end(file, number);
+	return counts.room ? -EFAULT : -EAGAIN;
+}
+
 /* Stores what there is room for, line by line. Answers the number of bytes, or as scans_put. */
 static ssize_t write_present(int file, int number, const char *from, size_t bytes)
 {
@@ -243,7 +255,7 @@ static ssize_t write_present(int file, int number, const char *from, size_t byte
 			ssize_t kept = keep_part(file, number, from + done, bytes - done);
 			return kept >= 0 ? (ssize_t)done + kept : done ? (ssize_t)done : kept;
 		}
-		int count = copy_values(s, values, from + done, most) ? -EFAULT : scans_put(file, number, most, values);
+		int count = copy_values(s, values, from + done, most) ? refuse_pointer(file, number) : scans_put(file, number, most, values);
 		if (count < 0)
 			return done ? (ssize_t)done : count;
 		done += (size_t)count * s->sample_bytes - s->part;
