@@ -167,7 +167,7 @@ int board_ranges(const comedi_rangeinfo *asked)
 	unsigned number = asked->range_type >> 24, channel = asked->range_type >> 16 & 255;
 	if (number >= device->subdevices)
 		return -EINVAL;
-	/* where all channels have the same ranges, the channel isn't looked at */
+	/* if all channels have the same ranges, the channel isn't looked at */
 	if (!(device->subdevice[number].flags & SDF_RANGETYPE))
 		channel = 0;
 	if (channel >= device->subdevice[number].channels)

@@ -33,7 +33,7 @@ enum kind { NOTHING, FILE_OF_DEVICE, TIMER };
 /* It is written under the lock, and a word of it is read without. Beyond `used` words nothing was ever written. */
 static uint64_t table[DESCRIPTORS];
 static int used;
-/* those that want a signal where samples come, and how many do */
+/* which of them want a signal when samples come, and how many do */
 static unsigned char asynchronous[DESCRIPTORS];
 static int waiting_for_signals;
 /* whose numbers these are: a child made by vfork has this memory, and numbers of its own */
@@ -41,7 +41,7 @@ static pid_t process;
 /* files of the session whose last number went without a close */
 static unsigned lost;
 static pthread_mutex_t lock = PTHREAD_MUTEX_INITIALIZER;
-/* where this library's own descriptors stand */
+/* the variables that hold this library's own descriptors */
 static int *privates[MOST_PRIVATE];
 
 void descriptors_hold(void)
@@ -78,7 +78,7 @@ __attribute__((constructor)) static void begin(void)
 	process = getpid();
 }
 
-/* Whether this process has the numbers of the table. */
+/* Returns whether this process has the numbers of the table. */
 int descriptors_are_ours(void)
 {
 	return getpid() == process;
@@ -104,7 +104,7 @@ static uint64_t word_with(enum kind kind, int index, uint64_t inode)
 	return inode << BITS_OF_BOTH | (uint64_t)index << BITS_OF_KIND | kind;
 }
 
-/* The inode of a socket, or 0 where a descriptor is none. The kernel is asked, and errno isn't changed. */
+/* Returns the inode of a socket, or 0 if a descriptor is none. Asks the kernel, and leaves errno as it is. */
 static uint64_t inode_of(int descriptor)
 {
 	struct stat state;
@@ -131,7 +131,7 @@ static void want_signals(int descriptor, int wants)
 	asynchronous[descriptor] = wants;
 }
 
-/* Whether a file of the session has a number. */
+/* Returns whether a file of the session has a number. */
 static int has_number(int file)
 {
 	for (int i = 0; i < used; i++)
@@ -140,7 +140,7 @@ static int has_number(int file)
 	return 0;
 }
 
-/* Takes what the table has of a number, under the lock. Answers the file of the session that has no number any more. */
+/* Removes a number from the table, under the lock. Returns the file of the session that has no number any more, or NO_FILE. */
 static int take_out(int descriptor)
 {
 	uint64_t word = word_of(descriptor);
@@ -156,7 +156,8 @@ static int take_out(int descriptor)
 	return has_number(index_of(word)) ? NO_FILE : index_of(word);
 }
 
-/* A number goes, or is another file's from now on. Answers the file of the session that has none any more, if any. */
+/* Forgets a number that goes, or that is another file's from now on. Returns the file of the session that has no number any
+ * more, or NO_FILE. */
 int descriptors_forget(int descriptor)
 {
 	struct quiet quiet;
@@ -168,7 +169,7 @@ int descriptors_forget(int descriptor)
 	return file;
 }
 
-/* A number isn't what its word says: it was closed where this library didn't see it. */
+/* Forgets a number that isn't what its word says: this library didn't see how it was closed. */
 static void lose(int descriptor, uint64_t word)
 {
 	struct quiet quiet;
@@ -180,7 +181,7 @@ static void lose(int descriptor, uint64_t word)
 	descriptors_leave(&quiet);
 }
 
-/* Answers the file of the session that a number is, or NO_FILE. */
+/* Returns the file of the session that a number is, or NO_FILE. */
 int descriptors_file(int descriptor)
 {
 	uint64_t word = word_of(descriptor);
@@ -193,7 +194,7 @@ int descriptors_file(int descriptor)
 	return NO_FILE;
 }
 
-/* Looks at all numbers. Answers the files of the session that were lost since this was last asked, a bit for each. */
+/* Looks at all numbers. Returns the files of the session that were lost since the last call, a bit for each. */
 unsigned descriptors_take_lost(void)
 {
 	for (int i = 0; i < __atomic_load_n(&used, __ATOMIC_ACQUIRE); i++)
@@ -201,14 +202,14 @@ unsigned descriptors_take_lost(void)
 	return __atomic_exchange_n(&lost, 0, __ATOMIC_SEQ_CST);
 }
 
-/* Answers the index of the timer that a number is, or NO_TIMER. */
+/* Returns the index of the timer that a number is, or NO_TIMER. */
 int descriptors_timer(int descriptor)
 {
 	uint64_t word = word_of(descriptor);
 	return kind_of(word) == TIMER ? index_of(word) : NO_TIMER;
 }
 
-/* Makes a descriptor for a file of the session. Answers its number, or a negative error number. */
+/* Makes a descriptor for a file of the session. Returns its number, or a negative error number. */
 int descriptors_make(int file, int flags)
 {
 	struct quiet quiet;
@@ -227,14 +228,14 @@ int descriptors_make(int file, int flags)
 	return descriptor;
 }
 
-/* A number is a timer from now on, within the lock. */
+/* Notes that a number is a timer, within the lock. */
 void descriptors_put_timer(int descriptor, int index)
 {
 	if (descriptor < DESCRIPTORS)
 		write_word(descriptor, word_with(TIMER, index, 0));
 }
 
-/* A number was made of another one, and is the same file. */
+/* Notes that a number was made from another one, and is the same file. */
 void descriptors_double(int old, int new)
 {
 	struct quiet quiet;
@@ -246,8 +247,8 @@ void descriptors_double(int old, int new)
 	descriptors_leave(&quiet);
 }
 
-/* Asks the kernel for the flags of a file of the device that were set: whether its calls wait, and whether it wants a signal
- * where samples come. */
+/* Asks the kernel for the flags of a file of the device after they were set: whether its calls wait, and whether it wants a
+ * signal when samples come. */
 void descriptors_note_flags(int descriptor)
 {
 	struct quiet quiet;
@@ -261,7 +262,7 @@ void descriptors_note_flags(int descriptor)
 	descriptors_leave(&quiet);
 }
 
-/* The first descriptor of the device that wants signals, or -1. */
+/* Returns the first descriptor of the device that wants signals, or -1. */
 int descriptors_asynchronous(void)
 {
 	for (int i = 0; waiting_for_signals && i < __atomic_load_n(&used, __ATOMIC_ACQUIRE); i++)
@@ -270,7 +271,7 @@ int descriptors_asynchronous(void)
 	return -1;
 }
 
-/* Moves a descriptor of this library away from the numbers that clients use. */
+/* Moves a descriptor of this library away from the numbers that clients use. Returns its new number. */
 int keep_away(int descriptor)
 {
 	int away = descriptor < 0 ? -1 : REAL(fcntl)(descriptor, F_DUPFD_CLOEXEC, FIRST_PRIVATE);
@@ -280,7 +281,7 @@ int keep_away(int descriptor)
 	return away;
 }
 
-/* What stands at a place is a descriptor of this library from now on. The client can't close it. */
+/* Protects the descriptor that a variable holds, now and later: the client can't close it. */
 void descriptors_protect(int *place)
 {
 	for (int i = 0; i < MOST_PRIVATE; i++)
@@ -298,7 +299,7 @@ int descriptors_are_private(int descriptor)
 	return 0;
 }
 
-/* A client is about to take a number of this library's by dup2, which it may. Within the device. */
+/* Moves a descriptor of this library, since the client takes its number by dup2. Called within the device. */
 void descriptors_make_way(int descriptor)
 {
 	for (int i = 0; i < MOST_PRIVATE; i++)

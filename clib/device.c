@@ -47,13 +47,13 @@ void device_leave(void)
 	errno = outside_errno;
 }
 
-/* How often a call changed what others wait for. */
+/* Returns how often a call has changed what others wait for. */
 uint64_t device_changes(void)
 {
 	return __atomic_load_n(&device->changes, __ATOMIC_SEQ_CST);
 }
 
-/* A call has changed what others wait for: they look again. */
+/* Notes that a call has changed what others wait for. They look again. */
 void device_changed(void)
 {
 	__atomic_add_fetch(&device->changes, 1, __ATOMIC_SEQ_CST);

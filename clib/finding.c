@@ -14,7 +14,7 @@
 static const char *const versioned[] = { "pthread_cond_signal", "pthread_cond_broadcast", "pthread_cond_timedwait" };
 #define VERSION "GLIBC_2.3.2"
 
-/* Answers the next function of a name. */
+/* Returns the next function of a name. */
 void *names_find(const char *name)
 {
 	for (size_t i = 0; i < sizeof versioned / sizeof *versioned; i++) {
@@ -22,6 +22,6 @@ void *names_find(const char *name)
 		if (found)
 			return found;
 	}
-	/* where there is no such version, as on other machines, there is one function */
+	/* on other machines there is no such version, and only one function */
 	return dlsym(RTLD_NEXT, name);
 }

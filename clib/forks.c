@@ -1,5 +1,5 @@
 /*
- * What happens where the client makes a child by fork. All locks of this process are held up to then, so the child finds
+ * What happens when the client makes a child by fork. All locks of this process are held up to then, so the child finds
  * none held by a thread that it doesn't have, and nothing half changed. The order is the one in which calls take them.
  *
  * The lock of the device itself is shared with the children, and isn't held: a child may be made while another thread is

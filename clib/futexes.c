@@ -45,8 +45,8 @@ static int is_wait(long call, long operation, const struct timespec *time, uint6
 	return 1;
 }
 
-/* A system call has up to six words. All are passed on, also where the client gave fewer: then the others lie beyond them on
- * its stack, and mean nothing. */
+/* Passes on all six words that a system call can have. If the client gave fewer, the others are from beyond them on its
+ * stack, and mean nothing. */
 __attribute__((no_sanitize("address"))) PUBLIC long syscall(long call, ...)
 {
 	long words[6];

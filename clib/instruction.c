@@ -57,7 +57,7 @@ static int do_read(int file, const comedi_insn *instruction, unsigned *data)
 static int do_write(int file, const comedi_insn *instruction, const unsigned *data)
 {
 	unsigned unused;
-	/* an input takes no values, also not none */
+	/* an input takes no values, and an empty list of them neither */
 	if (!instruction->n && instruction->subdev < device->subdevices && board_is_input(&device->subdevice[instruction->subdev]))
 		return -EINVAL;
 	if (!instruction->n)
@@ -172,7 +172,7 @@ static int do_trigger(int file, const comedi_insn *instruction, const unsigned *
 	int runner = board_runner(number);
 	int result = line_of_session("insn %d %u inttrig %u", runner == NO_FILE ? file : runner, number, data[0]);
 	device_changed();
-	/* where no command waits for a trigger, the kernel doesn't look at the lock */
+	/* if no command waits for a trigger, the kernel doesn't look at the lock */
 	if (result == -EACCES && runner == NO_FILE)
 		return -EAGAIN;
 	return result ? kernel_result(CALL_TRIGGER, result) : 1;

@@ -26,7 +26,8 @@ static int open_device(const char *path, int flags)
 	return names_answer(descriptor);
 }
 
-/* A number goes, and with the last one its file. A child made by vfork has numbers of its own, and changes nothing here. */
+/* Forgets a number, and closes its file if it was the last one. A child made by vfork has numbers of its own, and changes
+ * nothing here. */
 static void forget(int descriptor)
 {
 	int file = descriptors_are_ours() ? descriptors_forget(descriptor) : NO_FILE;
@@ -34,7 +35,7 @@ static void forget(int descriptor)
 		device_close(file);
 }
 
-/* A number that the system has just given. If the device had it, it was closed past these names. */
+/* Notes that the system has just given a number. If the device had it, it was closed past these names. */
 int openings_fresh(int descriptor)
 {
 	if (descriptor >= 0)
@@ -145,7 +146,7 @@ PUBLIC void closefrom(int first)
 		REAL(closefrom)(first);
 }
 
-/* A descriptor was made of another one. */
+/* Notes that a descriptor was made from another one. */
 static int doubled(int old, int new)
 {
 	if (new < 0 || new == old || !descriptors_are_ours())
@@ -155,7 +156,7 @@ static int doubled(int old, int new)
 	return new;
 }
 
-/* A number is about to be another file's. If this library has it, it moves. */
+/* Makes a number free for another file: if this library has it, its own descriptor moves. */
 static void make_way(int descriptor)
 {
 	if (!descriptors_are_private(descriptor) || !descriptors_are_ours())
@@ -182,7 +183,7 @@ PUBLIC int dup3(int old, int new, int flags)
 	return doubled(old, REAL(dup3)(old, new, flags));
 }
 
-/* What a call of fcntl is answered that asks for flags, or has set some. The kernel's are those of the socket. */
+/* Returns what a call of fcntl is answered that asks for flags or has set some. The kernel's flags are those of the socket. */
 static int flags_of(int descriptor, int what, int result)
 {
 	int file = result >= 0 && (what == F_GETFL || what == F_SETFL) ? descriptors_file(descriptor) : NO_FILE;

@@ -63,8 +63,8 @@ static char **environment_of_server(int memory)
 	return copy;
 }
 
-/* Lets the program have none of the client's descriptors from 3 on. Where the kernel has no call for it, it is asked for
- * one after another. */
+/* Sees to it that the program gets none of the client's descriptors from 3 on. If the kernel has no call for all of them,
+ * they are marked one after another. */
 static void keep_descriptors(void)
 {
 	struct rlimit most = { 1024, 1024 };
@@ -75,7 +75,7 @@ static void keep_descriptors(void)
 		syscall(SYS_fcntl, i, F_SETFD, FD_CLOEXEC);
 }
 
-/* Puts a descriptor to a number of the program. */
+/* Gives a descriptor the number that it has in the program. Returns that number, or -1. */
 static int put(int descriptor, int number)
 {
 	if (descriptor == number)
@@ -83,7 +83,8 @@ static int put(int descriptor, int number)
 	return syscall(SYS_dup3, descriptor, number, 0);
 }
 
-/* Becomes the program. The client's names of the C library aren't called here: they may look for others, or be looked at. */
+/* Becomes the program. Makes system calls directly, since a name of the C library may need a lock that another thread held
+ * when this process was made. */
 static void become_server(const char *program, char **environment, int socket, int memory)
 {
 	char *words[] = { (char *)program, NULL };
@@ -100,8 +101,8 @@ static void become_server(const char *program, char **environment, int socket, i
 
 /*
  * Starts the program as nobody's child. A process that runs another program is a child that wait() and SIGCHLD tell of,
- * whatever it was made with. So the one that is made here makes another, which becomes the program, and ends at once. It is
- * none that wait() tells of, and is waited for here. Answers 0, or a negative error number.
+ * whatever it was made with. So the process that is made here makes another one, which becomes the program, and ends at once. The
+ * client's wait() doesn't tell of it, and it is waited for here. Returns 0, or a negative error number.
  */
 static int start_apart(const char *program, char **environment, int socket, int memory)
 {

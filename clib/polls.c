@@ -24,7 +24,7 @@
 #define MOST_POLLED 256
 /* so many have room on the client's stack */
 #define FEW 32
-/* what a select isn't answered */
+/* no answer of a select */
 #define NOT_OURS (-2)
 #define READS (POLLIN | POLLRDNORM)
 #define WRITES (POLLOUT | POLLWRNORM)
@@ -79,7 +79,7 @@ static void give_room_back(void *what)
 		munmap(room->files, room->bytes);
 }
 
-/* Asks the kernel for the files that aren't the device's, of which these are a copy. */
+/* Asks the kernel for the files that aren't the device's, with a copy of what is asked. */
 static int ask_with_copy(struct ask *a, struct pollfd *others, const struct timespec *time, const sigset_t *signals)
 {
 	for (nfds_t i = 0; i < a->count; i++) {
@@ -247,7 +247,7 @@ PUBLIC int __poll_chk(struct pollfd *asked, nfds_t count, int milliseconds, size
 	return poll(asked, count, milliseconds);
 }
 
-/* The end of a poll with a mask of signals, also where its thread is cancelled. */
+/* Ends a poll with a mask of signals, also if its thread is cancelled. */
 void polls_restore_signals(void *signals)
 {
 	pthread_sigmask(SIG_SETMASK, signals, NULL);
@@ -290,7 +290,7 @@ struct sets {
 	fd_set *reads, *writes, *others;
 };
 
-/* What a number is asked for. */
+/* Returns what a number is asked for. */
 static short events_of(const struct sets *sets, int number)
 {
 	short events = (sets->reads && FD_ISSET(number, sets->reads) ? POLLIN : 0) | (sets->writes && FD_ISSET(number, sets->writes) ? POLLOUT : 0);
@@ -341,7 +341,7 @@ static int select_members(const struct sets *sets, struct ask *a, int64_t nanose
 	return ready + fill_set(sets->others, sets->count, a, POLLPRI, POLLPRI);
 }
 
-/* A select, or NOT_OURS where it isn't for the device and takes none of its time. */
+/* Does a select. Returns NOT_OURS if it isn't for the device and takes none of its time. */
 static int select_ours(const struct sets *sets, int64_t nanoseconds, const sigset_t *signals)
 {
 	struct room room;
@@ -358,7 +358,7 @@ static int select_ours(const struct sets *sets, int64_t nanoseconds, const sigse
 	return result;
 }
 
-/* A select of no time of the device's. One of no files that has an end and no mask is a sleep. */
+/* Does a select of no files that has an end and no mask, which is a sleep. Returns NOT_OURS if sleeps are real. */
 static int select_nothing(int64_t nanoseconds)
 {
 	int64_t left = signals_sleep(nanoseconds);

@@ -3,8 +3,8 @@
  * is a job for `comedi replay`. Notes are comments there.
  *
  * The last line says that the record is whole. It's written after the lines of each call, and the next call's lines are
- * written over it. So it's missing where a line couldn't be written, and where the client was killed in the middle. In a
- * pipe or on a terminal nothing can be written over, and there is no such line.
+ * written over it. So it's missing if a line couldn't be written, or if the client was killed in the middle. In a pipe or
+ * on a terminal nothing can be written over, and there is no such line.
  */
 #define _GNU_SOURCE
 #include "descriptors.h"
@@ -38,8 +38,7 @@ void record_begin_child(void)
 	length_of_held = 0;
 }
 
-/* Writes the lines, at the place where they belong in a file, and behind them that the record is whole. Answers 0, or an
- * error number. */
+/* Writes the lines at the record's end, and behind them that it's whole. Returns 0, or an error number. */
 static int write_held(int descriptor)
 {
 	size_t length = length_of_held, done = 0;
@@ -57,7 +56,7 @@ static int write_held(int descriptor)
 	return 0;
 }
 
-/* Begins the record in a file that was opened, unless another program has its own there. Answers 0, or an error number. */
+/* Begins the record in a file that was opened, unless another program has its own there. Returns 0, or an error number. */
 static int begin(int descriptor)
 {
 	struct stat state;
@@ -72,7 +71,7 @@ static int begin(int descriptor)
 	return ftruncate(descriptor, 0) ? errno : write_held(descriptor);
 }
 
-/* Says why there is no record. */
+/* Says why there is no record. Returns the negative error number. */
 static int refuse(int error)
 {
 	const char *busy = "another program writes its record there. Give each program a file of its own";
@@ -80,7 +79,8 @@ static int refuse(int error)
 	return -error;
 }
 
-/* Opens the record under the name that the environment has, if any. Answers 0, or a negative error number after a line. */
+/* Opens the record under the name in the environment, if there is one. Returns 0, or a negative error number after a line on
+ * standard error. */
 int record_open(void)
 {
 	const char *path = getenv("ZENDROUZ_LOG");
@@ -98,7 +98,8 @@ int record_open(void)
 	return 0;
 }
 
-/* Ends the record where lines can't be written. What was written of them goes, and the line that says that it's whole. */
+/* Ends the record, since lines can't be written. Removes what was written of them, and the line that says that the record is
+ * whole. */
 static void cut_off(int error)
 {
 	device->record_is_cut = 1;

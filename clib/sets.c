@@ -52,7 +52,7 @@ void sets_forget_member(int descriptor)
 			members[i].is_there = 0;
 }
 
-/* Adds, changes or takes out a member, within the lock of the descriptors. */
+/* Adds, changes or removes a member, within the lock of the descriptors. */
 static int change_member(int set, int what, int descriptor, const struct epoll_event *event)
 {
 	struct member *m = find(set, descriptor);
@@ -94,7 +94,7 @@ PUBLIC int epoll_ctl(int set, int what, int descriptor, struct epoll_event *even
 	return result;
 }
 
-/* The set itself, and the device's members of it. Answers how many there are. */
+/* Lists the set itself, and the device's members of it. Returns how many there are. */
 static int ask_of(int set, struct pollfd *asked)
 {
 	struct quiet quiet;
@@ -108,7 +108,7 @@ static int ask_of(int set, struct pollfd *asked)
 	return count;
 }
 
-/* The events of the device's members that were found ready. Another thread may have taken one out meanwhile. */
+/* Takes the events of the device's members that were found ready. Another thread may have removed one meanwhile. */
 static int take_own_events(const struct pollfd *asked, int count, struct epoll_event *events, int most)
 {
 	struct quiet quiet;
@@ -127,7 +127,7 @@ static int take_own_events(const struct pollfd *asked, int count, struct epoll_e
 	return done;
 }
 
-/* The events of what was found ready, or -1 where there is no such set. */
+/* Takes the events of what was found ready. Returns their number, or -1 if there is no such set. */
 static int take_events(const struct pollfd *asked, int count, struct epoll_event *events, int most)
 {
 	int done = take_own_events(asked, count, events, most);

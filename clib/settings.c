@@ -21,14 +21,14 @@ static int refuse(const char *name, const char *value, const char *wanted)
 	return -EINVAL;
 }
 
-/* A word of the environment, or NULL. An empty one is none. */
+/* Returns a word of the environment, or NULL if there is none or it's empty. */
 static const char *word_of(const char *name)
 {
 	const char *word = getenv(name);
 	return word && *word ? word : NULL;
 }
 
-/* Reads digits up to `end`. Answers whether there are some, and not too many. */
+/* Reads digits up to `end`. Returns whether there are some, not too many, and nothing else. */
 static int read_digits(const char *text, const char *end, uint64_t *number)
 {
 	*number = 0;
@@ -48,7 +48,7 @@ static int read_call(void)
 	return refuse(name, value, "a number of nanoseconds, in digits alone such as 1000");
 }
 
-/* A number with a point or without, whatever the client's own language has in place of a point. */
+/* Reads a number with a point or without. The client's language may have another sign for the point, so strtod isn't used. */
 static int read_pace(void)
 {
 	const char *name = "ZENDROUZ_PACE", *value = getenv(name);
@@ -100,7 +100,7 @@ static int read_start(void)
 	return 0;
 }
 
-/* Reads all settings. Answers 0, or -EINVAL where one can't be read. */
+/* Reads all settings. Returns 0, or -EINVAL if one can't be read. */
 int settings_read(void)
 {
 	int result = read_call();

@@ -87,8 +87,8 @@ int64_t signals_sleep(uint64_t nanoseconds)
 	return time_is_board_time() ? signals_sleep_until(device->client_now + nanoseconds) : SLEEP_IS_REAL;
 }
 
-/* Whether a read or a write that a signal has ended goes on (SA_RESTART). The kernel doesn't say which handler has run, so
- * it's so where all handlers of the client want it. */
+/* Returns whether a read or a write that a signal has ended goes on (SA_RESTART). The kernel doesn't say which handler has
+ * run, so it goes on if all handlers of the client want that. */
 int signals_restart(void)
 {
 	struct sigaction action;
@@ -98,7 +98,7 @@ int signals_restart(void)
 	return 1;
 }
 
-/* Whether a signal waits that a mask lets in and that has a handler. */
+/* Returns whether a signal waits that a mask lets in and that has a handler. */
 static int is_waiting(const sigset_t *mask)
 {
 	sigset_t waiting;
@@ -111,7 +111,7 @@ static int is_waiting(const sigset_t *mask)
 	return is;
 }
 
-/* Blocks all signals for a wait with a mask, unless one waits that it lets in: that is let in. Answers whether it was. */
+/* Blocks all signals for a wait with a mask, unless one waits that it lets in: that is let in. Returns whether it was. */
 int signals_exchange(const sigset_t *mask, sigset_t *old)
 {
 	sigset_t all;
@@ -124,8 +124,8 @@ int signals_exchange(const sigset_t *mask, sigset_t *old)
 	return 1;
 }
 
-/* Lets the client's signals in for a piece of a wait that takes no mask. Answers whether one was waiting, which ends such a
- * wait: its handler has run. Where there is no mask, none was blocked. */
+/* Lets the client's signals in for a piece of a wait that takes no mask. Returns whether one was waiting, which ends such a
+ * wait: its handler has run. Without a mask none was blocked. */
 int signals_let_in(const sigset_t *mask)
 {
 	int was_waiting = mask && is_waiting(mask);
@@ -143,7 +143,7 @@ void signals_keep_out(const sigset_t *mask)
 		pthread_sigmask(SIG_SETMASK, &all, NULL);
 }
 
-/* Waits for a signal up to the next samples. Answers 0 where none can come from the device. */
+/* Waits for a signal up to the next samples. Returns 0 if none can come from the device. */
 static int wait_for_signal(const sigset_t *mask)
 {
 	struct wait wait = time_sleep;

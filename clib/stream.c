@@ -19,7 +19,7 @@ int take_samples(int file, int number, unsigned most, uint32_t *samples)
 	return mapped ? mapped : scans_take(file, number, most, samples);
 }
 
-/* Copies bytes of samples, as the client has them: in 16 bits each, or in 32. */
+/* Copies bytes of samples to the client, which has each in 16 bits or in 32. */
 static int copy_samples(const struct subdevice *s, char *to, const uint32_t *samples, unsigned count, size_t from, size_t bytes)
 {
 	static sampl_t narrow[SAMPLES_OF_A_LINE];
@@ -37,8 +37,8 @@ static int holds_samples(int file, int number)
 	return !scans_count(file, number, &counts) && counts.written > counts.read;
 }
 
-/* Gives the client up to so many bytes of samples that were taken, without the first ones of the first sample where it has
- * them already. What is left of the last one is the first of the next read. Answers how many, or a negative error number. */
+/* Gives the client up to so many bytes of samples that were taken, except the bytes of the first one that it has already.
+ * What is left of the last sample is kept for the next read. Returns how many, or a negative error number. */
 static ssize_t hand_over(struct subdevice *s, char *to, const uint32_t *samples, unsigned count, size_t most)
 {
 	size_t there = (size_t)count * s->sample_bytes - s->part, bytes = there < most ? there : most;
@@ -52,14 +52,14 @@ static ssize_t hand_over(struct subdevice *s, char *to, const uint32_t *samples,
 	return bytes;
 }
 
-/* How many samples so many bytes reach into, from the first one on that isn't given as a whole. */
+/* Returns how many samples so many bytes reach into, from the first one that isn't given as a whole. */
 static size_t samples_of_bytes(const struct subdevice *s, size_t bytes)
 {
 	return (s->part + bytes + s->sample_bytes - 1) / s->sample_bytes;
 }
 
-/* Takes what is there, line by line, and gives it to the client, or to nobody if `to` is NULL. Answers the number of bytes,
- * or as take_samples. */
+/* Takes what is there, line by line, and gives it to the client, or to nobody if `to` is NULL. Returns the number of bytes, or
+ * as take_samples. */
 ssize_t stream_take(int file, int number, char *to, size_t bytes)
 {
 	static uint32_t samples[SAMPLES_OF_A_LINE];
@@ -105,7 +105,7 @@ static int wanted_samples(int file, int number, uint64_t asked, unsigned *wanted
 }
 
 /* Waits until a time at which so many samples are there, or have room, or the command has ended. If another call changes
- * the command meanwhile, or a signal comes whose handler restarts calls, that is asked again. Answers 0, or a negative error
+ * the command meanwhile, or a signal comes whose handler restarts calls, that is asked again. Returns 0, or a negative error
  * number. */
 static int wait_until(int file, int number, unsigned count, uint64_t time)
 {
@@ -213,7 +213,7 @@ static int copy_values(const struct subdevice *s, uint32_t *values, const char *
 	return 0;
 }
 
-/* Keeps bytes that are no whole sample, if there is room for one. Answers how many, or as scans_put. */
+/* Keeps bytes that are no whole sample, if there is room for one. Returns how many, or as scans_put. */
 static ssize_t keep_part(int file, int number, const char *from, size_t bytes)
 {
 	struct subdevice *s = &device->subdevice[number];
@@ -231,7 +231,7 @@ static ssize_t keep_part(int file, int number, const char *from, size_t bytes)
 	return bytes;
 }
 
-/* A write from a pointer that leads nowhere. As in the kernel it is looked at only if there is room. */
+/* Refuses a write from a pointer that leads nowhere. As in the kernel the pointer matters only if there is room. */
 static int refuse_pointer(int file, int number)
 {
 	struct counts counts;
@@ -243,7 +243,7 @@ static int refuse_pointer(int file, int number)
 	return counts.room ? -EFAULT : -EAGAIN;
 }
 
-/* Stores what there is room for, line by line. Answers the number of bytes, or as scans_put. */
+/* Stores what there is room for, line by line. Returns the number of bytes, or as scans_put. */
 static ssize_t write_present(int file, int number, const char *from, size_t bytes)
 {
 	static uint32_t values[VALUES_OF_A_LINE];
@@ -266,7 +266,7 @@ static ssize_t write_present(int file, int number, const char *from, size_t byte
 	return done;
 }
 
-/* How many samples have to find room for a write of so many bytes to be done: all, or half of the buffer. */
+/* Returns for how many samples there has to be room before a write of so many bytes goes on: all, or half of the buffer. */
 static unsigned wanted_room(const struct subdevice *s, size_t bytes)
 {
 	size_t half = half_of_buffer(s), all = (s->part + bytes) / s->sample_bytes;

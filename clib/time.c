@@ -35,7 +35,7 @@ static uint64_t paced_time(void)
 	return (time_of_wall() - device->wall_start) * device->pace;
 }
 
-/* The time begins, by the settings that were read. */
+/* Begins the time, by the settings that were read. */
 void time_start(void)
 {
 	device->wall_start = time_of_wall();
@@ -69,14 +69,14 @@ void time_to(uint64_t time)
 	device->now = time < device->horizon ? time : device->horizon;
 }
 
-/* With a pace the board's time is the wall clock's, whoever asks. */
+/* With a pace, lets the board's time catch up with the wall clock. */
 void time_catch_up(void)
 {
 	if (device->pace > 0)
 		time_to(paced_time());
 }
 
-/* With a pace: how many nanoseconds of the wall clock are left up to a time of the board, and at most an hour. */
+/* Returns how many nanoseconds of the wall clock are left up to a time of the board with a pace, and at most an hour. */
 uint64_t time_left(uint64_t end)
 {
 	uint64_t now = paced_time();
@@ -101,7 +101,7 @@ void time_call(void)
 	time_to(device->pace > 0 ? paced_time() : device->client_now + device->call_time);
 }
 
-/* A wait for nothing but its end. Signals are let in and looked for at once. */
+/* Waits for nothing but an end. With a mask, lets signals in and looks for them even if no time is left. */
 static int pause_sleep(void *what, uint64_t nanoseconds, const sigset_t *signals)
 {
 	struct timespec t = { nanoseconds / 1000000000, nanoseconds % 1000000000 };
@@ -111,8 +111,8 @@ static int pause_sleep(void *what, uint64_t nanoseconds, const sigset_t *signals
 
 const struct wait time_sleep = { .pause = pause_sleep };
 
-/* Waits for the board until a time, within a call. Answers 0, or BOARD_CHANGED where another call has changed what comes, or
- * -EINTR where a signal has come. */
+/* Waits for the board until a time, within a call. Returns 0, or BOARD_CHANGED if another call has changed what comes, or
+ * -EINTR if a signal has come. */
 int time_wait(uint64_t time)
 {
 	struct wait wait = time_sleep;

@@ -26,7 +26,7 @@ static struct timer timers[MOST_TIMERS];
 /* no timer from here on was ever there */
 static int most_timers;
 
-/* The timer that a number is, within the lock of the descriptors. */
+/* Returns the timer that a number is, or NULL, within the lock of the descriptors. */
 static struct timer *find(int descriptor)
 {
 	int index = descriptors_timer(descriptor);
@@ -63,7 +63,7 @@ PUBLIC int timerfd_create(clockid_t clock, int flags)
 	return descriptor;
 }
 
-/* A timer is no more. */
+/* Forgets a timer that is closed. */
 void timers_forget(int index)
 {
 	timers[index].is_there = 0;
@@ -90,7 +90,7 @@ void timers_put(int descriptor, int set)
 	descriptors_leave(&quiet);
 }
 
-/* Whether a timer has a number, or is in the set that has it. */
+/* Returns whether a timer has a number, or is in the set that has it. */
 static int is_in(const struct timer *t, int descriptor)
 {
 	return t->is_there && (t->descriptor == descriptor || t->set == descriptor);
@@ -178,7 +178,7 @@ static void set_here(struct timer *t, int flags, const struct itimerspec *to)
 	t->next = !value ? NEVER : flags & TFD_TIMER_ABSTIME ? clocks_end(t->clock, &to->it_value) : time_after(value);
 }
 
-/* Whether the kernel has a timer under this number. One that was closed past the names has none, or another file. */
+/* Returns whether the kernel has a timer under this number. A timer may have been closed past the names. */
 static int is_timer(int descriptor)
 {
 	struct itimerspec left;
@@ -187,7 +187,7 @@ static int is_timer(int descriptor)
 	return is;
 }
 
-/* Sets a timer to the client's time. Answers 0 where it isn't for here, 1, or a negative error number. */
+/* Sets a timer to the client's time. Returns 1, or 0 if the timer goes by the system's, or a negative error number. */
 static int set_time(int descriptor, int flags, const struct itimerspec *to, struct itimerspec *old)
 {
 	struct itimerspec wanted, before = { 0 };

@@ -125,13 +125,13 @@ static int is_under_another(const struct turn *turn)
 	return 0;
 }
 
-/* Whether the board has changed since a thread that waits for it has looked. */
+/* Returns whether the board has changed since a thread that waits for it has looked. */
 static int is_news(const struct wait *wait)
 {
 	return wait->seen && device_changes() != *wait->seen;
 }
 
-/* Whether a thread that waits has to look at the board again. */
+/* Returns whether a thread that waits has to look at the board again. */
 static int have_news(void)
 {
 	int have = 0;
@@ -228,7 +228,7 @@ static int wait_paced(uint64_t end, const struct wait *wait, const sigset_t *sig
 	return result;
 }
 
-/* What a thread has while it waits, and gives back where it is cancelled: a turn, and its own mask of signals. */
+/* What a thread has while it waits, and gives back if it's cancelled: a turn, and its own mask of signals. */
 struct waiting {
 	struct turn *turn;
 	sigset_t signals;
@@ -288,7 +288,7 @@ int turns_is_alone(void)
 	return __libc_single_threaded;
 }
 
-/* Waits up to a time of the client, or for ever. Answers 0 where the time has come, or what has ended the wait before. */
+/* Waits up to a time of the client, or for ever. Returns 0 when the time has come, or what has ended the wait before. */
 int turns_wait(uint64_t end, const struct wait *wait)
 {
 	return device->pace <= 0 && turns_is_alone() ? wait_alone(end, wait) : wait_among_others(end, wait);

@@ -1,5 +1,5 @@
 /*
- * A logger that sleeps to a full second of the date and reads then. Where the date is set (ZENDROUZ_START) it does the same
+ * A logger that sleeps to a full second of the date and reads then. If the date is set (ZENDROUZ_START) it does the same
  * in each run. On wide.board the code is the millisecond modulo 255, and the calls up to there take no whole millisecond:
  * 5 s after the start, which is at a full minute, it is 5,000 % 255 = 155.
  */
