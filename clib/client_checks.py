@@ -42,6 +42,10 @@ def clients(check):
     check.client("claims", "bench")
     check.client("wild", "wide")
     check.client("paced", "wide", ZENDROUZ_PACE="10")
+
+
+def files(check):
+    """Descriptors, what the program of answers has of them, and what the kernel answers for any file."""
     check.client("apart", "wide")
     check.client("refused", "refused")
     check.client("closed", "wide")
