@@ -38,8 +38,6 @@ static unsigned char asynchronous[DESCRIPTORS];
 static int waiting_for_signals;
 /* whose numbers these are: a child made by vfork has this memory, and numbers of its own */
 static pid_t process;
-/* files of the session whose last number went without a close */
-static unsigned lost;
 static pthread_mutex_t lock = PTHREAD_MUTEX_INITIALIZER;
 /* the variables that hold this library's own descriptors */
 static int *privates[MOST_PRIVATE];
@@ -66,11 +64,10 @@ void descriptors_leave(const struct quiet *quiet)
 	quiet_end(quiet);
 }
 
-/* Called in a child made by fork: the numbers are its own now, and what its parent has lost the parent closes. */
+/* Called in a child made by fork: the numbers are its own now. */
 void descriptors_begin_child(void)
 {
 	process = getpid();
-	lost = 0;
 }
 
 __attribute__((constructor)) static void begin(void)
@@ -131,8 +128,8 @@ static void want_signals(int descriptor, int wants)
 	asynchronous[descriptor] = wants;
 }
 
-/* Returns whether a file of the session has a number. */
-static int has_number(int file)
+/* Returns whether a file of the session has a number in this process, within the lock. */
+int descriptors_have(int file)
 {
 	for (int i = 0; i < used; i++)
 		if (kind_of(table[i]) == FILE_OF_DEVICE && index_of(table[i]) == file)
@@ -153,7 +150,7 @@ static int take_out(int descriptor)
 	}
 	want_signals(descriptor, 0);
 	sets_forget_member(descriptor);
-	return has_number(index_of(word)) ? NO_FILE : index_of(word);
+	return descriptors_have(index_of(word)) ? NO_FILE : index_of(word);
 }
 
 /* Forgets a number that goes, or that is another file's from now on. Returns the file of the session that has no number any
@@ -174,10 +171,8 @@ static void lose(int descriptor, uint64_t word)
 {
 	struct quiet quiet;
 	descriptors_enter(&quiet);
-	if (word_of(descriptor) == word) {
-		int file = take_out(descriptor);
-		lost |= file == NO_FILE ? 0 : 1u << file;
-	}
+	if (word_of(descriptor) == word)
+		take_out(descriptor);
 	descriptors_leave(&quiet);
 }
 
@@ -194,12 +189,11 @@ int descriptors_file(int descriptor)
 	return NO_FILE;
 }
 
-/* Looks at all numbers. Returns the files of the session that were lost since the last call, a bit for each. */
-unsigned descriptors_take_lost(void)
+/* Asks the kernel about all numbers, and forgets those that were closed past this library. */
+void descriptors_sweep(void)
 {
 	for (int i = 0; i < __atomic_load_n(&used, __ATOMIC_ACQUIRE); i++)
 		descriptors_file(i);
-	return __atomic_exchange_n(&lost, 0, __ATOMIC_SEQ_CST);
 }
 
 /* Returns the index of the timer that a number is, or NO_TIMER. */
@@ -223,7 +217,9 @@ int descriptors_make(int file, int flags)
 	descriptors_enter(&quiet);
 	device->file[file].never_waits = (flags & O_NONBLOCK) != 0;
 	device->file[file].mode = flags & O_ACCMODE;
-	write_word(descriptor, word_with(FILE_OF_DEVICE, file, inode_of(descriptor)));
+	device->file[file].inode = inode_of(descriptor);
+	write_word(descriptor, word_with(FILE_OF_DEVICE, file, device->file[file].inode));
+	device->file[file].is_new = 0;
 	descriptors_leave(&quiet);
 	return descriptor;
 }

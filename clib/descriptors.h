@@ -21,13 +21,17 @@ int descriptors_make(int file, int flags);
 void descriptors_put_timer(int descriptor, int index);
 void descriptors_double(int old, int new);
 int descriptors_forget(int descriptor);
-unsigned descriptors_take_lost(void);
+int descriptors_have(int file);
+void descriptors_sweep(void);
 void descriptors_note_flags(int descriptor);
 int descriptors_asynchronous(void);
 int keep_away(int descriptor);
 void descriptors_protect(int *place);
 int descriptors_are_private(int descriptor);
 void descriptors_make_way(int descriptor);
+
+/* sockets.c */
+int sockets_has(uint64_t inode);
 
 /* timers.c and sets.c, within the lock */
 void timers_forget(int index);

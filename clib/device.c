@@ -75,13 +75,18 @@ void device_let_go(void)
 	pthread_mutex_unlock(&opening);
 }
 
-/* Called in a child made by fork, which has none of the other threads, and all files of its parent. */
+/* Notes that a child is about to be made, which has the files of this process, too. Within the lock of the descriptors. */
+void device_share(void)
+{
+	for (int i = 0; device && i < MOST_FILES; i++)
+		if (device->file[i].is_open && descriptors_have(i))
+			device->file[i].is_shared = 1;
+}
+
+/* Called in a child made by fork, which has none of the other threads. */
 void device_begin_child(void)
 {
 	callers = 0;
-	for (int i = 0; device && i < MOST_FILES; i++)
-		if (device->file[i].is_open && device->file[i].opener == getppid())
-			device->file[i].is_shared = 1;
 }
 
 static int ends_with(const char *text, const char *end)
@@ -179,7 +184,7 @@ static int open_file(void)
 		int result = line_of_session("open %d", i);
 		if (result)
 			return result;
-		f->is_open = 1;
+		f->is_open = f->is_new = 1;
 		f->is_shared = f->has_waited = 0;
 		f->opener = getpid();
 		choose_defaults(f);
@@ -219,17 +224,7 @@ static void close_file(int file)
 	device_changed();
 }
 
-/* A file is closed by the process that opened it; a child only forgets it. */
-void device_close(int file)
-{
-	const struct file *f = &device->file[file];
-	device_enter();
-	if (f->is_open && f->opener == getpid())
-		close_file(file);
-	device_leave();
-}
-
-/* Whether a process has ended; a child of this one may not be waited for yet. */
+/* Returns whether a process has ended; a child of this one may not be waited for yet. */
 static int has_ended(pid_t process)
 {
 	siginfo_t information = { .si_pid = 0 };
@@ -238,17 +233,38 @@ static int has_ended(pid_t process)
 	return !waitid(P_PID, process, &information, WEXITED | WNOHANG | WNOWAIT) && information.si_pid == process;
 }
 
-/* Closes what was left open, as the kernel does: files whose descriptors this process closed past the names of the C
- * library, and those of processes that have ended. What a child of them may have stays open. */
+/* Returns whether a process has a descriptor of a file. If a child of its opener may have one, the kernel is asked. Called
+ * within the device. */
+static int is_held(int file)
+{
+	const struct file *f = &device->file[file];
+	descriptors_hold();
+	int is_here = descriptors_have(file);
+	descriptors_let_go();
+	if (is_here)
+		return 1;
+	if (f->is_new)
+		return !has_ended(f->opener);
+	if (!f->is_shared)
+		return f->opener != getpid() && !has_ended(f->opener);
+	return sockets_has(f->inode) != 0;
+}
+
+/* Closes a file of which this process has no descriptor any more, unless another one has. */
+void device_close(int file)
+{
+	device_enter();
+	if (device->file[file].is_open && !is_held(file))
+		close_file(file);
+	device_leave();
+}
+
+/* Closes the files of which no process has a descriptor any more, though none has closed them by a name of the C library: the
+ * process has ended, or went past the names. */
 void device_close_left(void)
 {
-	unsigned lost = descriptors_take_lost();
+	descriptors_sweep();
 	for (int i = 0; i < MOST_FILES; i++)
-		if (lost >> i & 1 && device->file[i].is_open && device->file[i].opener == getpid())
+		if (device->file[i].is_open && !is_held(i))
 			close_file(i);
-	for (int i = 0; i < MOST_FILES; i++) {
-		const struct file *f = &device->file[i];
-		if (f->is_open && !f->is_shared && f->opener != getpid() && has_ended(f->opener))
-			close_file(i);
-	}
 }

@@ -63,11 +63,12 @@ struct subdevice {
 };
 
 struct file {
-	/* whether a child of its opener may have it too, whether its last read had to wait, and whether its calls never wait:
-	 * O_NONBLOCK as it was set last */
-	int is_open, is_shared, has_waited, never_waits;
-	/* O_RDONLY, O_WRONLY or O_RDWR, as it was opened */
+	/* whether it has no descriptor yet, whether a child may have it too, whether its last read had to wait, and whether its
+	 * calls never wait: O_NONBLOCK as it was set last */
+	int is_open, is_new, is_shared, has_waited, never_waits;
+	/* O_RDONLY, O_WRONLY or O_RDWR, as it was opened, and the inode of its descriptors */
 	int mode;
+	uint64_t inode;
 	pid_t opener;
 	int read_subdevice, write_subdevice;
 };
@@ -134,6 +135,7 @@ uint64_t device_changes(void);
 void device_changed(void);
 void device_hold(void);
 void device_let_go(void);
+void device_share(void);
 void device_begin_child(void);
 
 /* text.c */

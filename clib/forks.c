@@ -21,6 +21,7 @@ static void hold_all(void)
 	turns_hold();
 	descriptors_hold();
 	messages_hold();
+	device_share();
 	outside = before;
 }
 

@@ -21,16 +21,23 @@ static int open_device(const char *path, int flags)
 	if (file < 0)
 		return names_answer(file);
 	int descriptor = descriptors_make(file, flags);
-	if (descriptor < 0)
+	if (descriptor < 0) {
+		device->file[file].is_new = 0;
 		device_close(file);
+	}
 	return names_answer(descriptor);
 }
 
-/* Forgets a number, and closes its file if it was the last one. A child made by vfork has numbers of its own, and changes
- * nothing here. */
-static void forget(int descriptor)
+/* Forgets a number. Returns the file of which it was the last one, or NO_FILE. A child made by vfork has numbers of its own,
+ * and changes nothing here. */
+static int forget(int descriptor)
 {
-	int file = descriptors_are_ours() ? descriptors_forget(descriptor) : NO_FILE;
+	return descriptors_are_ours() ? descriptors_forget(descriptor) : NO_FILE;
+}
+
+/* Closes a file, when the kernel has closed its last number. */
+static void close_file(int file)
+{
 	if (file != NO_FILE)
 		device_close(file);
 }
@@ -39,7 +46,7 @@ static void forget(int descriptor)
 int openings_fresh(int descriptor)
 {
 	if (descriptor >= 0)
-		forget(descriptor);
+		close_file(forget(descriptor));
 	return descriptor;
 }
 
@@ -106,21 +113,21 @@ PUBLIC int close(int descriptor)
 {
 	if (descriptors_are_private(descriptor) && descriptors_are_ours())
 		return names_answer(-EBADF);
-	forget(descriptor);
-	return REAL(close)(descriptor);
+	int file = forget(descriptor), result = REAL(close)(descriptor);
+	close_file(file);
+	return result;
 }
 
 /* Closes a stream. The C library closes its descriptor itself. */
 PUBLIC int fclose(FILE *stream)
 {
 	int descriptor = fileno(stream), result = REAL(fclose)(stream);
-	if (descriptor >= 0)
-		forget(descriptor);
+	openings_fresh(descriptor);
 	return result;
 }
 
-/* Closes a range of numbers but those of this library. */
-static int close_all_but_ours(unsigned first, unsigned last, int flags)
+/* Closes a range of numbers in the kernel, except those of this library. */
+static int close_numbers(unsigned first, unsigned last, int flags)
 {
 	int result = 0;
 	unsigned end = last < DESCRIPTORS ? last : DESCRIPTORS - 1;
@@ -128,9 +135,21 @@ static int close_all_but_ours(unsigned first, unsigned last, int flags)
 		if (descriptors_are_private(i)) {
 			result = i > first ? REAL(close_range)(first, i - 1, flags) : 0;
 			first = i + 1;
-		} else
-			forget(i);
+		}
 	return result || first > last ? result : REAL(close_range)(first, last, flags);
+}
+
+static int close_all_but_ours(unsigned first, unsigned last, int flags)
+{
+	unsigned files = 0;
+	for (unsigned i = first; i <= last && i < DESCRIPTORS; i++) {
+		int file = descriptors_are_private(i) ? NO_FILE : forget(i);
+		files |= file == NO_FILE ? 0 : 1u << file;
+	}
+	int result = close_numbers(first, last, flags);
+	for (int i = 0; i < MOST_FILES; i++)
+		close_file(files >> i & 1 ? i : NO_FILE);
+	return result;
 }
 
 PUBLIC int close_range(unsigned first, unsigned last, int flags)
@@ -151,7 +170,7 @@ static int doubled(int old, int new)
 {
 	if (new < 0 || new == old || !descriptors_are_ours())
 		return new;
-	forget(new);
+	close_file(forget(new));
 	descriptors_double(old, new);
 	return new;
 }
