@@ -5,9 +5,11 @@
  *
  * A client can close a number in ways that this library doesn't see, by a system call or within the C library. Then the
  * system gives the number to another file. So the table alone is never believed of a file of the device: its descriptor is
- * a socket that is connected to nobody, with an inode that no other file has, and the kernel says by it whether the number
- * is still this file. What reaches the kernel past this library fails, since a read and a write of such a socket do. A poll
- * made so finds it ready, so that it doesn't wait for ever but leads to a read that fails.
+ * a socket that is connected to nobody, and the kernel is asked whether the number is still that. Each call looks for a mark
+ * that only these sockets have, which is quick, and each ioctl and open looks at the inodes, too.
+ *
+ * What reaches the kernel past this library fails, since a read and a write of such a socket do. A poll made so finds it
+ * ready, so that it doesn't wait for ever but leads to a read that fails.
  */
 #define _GNU_SOURCE
 #include "descriptors.h"
@@ -23,6 +25,9 @@
 /* descriptors of the device are kept away from the numbers that clients use */
 #define FIRST_PRIVATE 240
 #define MOST_PRIVATE 4
+/* the mark of a file of the device: its descriptors have this signal (F_SETSIG), which the C library keeps for itself, so
+ * that no client asks for it. It's never sent, since nothing happens at such a socket */
+#define MARK 32
 /* how a word of the table is laid out: a kind, the index of the file or of the timer, and the inode of the file */
 #define BITS_OF_KIND 2
 #define BITS_OF_INDEX 6
@@ -36,6 +41,8 @@ static int used;
 /* which of them want a signal when samples come, and how many do */
 static unsigned char asynchronous[DESCRIPTORS];
 static int waiting_for_signals;
+/* whether the kernel takes marks */
+static int has_marks = 1;
 /* whose numbers these are: a child made by vfork has this memory, and numbers of its own */
 static pid_t process;
 static pthread_mutex_t lock = PTHREAD_MUTEX_INITIALIZER;
@@ -115,6 +122,14 @@ static int is_as_written(int descriptor, uint64_t word)
 	return inode_of(descriptor) == word >> BITS_OF_BOTH;
 }
 
+/* Returns whether a descriptor is a file of the device, by its mark. Leaves errno as it is. */
+static int is_marked(int descriptor)
+{
+	int error = errno, is = REAL(fcntl)(descriptor, F_GETSIG) == MARK;
+	errno = error;
+	return is;
+}
+
 static void write_word(int descriptor, uint64_t word)
 {
 	if (descriptor >= used)
@@ -182,7 +197,7 @@ int descriptors_file(int descriptor)
 	uint64_t word = word_of(descriptor);
 	if (kind_of(word) != FILE_OF_DEVICE)
 		return NO_FILE;
-	if (is_as_written(descriptor, word))
+	if (has_marks ? is_marked(descriptor) : is_as_written(descriptor, word))
 		return index_of(word);
 	if (descriptors_are_ours())
 		lose(descriptor, word);
@@ -192,8 +207,11 @@ int descriptors_file(int descriptor)
 /* Asks the kernel about all numbers, and forgets those that were closed past this library. */
 void descriptors_sweep(void)
 {
-	for (int i = 0; i < __atomic_load_n(&used, __ATOMIC_ACQUIRE); i++)
-		descriptors_file(i);
+	for (int i = 0; i < __atomic_load_n(&used, __ATOMIC_ACQUIRE); i++) {
+		uint64_t word = word_of(i);
+		if (kind_of(word) == FILE_OF_DEVICE && !is_as_written(i, word) && descriptors_are_ours())
+			lose(i, word);
+	}
 }
 
 /* Returns the index of the timer that a number is, or NO_TIMER. */
@@ -214,6 +232,7 @@ int descriptors_make(int file, int flags)
 		REAL(close)(descriptor);
 		return -EMFILE;
 	}
+	has_marks = has_marks && !REAL(fcntl)(descriptor, F_SETSIG, MARK);
 	descriptors_enter(&quiet);
 	device->file[file].never_waits = (flags & O_NONBLOCK) != 0;
 	device->file[file].mode = flags & O_ACCMODE;

@@ -185,7 +185,7 @@ static int open_file(void)
 		if (result)
 			return result;
 		f->is_open = f->is_new = 1;
-		f->is_shared = f->has_waited = 0;
+		f->is_shared = f->has_waited = f->signal = 0;
 		f->opener = getpid();
 		choose_defaults(f);
 		return i;

@@ -66,8 +66,9 @@ struct file {
 	/* whether it has no descriptor yet, whether a child may have it too, whether its last read had to wait, and whether its
 	 * calls never wait: O_NONBLOCK as it was set last */
 	int is_open, is_new, is_shared, has_waited, never_waits;
-	/* O_RDONLY, O_WRONLY or O_RDWR, as it was opened, and the inode of its descriptors */
-	int mode;
+	/* O_RDONLY, O_WRONLY or O_RDWR, as it was opened, the inode of its descriptors, and the signal that the client wants of it
+	 * (F_SETSIG), or 0 */
+	int mode, signal;
 	uint64_t inode;
 	pid_t opener;
 	int read_subdevice, write_subdevice;

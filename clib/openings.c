@@ -10,6 +10,7 @@
 #include <fcntl.h>
 #include <limits.h>
 #include <linux/close_range.h>
+#include <signal.h>
 #include <stdarg.h>
 #include <stdio.h>
 #include <sys/epoll.h>
@@ -213,6 +214,17 @@ static int flags_of(int descriptor, int what, int result)
 	return what == F_GETFL ? (result & ~O_ACCMODE) | device->file[file].mode : result;
 }
 
+/* Sets or returns the signal that a client wants of a file of the device. The kernel's is the mark of such files. */
+static int signal_of(int file, int what, long wanted)
+{
+	if (what == F_GETSIG)
+		return device->file[file].signal;
+	if (wanted < 0 || wanted >= NSIG)
+		return names_answer(-EINVAL);
+	device->file[file].signal = wanted;
+	return 0;
+}
+
 #define FCNTL(name) \
 	PUBLIC int name(int descriptor, int what, ...) \
 	{ \
@@ -220,6 +232,9 @@ static int flags_of(int descriptor, int what, int result)
 		va_start(values, what); \
 		void *argument = va_arg(values, void *); \
 		va_end(values); \
+		int file = what == F_GETSIG || what == F_SETSIG ? descriptors_file(descriptor) : NO_FILE; \
+		if (file != NO_FILE) \
+			return signal_of(file, what, (long)argument); \
 		int result = REAL(name)(descriptor, what, argument); \
 		if (what == F_DUPFD || what == F_DUPFD_CLOEXEC) \
 			return doubled(descriptor, result); \

@@ -18,8 +18,8 @@
 /* The signal of a descriptor. */
 static int signal_of(int descriptor)
 {
-	int number = fcntl(descriptor, F_GETSIG);
-	return number > 0 ? number : SIGIO;
+	int file = names_file(descriptor), number = file == NO_FILE ? 0 : device->file[file].signal;
+	return number ? number : SIGIO;
 }
 
 /* Whether a signal that is sent now would end a wait with a mask, or with the thread's own: it is let in, and not ignored. */

@@ -8,6 +8,7 @@
 #define _GNU_SOURCE
 #include "client.h"
 #include <fcntl.h>
+#include <signal.h>
 #include <sys/ioctl.h>
 #include <sys/mman.h>
 
@@ -90,6 +91,10 @@ static void set_flags(void)
 		fcntl(descriptor, F_GETFD) & FD_CLOEXEC ? " FD_CLOEXEC" : "");
 	report("FIOASYNC", ioctl(descriptor, FIOASYNC, &no));
 	report("FIONBIO of nothing", ioctl(descriptor, FIONBIO, NULL));
+	report("F_GETSIG", fcntl(descriptor, F_GETSIG));
+	report("F_SETSIG", fcntl(descriptor, F_SETSIG, SIGUSR1));
+	printf("F_GETSIG: %s\n", fcntl(descriptor, F_GETSIG) == SIGUSR1 ? "SIGUSR1" : "another signal");
+	report("F_SETSIG of no signal", fcntl(descriptor, F_SETSIG, 100));
 }
 
 /* A command in memory that is only read, and what comes back of one. */
