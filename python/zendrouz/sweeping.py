@@ -7,15 +7,18 @@ values and what `measure` makes of the answer.
 """
 from __future__ import annotations
 
+import contextlib
 import importlib
 import importlib.util
 import itertools
 import os
 import re
+import signal
+import threading
 from concurrent.futures import Executor, Future, ThreadPoolExecutor
 from pathlib import Path
 from queue import Empty, SimpleQueue
-from typing import Any, Callable, Dict, Iterable, List, Literal, Mapping, Optional, Tuple, Union, overload
+from typing import Any, Callable, Dict, Iterable, Iterator, List, Literal, Mapping, Optional, Tuple, Union, overload
 
 from .jobs import SECONDS, JobLike, parsed, play, text_of
 from .programs import find
@@ -89,7 +92,8 @@ class _Sweep:
         self.points, self.table, self.bar, self.timeout = points, table, bar, timeout
         self.rows: Dict[int, Row] = {}
         self.given: Dict[Future[Any], Tuple[int, str, str]] = {}
-        self.finished: SimpleQueue[Future[Any]] = SimpleQueue()
+        # with None for an interrupt
+        self.finished: SimpleQueue[Optional[Future[Any]]] = SimpleQueue()
 
     def run(self, executor: Executor, make_job: MakeJob, command: str, measure: Optional[Measure]) -> None:
         program = find("comedi")
@@ -108,7 +112,7 @@ class _Sweep:
             future = executor.submit(columns_of, program, command, job, measure, self.timeout)
             self.given[future] = at, job, digest
             future.add_done_callback(self.finished.put)
-        while self.given:
+        while self.given or not self.finished.empty():
             self.take()
 
     def take(self) -> None:
@@ -120,6 +124,8 @@ class _Sweep:
             at, job, _ = next(iter(self.given.values()))
             reason = "no job has come back from the executor for %g s, and this one is the first that waits" % (limit or 0)
             raise SweepFailed(self.points[at], reason, self.table.leave(job)) from None
+        if future is None:
+            raise KeyboardInterrupt
         at, job, digest = self.given.pop(future)
         try:
             columns = future.result()
@@ -142,6 +148,26 @@ class _Sweep:
         for future, (at, _, digest) in self.given.items():
             if future.done() and not future.cancelled() and not future.exception():
                 self.add(at, future.result(), digest)
+
+
+@contextlib.contextmanager
+def _interrupts(finished: SimpleQueue[Optional[Future[Any]]]) -> Iterator[None]:
+    """Lets the first interrupt end the sweep between two calls of the executor, as None among the finished jobs. Raised
+    within such a call, it could leave a lock of the executor held, and the sweep would never end. The second interrupt is
+    raised where it comes. A program's own handler stays."""
+    ours = (threading.current_thread() is threading.main_thread()
+            and signal.getsignal(signal.SIGINT) is signal.default_int_handler)
+
+    def note(*_: Any) -> None:
+        signal.signal(signal.SIGINT, signal.default_int_handler)
+        finished.put(None)
+    if ours:
+        signal.signal(signal.SIGINT, note)
+    try:
+        yield
+    finally:
+        if ours:
+            signal.signal(signal.SIGINT, signal.default_int_handler)
 
 
 def _bar(progress: bool, total: int) -> Any:
@@ -186,7 +212,8 @@ def sweep(make_job: MakeJob, grid: Grid, command: str = "replay", executor: Opti
     state = _Sweep(points, table, _bar(progress, len(points)), timeout)
     used = ThreadPoolExecutor(len(os.sched_getaffinity(0))) if executor is None else executor
     try:
-        state.run(used, make_job, command, measure)
+        with _interrupts(state.finished):
+            state.run(used, make_job, command, measure)
     except BaseException:
         for future in state.given:
             future.cancel()
