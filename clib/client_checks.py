@@ -69,7 +69,7 @@ PACKED_LIST = [1, 0] + list(range(2, 16)) + [0, 1, 2, 3]
 
 
 def line_levels(start, count):
-    """The levels of so many entries of digital.board, from a command's call on: a scan each 100 us."""
+    """The levels of so many entries of digital.board, from a command's call on: a scan every 100 us."""
     places = [divmod(i, len(PACKED_LIST)) for i in range(count)]
     return [5000000 * ((start + scan * 100000) // 100000 >> PACKED_LIST[entry] & 1) for scan, entry in places]
 
@@ -86,7 +86,7 @@ def packed(check):
     found = [line.split() for line in run.outs()]
     check.expect("packed: what was put out", [(int(w[3]), int(w[4])) for w in found] == [(i % 20, bit) for i, bit in enumerate(words)], run.outs())
     times = sorted({int(w[2]) for w in found})
-    check.expect("packed: a scan each 100 us", [time - times[0] for time in times] == [0, 100000, 200000, 300000], times)
+    check.expect("packed: a scan every 100 us", [time - times[0] for time in times] == [0, 100000, 200000, 300000], times)
 
 
 def times(check):

@@ -222,7 +222,7 @@ uint64_t time_of_wall(void);
 
 /*
  * turns.c. A wait, with all that can end it before its time. `pause` waits really, for up to so many nanoseconds of the wall
- * clock, with the client's signals let in, and returns 0 if nothing came. What else it returns ends the wait, and is its
+ * clock, with the client's signals unblocked, and returns 0 if nothing came. What else it returns ends the wait, and is its
  * result. `due`, if any, has the time at which something comes by itself, which other threads may change. `seen`, if any, is
  * the count of changes of the board (device_changes) that the thread has seen: one more ends the wait with BOARD_CHANGED.
  * `signals`, if any, is the mask with which the client waits, in place of its own: then all signals are blocked already.

@@ -40,7 +40,7 @@ static int range_information(const void *argument)
 	return copy_in(&asked, argument, sizeof asked) ? -EFAULT : board_ranges(&asked);
 }
 
-/* A command or its test. What the test leaves of the command comes back, but for its list. A command that is taken is
+/* A command or its test. What the test leaves of the command comes back, except its list. A command that is taken is
  * only read: it may be in memory that can't be written. */
 static int command_call_or_test(int file, unsigned request, void *argument)
 {

@@ -253,7 +253,8 @@ void polls_restore_signals(void *signals)
 	pthread_sigmask(SIG_SETMASK, signals, NULL);
 }
 
-/* A poll with a mask of signals: one that waits already ends it at once, and another one is let in by its waits. */
+/* A poll with a mask of signals: one that is pending already ends it at once, and later ones are
+ * delivered during its waits. */
 static int poll_masked(struct ask *a, int64_t nanoseconds, const sigset_t *signals)
 {
 	sigset_t old;

@@ -105,7 +105,7 @@ def output_demos(check):
     check.compare_record("demo ao_waveform", "bench", run, [])
     if check.quick:
         return
-    # an edge each 100 us from 1 ms on, up to the end: 90,000 scans. A number of 32 bits is two samples of 16, and so two
+    # an edge every 100 us from 1 ms on, up to the end: 90,000 scans. A number of 32 bits is two samples of 16, and so two
     # scans, of which the second has no line set
     lines = 8
     run = demo(check, "do_waveform", ["-s", "4", "-n", str(lines), "0"], lambda out: "m=16384\n" in out)

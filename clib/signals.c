@@ -22,7 +22,8 @@ static int signal_of(int descriptor)
 	return number ? number : SIGIO;
 }
 
-/* Whether a signal that is sent now would end a wait with a mask, or with the thread's own: it is let in, and not ignored. */
+/* Whether a signal that is sent now would end a wait with a mask, or with the thread's own: the mask doesn't
+ * block it, and it isn't ignored. */
 static int ends_waits(int number, const sigset_t *mask)
 {
 	struct sigaction action;
@@ -111,7 +112,8 @@ static int is_waiting(const sigset_t *mask)
 	return is;
 }
 
-/* Blocks all signals for a wait with a mask, unless one waits that it lets in: that is let in. Returns whether it was. */
+/* Blocks all signals for a wait with a mask, unless one is pending that the mask unblocks: that one is delivered. Returns
+ * whether one was. */
 int signals_exchange(const sigset_t *mask, sigset_t *old)
 {
 	sigset_t all;

@@ -10,7 +10,7 @@
  * All that can end a wait is in its `struct wait`, where the others see it. A thread whose wait is over, since the board has
  * changed, has something to do, though it still sleeps: no time goes on before it has seen that.
  *
- * A signal of the client is let in by a piece of a wait alone, which it ends. Between two pieces it would be lost.
+ * A signal of the client is delivered only within a piece of a wait, which it ends. Between two pieces it would be lost.
  */
 #define _GNU_SOURCE
 #include "device.h"

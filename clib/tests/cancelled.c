@@ -2,7 +2,7 @@
  * Threads that are cancelled while they read: each of them ends, also one whose reads never wait, and the board goes on for
  * the others.
  *
- * On wide.board a sample comes each 10 us, and channel 1 of the input has the code 7. Each thread says by a byte in a pipe
+ * On wide.board a sample comes every 10 us, and channel 1 of the input has the code 7. Each thread says by a byte in a pipe
  * that it reads, and is cancelled then, wherever it is. The last one waits for a sample that comes after a second, and is
  * cancelled after a millisecond: the board's time doesn't go on to that sample.
  */

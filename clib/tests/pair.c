@@ -1,8 +1,8 @@
 /*
  * An acquisition of two threads: one reads until the command has ended, and the other gives the trigger and looks after it,
- * by a poll of a pipe each 50 ms. Or it looks at its watch and cancels a command that never starts: `pair watch`.
+ * by a poll of a pipe every 50 ms. Or it looks at its watch and cancels a command that never starts: `pair watch`.
  *
- * On wide.board the code of a sample is its millisecond modulo 255, and the samples come each 100 us: 4,000 of them in 400 ms.
+ * On wide.board the code of a sample is its millisecond modulo 255, and the samples come every 100 us: 4,000 of them in 400 ms.
  */
 #include "client.h"
 #include <poll.h>

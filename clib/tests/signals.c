@@ -2,7 +2,7 @@
  * SIGIO, in calls that sleep or wait. On wide.board sample k comes at 3,000 + k * 1,000,000 ns and has the code k.
  *
  * A sleep of 10 ms that starts at 3,000 is ended by sample 1, with 9,000,000 ns left. A pause is ended by sample 2. With
- * the signal blocked a sleep lasts as long as it says; the signal waits, and is let in by the mask of sigsuspend.
+ * the signal blocked a sleep lasts as long as it says; the signal stays pending, and sigsuspend's mask unblocks it.
  *
  * The second command is given at 12,007,000 ns. A read finds its first sample there, 12, and sends no signal. The next
  * read waits for 13, and a poll for 14: each is answered with what it waited for, and the signal comes with it.

@@ -1,6 +1,6 @@
 /*
  * Threads that make descriptors at once. Each makes timers, which are due after a microsecond, and sets of its own that have
- * the board, and closes them: each timer is read, and no set is told of another one's members.
+ * the board, and closes them: every timer is read, and no set reports another one's members.
  */
 #include "client.h"
 #include <pthread.h>
