@@ -36,7 +36,7 @@ pub record Headline (job : JobText) : Type 0 where
   -- all that was put out of an output are the first words that its client marked, munged,
   -- at the times of their conversions
   pub puts : PutsPrefixes (setting_of job) (λ i. no_history) (λ i. []) (at_start (setting_of job)) job.lines
-  -- the samples of each read are read back from the bytes of its answer
+  -- the samples that are read or looked at are read back from the bytes of the answers
   pub shown : ReadsBack (setting_of job) (at_start (setting_of job)) job.lines
 
 -- the headline: it holds of all bytes that are read as a job

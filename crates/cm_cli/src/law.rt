@@ -24,8 +24,8 @@ pub fn jobs_are_sound()
 /// marks as read is a prefix of the command's munged expansion in trigger order. It is the whole at
 /// `done` and `dry`, and exactly k samples of more at `overrun k` and `fifo k`. A sample is lost just
 /// when its conversion comes and its place isn't there. What an output puts out are the first words
-/// that its client marked, munged. The samples of each read can be read back from the bytes of its
-/// answer.
+/// that its client marked, munged. The samples that are read or looked at can be read back from the
+/// bytes of the answers.
 pub fn the_headline()
     ensures { HeadlineLaw }
 {

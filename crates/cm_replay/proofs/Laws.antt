@@ -251,7 +251,16 @@ mapped-well wiring n time h c inn kept =
 
 pub looked-well : (wiring : Wiring) (i time : ℕ) (h : History) (c : Running) → is_out c.schedule ≡ false → i < c.ra - c.r → Keeps wiring time h (Some c) →
     IsWell wiring time h (Some c) (Looked c.schedule.format (c.r + i) (slice_index (samples c.schedule) (c.r + i))) (Some c)
-looked-well wiring i time h c inn within kept = ((refl, omega (arith, remembers-in h c inn kept.2), omega arith, refl), kept)
+looked-well wiring i time h c inn within kept = (
+  record {
+    input = inn;
+    format = refl;
+    unread = omega (arith, remembers-in h c inn kept.2);
+    mapped = omega arith;
+    word_is = refl;
+  },
+  kept,
+)
 
 pub released-well : (wiring : Wiring) (k time : ℕ) (h : History) (c : Running) → is_out c.schedule ≡ false → k ≤ c.ra - c.r → Keeps wiring time h (Some c) → IsWell wiring time h (Some c) (Released k) (Some (record c { r = c.r + k }))
 released-well wiring k time h c inn within kept =

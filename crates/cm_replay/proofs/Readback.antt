@@ -1,4 +1,4 @@
--- The bytes of a read's answer are read back as its samples.
+-- The bytes of a read's or a look's answer are read back as its samples.
 use Rattle.std.proofs.Common.{◌≡◌, ℕ, suc, ◌+◌, ◌%◌, ◌<◌, ◌≤◌, ◌^◌, Bool, true, false, not, List, [], ◌∷◌, ◌++◌, length, map, take, append_assoc, Ok, ℤ, refl, sym, ap, ◌∙◌, arith, mod-lt, ◌==◌}
 use Rattle.std.specs.Prelude.{codes, if◌then◌else◌}
 use Rattle.std.specs.Char.{is_ascii_digit}
@@ -7,13 +7,14 @@ use Rattle.std.specs.List.{list_all}
 use Rattle.std.proofs.lemmas.Bool.{le-leb}
 use Rattle.std.proofs.lemmas.Bool.Decides.{nat_tests}
 use Rattle.std.proofs.lemmas.Fmt.{decimal_nonempty}
+use Rattle.std.proofs.lemmas.List.{append-nil}
 use Rattle.cm_base.specs.Lines.{LineText, is_comment, is_word, lines_from, raw_lines}
 use Rattle.cm_base.specs.WrittenLines.{is_line, numbered, text_of, written_line}
 use Rattle.cm_base.proofs.Bools.{and_true, both}
 use Rattle.cm_base.proofs.NumbersBack.{digits-decimal, number_in-decimal, signed_number-decimal, word-decimal, word-signed_decimal}
 use Rattle.cm_base.proofs.WrittenLines.{lines_from-written}
 use Rattle.cm_text.specs.Format.{Format, sample_line, sample_lines}
-use Rattle.cm_running.specs.Texts.{taken_text}
+use Rattle.cm_running.specs.Texts.{looked_text, taken_text}
 use Rattle.cm_replay.specs.Readback.{AreShown, IsShown, Level, ReadbackLaw, Word, answer_said, level_at, number_word, read_back, sample_words, samples_said, seen_at, seen_from}
 
 -- the words of a sample's line, and of the lines from a place on
@@ -89,21 +90,26 @@ are_lines f place (word ∷ words) some few shown = and_true _ _ (is_line_at f p
 number_back : (n : ℕ) → n < 2 ^ 32 → number_word (decimal n) ≡ Ok n
 number_back n small = number_in-decimal 0 4294967295 n small (and_true _ _ (le-leb 0 n (omega arith)) (le-leb n 4294967295 (omega arith)))
 
--- a sample's words say it
-sample_back : (f : Format) (place word : ℕ) → 1 ≤ length f.list → length f.list < 2 ^ 32 → IsShown f place word → sample_words (words_at f place word) ≡ Ok (seen_at f place word)
-unfolding words_at words_of_value
-sample_back f place word some few shown = by f.raw refl
+-- words that say a sample, raw or by its level, are read as the sample
+said_back : (f : Format) (place word : ℕ) (raw : Bool) → 1 ≤ length f.list → length f.list < 2 ^ 32 → IsShown f place word → f.raw ≡ raw →
+    sample_words (decimal (place % length f.list) ∷ words_of_value raw word (level_at f place word))
+    ≡ Ok (record { index = place % length f.list; value = if raw then Word word else Level (level_at f place word) })
+unfolding words_of_value
+said_back f place word raw some few shown is = by raw is
   where
-    index : ℕ
-    index = place % length f.list
-
-    index_is : number_word (decimal index) ≡ Ok index
-    index_is = number_back index (index_small place (length f.list) some few)
+    index_is : number_word (decimal (place % length f.list)) ≡ Ok (place % length f.list)
+    index_is = number_back (place % length f.list) (index_small place (length f.list) some few)
 
     by : (raw : Bool) → f.raw ≡ raw →
-        sample_words (decimal index ∷ words_of_value raw word (level_at f place word)) ≡ Ok (record { index = index; value = if raw then Word word else Level (level_at f place word) })
+        sample_words (decimal (place % length f.list) ∷ words_of_value raw word (level_at f place word))
+        ≡ Ok (record { index = place % length f.list; value = if raw then Word word else Level (level_at f place word) })
     by true e = rw (index_is, number_back word (shown.0 e)) refl
     by false e = rw (index_is, signed_number-decimal (level_at f place word) (shown.1 e)) refl
+
+-- a sample's words say it
+sample_back : (f : Format) (place word : ℕ) → 1 ≤ length f.list → length f.list < 2 ^ 32 → IsShown f place word → sample_words (words_at f place word) ≡ Ok (seen_at f place word)
+unfolding words_at
+sample_back f place word some few shown = said_back f place word f.raw some few shown refl
 
 samples_back : (f : Format) (place : ℕ) (words : List ℕ) → 1 ≤ length f.list → length f.list < 2 ^ 32 → AreShown f place words → samples_said (words_from f place words) ≡ Ok (seen_from f place words)
 unfolding words_from
@@ -149,3 +155,33 @@ readback_law f place words rest some few short shown =
     front =
         ap (λ n. take n (words_from f place words ++ map (λ line. line.words) others)) (sym (count_from f place words))
         ∙ taken_front (words_from f place words) (map (λ line. line.words) others)
+
+-- the line of a look is `ok` with the words of its sample
+pub look_law : (f : Format) (place word : ℕ) (rest : List ℕ) → 1 ≤ length f.list → length f.list < 2 ^ 32 → IsShown f place word →
+    read_back (looked_text f place word ++ rest) ≡ Ok (seen_at f place word ∷ [])
+unfolding words_at words_of_value
+look_law f place word rest some few shown =
+    ap (λ (text : List ℕ). read_back (text ++ rest)) text_is
+    ∙ ap answer_said (ap (map (λ line. line.words)) (lines_from-written 1 (line ∷ []) rest all) ∙ numbered_words 1 (line ∷ []) others)
+    ∙ by f.raw refl
+  where
+    line : List (List ℕ)
+    line = codes "ok" ∷ words_at f place word
+
+    others : List LineText
+    others = lines_from (1 + length (line ∷ [])) (raw_lines rest)
+
+    text_is : looked_text f place word ≡ text_of (line ∷ [])
+    text_is = ap (λ (more : List ℕ). codes "ok " ++ more) (line_is f place word) ∙ sym (append-nil (written_line line))
+
+    words_all : list_all is_word (words_at f place word) ≡ true
+    words_all = (both (not (is_comment (words_at f place word))) _ (is_line_at f place word some few shown)).1
+
+    all : list_all is_line (line ∷ []) ≡ true
+    all = and_true _ true (and_true true _ refl (and_true true _ refl words_all)) refl
+
+    by : (raw : Bool) → f.raw ≡ raw →
+        answer_said ((codes "ok" ∷ decimal (place % length f.list) ∷ words_of_value raw word (level_at f place word)) ∷ map (λ line. line.words) others)
+        ≡ Ok (record { index = place % length f.list; value = if raw then Word word else Level (level_at f place word) } ∷ [])
+    by true e = rw (said_back f place word true some few shown e) refl
+    by false e = rw (said_back f place word false some few shown e) refl

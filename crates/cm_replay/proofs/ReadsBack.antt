@@ -1,5 +1,5 @@
--- The samples of each read are read back from the bytes of its answer.
-use Rattle.std.proofs.Common.{◌≡◌, ℕ, zero, suc, ◌<◌, ◌≤◌, ◌^◌, List, [], ◌∷◌, length, take, drop, refl, sym, ap, ◌∙◌, arith, subst, Option, Some, None}
+-- The samples that are read or looked at are read back from the bytes of the answers.
+use Rattle.std.proofs.Common.{◌≡◌, ℕ, zero, suc, false, ◌+◌, ◌<◌, ◌≤◌, ◌^◌, List, [], ◌∷◌, length, take, drop, refl, sym, ap, ◌∙◌, arith, subst, Option, Some, None}
 use Rattle.cm_board.specs.Board.{IsSoundSub, no_sub}
 use Rattle.cm_expand.specs.Plan.{PlanText, times_of}
 use Rattle.cm_session.specs.Limits.{InOrder}
@@ -7,27 +7,29 @@ use Rattle.cm_session.specs.declared.op.SessionLine.{SessionLine}
 use Rattle.cm_signal.specs.Setting.{Setting}
 use Rattle.cm_test.specs.Passed.{IsPassed}
 use Rattle.cm_test.proofs.Passed.{passed}
-use Rattle.cm_text.specs.Format.{Format, format_of}
+use Rattle.cm_text.specs.Format.{Format}
 use Rattle.cm_running.specs.Running.{Running, Schedule, is_out, samples}
-use Rattle.cm_running.specs.Schedules.{schedule_of}
-use Rattle.cm_replay.specs.Answers.{Answer, Taken}
+use Rattle.cm_running.proofs.Samples.{length-samples}
+use Rattle.cm_replay.specs.Answers.{Answer, Looked, Taken}
 use Rattle.cm_replay.specs.Forms.{named_sub}
 use Rattle.cm_replay.specs.Job.{setting_of}
-use Rattle.cm_replay.specs.Law.{Continues, HasNext, History, Keeps, Wiring, no_history, running_at, wiring_at}
-use Rattle.cm_replay.specs.Readback.{AreShown, IsReadBack, ReadsBack, SessionReadback}
+use Rattle.cm_replay.specs.Law.{Continues, HasNext, History, Keeps, LooksAt, Wiring, no_history, running_at, wiring_at}
+use Rattle.cm_replay.specs.Readback.{AreShown, IsReadBack, IsShown, ReadsBack, SessionReadback}
 use Rattle.cm_replay.specs.Session.{brought_all, step}
 use Rattle.cm_replay.specs.State.{Device, State, at_start, device_at}
+use Rattle.cm_replay.proofs.Ends.{arrived-le}
 use Rattle.cm_replay.proofs.Laws.{input, remembers-in}
-use Rattle.cm_replay.proofs.Readback.{readback_law}
+use Rattle.cm_replay.proofs.Readback.{look_law, readback_law}
 use Rattle.cm_replay.proofs.Readiness.{AllPlans, HasPlan, plans-acted, plans-brought}
 use Rattle.cm_replay.proofs.SessionLaws.{AllKeep, IsSoundState, all-brought, all-idle, first-idle, sound-brought, sound-start, sound-stepped, step-well}
-use Rattle.cm_replay.proofs.Shown.{IsAccepted, shown_drop, shown_from, shown_take}
+use Rattle.cm_replay.proofs.Shown.{IsAccepted, shown_drop, shown_from, shown_take, shown_there}
 
--- the next samples of an accepted command of a sound subdevice are read back
-next-back : (wiring : Wiring) (time : ℕ) (h : History) (c : Running) (f : Format) (place : ℕ) (words : List ℕ) →
-    IsSoundSub wiring.sub → IsAccepted c.schedule.plan → Keeps wiring time h (Some c) → HasNext f place words h c →
-    IsReadBack (Taken f place words)
-next-back wiring time h c f place words sub accepted keeps next = λ rest. readback_law f place words rest some few short shown
+-- an input's accepted command of a sound subdevice has a list, and all its samples are written as numbers of 32 bits
+written : (wiring : Wiring) (time : ℕ) (h : History) (c : Running) (f : Format) →
+    IsSoundSub wiring.sub → IsAccepted c.schedule.plan → Keeps wiring time h (Some c) → is_out c.schedule ≡ false → f ≡ c.schedule.format →
+    (1 ≤ length f.list) × (length f.list < 2 ^ 32) × AreShown f 0 (samples c.schedule)
+written wiring time h c f sub accepted keeps input is =
+    (omega (arith, long, passes.list.low), omega (arith, long, passes.list.high, sound.list.high), shown)
   where
     p : PlanText
     p = c.schedule.plan
@@ -38,17 +40,26 @@ next-back wiring time h c f place words sub accepted keeps next = λ rest. readb
     passes : IsPassed p.sub p.cmd
     passes = passed p.sub p.cmd sound accepted
 
-    format_is : f ≡ format_of p
-    format_is = next.format ∙ ap (λ (s : Schedule). s.format) keeps.0.same
-
     long : length f.list ≡ length p.cmd.list
-    long = ap (λ (g : Format). length g.list) format_is
+    long = ap (λ (g : Format). length g.list) (is ∙ ap (λ (s : Schedule). s.format) keeps.0.same)
 
-    some : 1 ≤ length f.list
-    some = omega (arith, long, passes.list.low)
+    its_own : AreShown c.schedule.format 0 (samples c.schedule)
+    its_own = subst (λ (s : Schedule). AreShown s.format 0 (samples s)) (sym keeps.0.same) (shown_from p 0 (times_of p) sound accepted input)
 
-    few : length f.list < 2 ^ 32
-    few = omega (arith, long, passes.list.high, sound.list.high)
+    shown : AreShown f 0 (samples c.schedule)
+    shown = subst (λ (g : Format). AreShown g 0 (samples c.schedule)) (sym is) its_own
+
+-- the next samples of such a command are read back
+next-back : (wiring : Wiring) (time : ℕ) (h : History) (c : Running) (f : Format) (place : ℕ) (words : List ℕ) →
+    IsSoundSub wiring.sub → IsAccepted c.schedule.plan → Keeps wiring time h (Some c) → HasNext f place words h c →
+    IsReadBack (Taken f place words)
+next-back wiring time h c f place words sub accepted keeps next = λ rest. readback_law f place words rest all.0 all.1 short shown
+  where
+    all : (1 ≤ length f.list) × (length f.list < 2 ^ 32) × AreShown f 0 (samples c.schedule)
+    all = written wiring time h c f sub accepted keeps next.input next.format
+
+    sound : IsSoundSub c.schedule.plan.sub
+    sound = subst IsSoundSub (sym keeps.1.0) sub
 
     short : length words < 2 ^ 32
     short =
@@ -57,18 +68,28 @@ next-back wiring time h c f place words sub accepted keeps next = λ rest. readb
         let size = ap (λ (s : Schedule). s.size) keeps.0.same in
         omega (arith, next.written, next.place_is, gone, places.w_size, size, sound.buffer.high)
 
-    left : AreShown (format_of p) place (drop place (samples (schedule_of p)))
-    left =
-        shown_drop (format_of p) 0 place place (samples (schedule_of p)) (omega arith)
-        (shown_from p 0 (times_of p) sound accepted next.input)
-
-    words_are : take (length words) (drop place (samples (schedule_of p))) ≡ words
-    words_are = ap (λ (s : Schedule). take (length words) (drop place (samples s))) (sym keeps.0.same) ∙ sym next.words_are
+    left : AreShown f place (drop place (samples c.schedule))
+    left = shown_drop f 0 place place (samples c.schedule) (omega arith) all.2
 
     shown : AreShown f place words
-    shown =
-        subst (λ (g : Format). AreShown g place words) (sym format_is)
-        (subst (AreShown (format_of p) place) words_are (shown_take (format_of p) place (length words) _ left))
+    shown = subst (AreShown f place) (sym next.words_are) (shown_take f place (length words) _ left)
+
+-- so is a sample that is looked at
+look-back : (wiring : Wiring) (time : ℕ) (h : History) (c : Running) (f : Format) (place word : ℕ) →
+    IsSoundSub wiring.sub → IsAccepted c.schedule.plan → Keeps wiring time h (Some c) → LooksAt f place word h c →
+    IsReadBack (Looked f place word)
+look-back wiring time h c f place word sub accepted keeps looks = λ rest. look_law f place word rest all.0 all.1 shown
+  where
+    all : (1 ≤ length f.list) × (length f.list < 2 ^ 32) × AreShown f 0 (samples c.schedule)
+    all = written wiring time h c f sub accepted keeps looks.input looks.format
+
+    within : place < length (samples c.schedule)
+    within =
+        let places = input (is_out c.schedule) time c looks.input keeps.0.places in
+        omega (arith, looks.mapped, places.ra_w, places.w_come, arrived-le c.schedule time keeps.0.timely, length-samples c.schedule)
+
+    shown : IsShown f place word
+    shown = subst (IsShown f place) (sym looks.word_is) (shown_there f 0 place place (samples c.schedule) (omega arith) within all.2)
 
 -- so is each answer that continues what was read
 answer-back : (wiring : Wiring) (time : ℕ) (h : History) (running : Option Running) (answer : Answer) →
@@ -77,6 +98,9 @@ answer-back : (wiring : Wiring) (time : ℕ) (h : History) (running : Option Run
 answer-back wiring time h None (Taken f place words) sound accepted keeps next = absurd next
 answer-back wiring time h (Some c) (Taken f place words) sound accepted keeps next =
     next-back wiring time h c f place words (sound c refl) accepted keeps next
+answer-back wiring time h None (Looked f place word) sound accepted keeps next = absurd next
+answer-back wiring time h (Some c) (Looked f place word) sound accepted keeps next =
+    look-back wiring time h c f place word (sound c refl) accepted keeps next
 answer-back wiring time h running answer sound accepted keeps next = tt
 
 -- a subdevice with a command is there

@@ -1,6 +1,6 @@
 -- The samples of an input's command are written as numbers of 32 bits.
 use Rattle.std.proofs.Common.{◌≡◌, ℕ, zero, suc, ◌+◌, ◌*◌, ◌/◌, ◌%◌, ◌<◌, ◌≤◌, ◌^◌, ◌-◌, Bool, true, false, not, cond, ◌&&◌, List, [], ◌∷◌, length, take, drop, nat_le, ◌==◌, ℤ, Some, pos, negsuc, sym, ap, ◌∙◌, arith, mod-lt, mul-le-mul_right, subst}
-use Rattle.std.specs.Prelude.{◌+ℤ◌, ◌<ℤ◌, bit_xor, int_lt}
+use Rattle.std.specs.Prelude.{◌+ℤ◌, ◌<ℤ◌, bit_xor, int_lt, slice_index}
 use Rattle.std.specs.List.{All, list_all}
 use Rattle.std.specs.Option.{option_to_list}
 use Rattle.std.proofs.Math.Nat.{div-le_of_le-mul}
@@ -190,3 +190,14 @@ pub shown_take : (f : Format) (place n : ℕ) (words : List ℕ) → AreShown f 
 shown_take f place zero words shown = tt
 shown_take f place (suc n) [] shown = tt
 shown_take f place (suc n) (word ∷ words) shown = (shown.0, shown_take f (suc place) n words shown.1)
+
+-- each of them
+pub shown_there : (f : Format) (place there i : ℕ) (words : List ℕ) → place + i ≡ there → i < length words → AreShown f place words →
+    IsShown f there (slice_index words i)
+shown_there f place there i [] is within shown = absurd (omega arith)
+shown_there f place there zero (word ∷ words) is within shown =
+    let here : place ≡ there = omega (arith, is) in
+    subst (λ k. IsShown f k word) here shown.0
+shown_there f place there (suc i) (word ∷ words) is within shown =
+    let on : suc place + i ≡ there = omega (arith, is) in
+    shown_there f (suc place) there i words on (omega arith) shown.1

@@ -106,11 +106,18 @@ pub record HasNext (f : Format) (place : ℕ) (words : List ℕ) (h : History) (
   pub words_are : words ≡ take (length words) (drop place (samples c.schedule))
   pub written : place + length words ≤ c.w
 
+-- a look has a mapped sample of an input's command, in the command's format
+pub record LooksAt (f : Format) (place word : ℕ) (h : History) (c : Running) : Type 0 where
+  pub input : is_out c.schedule ≡ false
+  pub format : f ≡ c.schedule.format
+  pub unread : h.gone ≤ place
+  pub mapped : place < c.ra
+  pub word_is : word ≡ slice_index (samples c.schedule) place
+
 -- an answer has the next samples, or one that is mapped, or reports an end if nothing is left
 abbrev pub Continues : Answer → History → Option Running → Type 0
 Continues (Taken f place words) h (Some c) = HasNext f place words h c
-Continues (Looked f place word) h (Some c) =
-    (f ≡ c.schedule.format) × (h.gone ≤ place) × (place < c.ra) × (word ≡ slice_index (samples c.schedule) place)
+Continues (Looked f place word) h (Some c) = LooksAt f place word h c
 Continues (Ended e) h (Some c) =
     (is_out c.schedule ≡ false → c.r ≡ c.w) × IsDue e (served c) (length c.schedule.conversions)
 Continues (Taken f place words) h None = ⊥

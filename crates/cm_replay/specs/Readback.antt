@@ -1,4 +1,4 @@
--- How the bytes of a read's answer are read back as samples.
+-- How the bytes of a read's or a look's answer are read back as samples.
 use Rattle.std.specs.Prelude.{◌≡◌, ℕ, ◌%◌, ◌<◌, ◌≤◌, ◌^◌, suc, true, false, List, [], ◌∷◌, ◌++◌, length, map, take}
 use Rattle.std.specs.Prelude.{codes, Result, Ok, Err, ℤ, ◌⊎◌, if◌then◌else◌}
 use Rattle.cm_base.specs.Lines.{lines_of}
@@ -15,7 +15,7 @@ use Rattle.cm_signal.specs.Setting.{Setting}
 use Rattle.cm_text.specs.Format.{Format}
 use Rattle.cm_text.specs.Outputs.{output_texts}
 use Rattle.cm_running.specs.Texts.{taken_text}
-use Rattle.cm_replay.specs.Answers.{Answer, Taken}
+use Rattle.cm_replay.specs.Answers.{Answer, Looked, Taken}
 use Rattle.cm_replay.specs.Job.{JobText, setting_of}
 use Rattle.cm_replay.specs.Law.{IsSoundJob}
 use Rattle.cm_replay.specs.Session.{Step, step}
@@ -68,10 +68,12 @@ abbrev pub samples_said : List (List (List ℕ)) → Result (List Seen) Fault
 samples_said [] = Ok []
 samples_said (line ∷ lines) = sample_words line >>= λ sample. samples_said lines >>= λ more. Ok (sample ∷ more)
 
--- the samples that an answer says: after the line `ok N` come the lines of N samples
+-- the samples that an answer says: after the line `ok N` come the lines of N samples, and a look has one after `ok`
 abbrev pub answer_said : List (List (List ℕ)) → Result (List Seen) Fault
 answer_said ((ok ∷ count ∷ []) ∷ lines) =
     keyword ((codes "ok", samples_said) ∷ []) ok >>= λ samples. number_word count >>= λ n. samples (take n lines)
+answer_said ((ok ∷ words) ∷ lines) =
+    keyword ((codes "ok", sample_words) ∷ []) ok >>= λ read. read words >>= λ sample. Ok (sample ∷ [])
 answer_said lines = Err BadLine
 
 -- the samples that a client reads from the bytes of an answer on
@@ -96,19 +98,21 @@ ReadbackLaw =
     → AreShown f place words
     → read_back (taken_text f place words ++ rest) ≡ Ok (seen_from f place words)
 
--- the samples of a read are read back from the bytes of its answer, whatever follows them
+-- the samples of a read or a look are read back from the bytes of its answer, whatever follows them
 abbrev pub IsReadBack : Answer → Type 0
 IsReadBack (Taken f place words) =
     (rest : List ℕ) → read_back (answer_text (Taken f place words) ++ rest) ≡ Ok (seen_from f place words)
+IsReadBack (Looked f place word) =
+    (rest : List ℕ) → read_back (answer_text (Looked f place word) ++ rest) ≡ Ok (seen_at f place word ∷ [])
 IsReadBack other = Unit {0}
 
--- at every line of a session the samples of a read are read back from the bytes of its answer
+-- at every line of a session the samples that are read or looked at are read back from the bytes of its answer
 abbrev pub ReadsBack : Setting → State → List SessionLine → Type 0
 ReadsBack s state [] = Unit {0}
 ReadsBack s state (line ∷ rest) =
     IsReadBack (step s line state).answer × ReadsBack s (step s line state).state rest
 
--- in every session the samples of each read are read back from the bytes of its answer
+-- in every session the samples that are read or looked at are read back from the bytes of the answers
 abbrev pub SessionReadback : Type 0
 SessionReadback =
     (job : JobText) → IsSoundJob job → ReadsBack (setting_of job) (at_start (setting_of job)) job.lines

@@ -37,8 +37,8 @@ pub fn reads_can_be_read_back()
     ensures { ReadbackLaw }
 {}
 
-/// In every session of a sound job the samples of each read are read back from the bytes of its
-/// answer: the numbers in it have 32 bits.
+/// In every session of a sound job the samples that are read or looked at are read back from the bytes
+/// of the answers: the numbers in them have 32 bits.
 pub fn each_read_can_be_read_back()
     ensures { SessionReadback }
 {}
