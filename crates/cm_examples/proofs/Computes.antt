@@ -9,8 +9,9 @@ use Rattle.cm_cmd.specs.ListText.{aref_of, entry_of, list_of}
 use Rattle.cm_run.specs.Soak.{soak_text}
 use Rattle.cm_signal.specs.Signals.{have_own}
 use Rattle.cm_examples.specs.Answering.{Accepts, Answers, Refuses}
+use Rattle.cm_examples.specs.Printing.{PrintsAs}
 
 -- names the definitions that stand for themselves unless they are unfolded: `unfolding computes` opens all of them
 unfoldable pub computes : ℕ
-unfolding digits has_text is_bits_ok maxdata_of munge_of ranges_of down up divisors_word head_of trigger_of aref_of entry_of list_of soak_text have_own Accepts Answers Refuses
+unfolding digits has_text is_bits_ok maxdata_of munge_of ranges_of down up divisors_word head_of trigger_of aref_of entry_of list_of soak_text have_own Accepts Answers Refuses PrintsAs
 computes = 0

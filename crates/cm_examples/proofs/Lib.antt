@@ -1,4 +1,5 @@
 pub mod Computes
+pub mod Overruns
 pub mod RunText
 pub mod Examples
 pub mod Boards

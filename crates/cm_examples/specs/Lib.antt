@@ -1,4 +1,6 @@
 pub mod Answering
+pub mod Losses
+pub mod Printing
 pub mod Examples
 pub mod Boards
 pub mod Buffers

@@ -3,3 +3,5 @@
 
 pub mod given;
 pub mod law;
+pub mod losses;
+pub mod printing;
