@@ -36,8 +36,8 @@ pub fn comedi_as_asked<R: Threads + Wait + Sync, S: Source, K: Sink, G: Gate + S
     }
 }
 
-// The words after the program's name, and none where they can't be read.
-fn words_after_name(alloc: Global, given: io::Result<Args>) -> Result<Vec<String>, AllocError>
+/// Returns the words after the program's name, and none if they can't be read. Want of memory is an error.
+pub fn words_after_name(alloc: Global, given: io::Result<Args>) -> Result<Vec<String>, AllocError>
     ensures { AreAfterName given result }
 {
     match given {
@@ -46,14 +46,14 @@ fn words_after_name(alloc: Global, given: io::Result<Args>) -> Result<Vec<String
     }
 }
 
-// All words but the first.
+// Returns all words except the first.
 fn after_first(alloc: Global, all: Args) -> Result<Vec<String>, AllocError>
     ensures { IfOk result (λ words. words.items ≡ drop 1 (into_iter_items all)) }
 {
     all.skip(1).collect(alloc)
 }
 
-// What there is in place of words that can't be had.
+// Returns what there is in place of words that can't be had.
 fn missing(alloc: Global, kind: io::ErrorKind) -> Result<Vec<String>, AllocError>
     ensures none { IfOk result (λ words. (words.items ≡ []) × (kind ≢ OutOfMemory)) }
     ensures lacking { IfErr result (λ lack. kind ≡ OutOfMemory) }

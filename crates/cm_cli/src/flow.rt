@@ -1,4 +1,4 @@
-// The way of every command: its input is read, and what was done is reported as a status.
+// The steps of every call: its input is read, and what was done is reported as a status.
 ghost use Rattle.std.specs.Prelude.{◌≡◌, ◌≤◌, ◌⊎◌, length, MatchResult};
 ghost use Rattle.std.specs.Io.KnownBytes.{Appends};
 ghost use Rattle.cm_base.specs.Causes.{Rose};
@@ -16,8 +16,8 @@ use std::alloc::Global;
 // The most bytes that are read.
 const BYTE_LIMIT: u32 = 1_048_576;
 
-// The whole input, where it isn't too long.
-pub(crate) fn read_input<S: Source>(alloc: Global, source: &mut S) -> Result<Vec<u8>, Stop>
+/// Returns the whole input. One of more than a mebibyte is refused.
+pub fn read_input<S: Source>(alloc: Global, source: &mut S) -> Result<Vec<u8>, Stop>
     ensures { MatchResult result
         (λ bytes. ReadsAll (S.left source.old) (S.left source.new) bytes.items × (length bytes.items ≤ 1048576))
         (λ stop. NotRead stop (end_at (S.left source.old) (S.faults source.old)) (end_at (S.left source.new) (S.faults source.new))) }
@@ -33,8 +33,8 @@ pub(crate) fn read_input<S: Source>(alloc: Global, source: &mut S) -> Result<Vec
     }
 }
 
-// The status of what was done. A refusal is written.
-pub(crate) fn report<K: Sink>(alloc: Global, done: Result<(), Stop>, sink: &mut K) -> Status
+/// Returns the status of what was done. A refusal is written to the sink first.
+pub fn report<K: Sink>(alloc: Global, done: Result<(), Stop>, sink: &mut K) -> Status
     ensures { Reports done result (end_at (K.text sink.old) (K.faults sink.old)) (end_at (K.text sink.new) (K.faults sink.new)) }
 {
     match done {
@@ -46,7 +46,7 @@ pub(crate) fn report<K: Sink>(alloc: Global, done: Result<(), Stop>, sink: &mut 
     }
 }
 
-// Reports why the input is refused.
+// Writes why the input is refused.
 fn decline<K: Sink>(alloc: Global, refused: Refused, sink: &mut K) -> Status
     ensures { Declines refused result (end_at (K.text sink.old) (K.faults sink.old)) (end_at (K.text sink.new) (K.faults sink.new)) }
 {
@@ -56,8 +56,8 @@ fn decline<K: Sink>(alloc: Global, refused: Refused, sink: &mut K) -> Status
     }
 }
 
-// Writes a text, and gives the status unless the sink fails.
-pub(crate) fn conclude<K: Sink>(sink: &mut K, text: &[u8], status: Status) -> Status
+/// Writes a text, and returns the status. If the sink fails, the status is `WriteFault`.
+pub fn conclude<K: Sink>(sink: &mut K, text: &[u8], status: Status) -> Status
     ensures { ((result ≡ status) × Appends (K.text sink.old) (K.text sink.new) text.now)
         ⊎ ((result ≡ Status.WriteFault) × AppendsPrefix (K.text sink.old) (K.text sink.new) text.now
         × Rose (K.faults sink.old) (K.faults sink.new)) }

@@ -5,7 +5,7 @@ pub mod answer;
 pub mod asked;
 pub mod comedi;
 pub mod command;
-mod flow;
+pub mod flow;
 pub mod jobs;
 pub mod law;
 pub mod serving;
