@@ -1,0 +1,13 @@
+-- What an example is computed with.
+use Rattle.std.specs.Prelude.{ℕ}
+use Rattle.std.specs.Fmt.{digits}
+use Rattle.cm_board.specs.Board.{has_text, is_bits_ok, maxdata_of, munge_of, ranges_of}
+use Rattle.cm_board.specs.Times.{down, up}
+use Rattle.cm_board_text.specs.DivisorsText.{divisors_word}
+use Rattle.cm_signal.specs.Signals.{have_own}
+use Rattle.cm_facts.specs.Examples.{Describes}
+
+-- names the definitions that stand for themselves unless they are unfolded: `unfolding computes` opens all of them
+unfoldable pub computes : ℕ
+unfolding digits has_text is_bits_ok maxdata_of munge_of ranges_of down up divisors_word have_own Describes
+computes = 0
