@@ -6,8 +6,9 @@ use Rattle.cm_board.specs.Times.{down, up}
 use Rattle.cm_board_text.specs.DivisorsText.{divisors_word}
 use Rattle.cm_signal.specs.Signals.{have_own}
 use Rattle.cm_facts.specs.Examples.{Describes}
+use Rattle.cm_facts.specs.SignalFacts.{line_facts}
 
 -- names the definitions that stand for themselves unless they are unfolded: `unfolding computes` opens all of them
 unfoldable pub computes : ℕ
-unfolding digits has_text is_bits_ok maxdata_of munge_of ranges_of down up divisors_word have_own Describes
+unfolding digits has_text is_bits_ok maxdata_of munge_of ranges_of down up divisors_word have_own line_facts Describes
 computes = 0

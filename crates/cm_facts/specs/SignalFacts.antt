@@ -1,6 +1,6 @@
 -- What is known of the signals at a board's inputs.
-use Rattle.std.specs.Prelude.{ℕ, ◌+◌, ◌==◌, List, [], ◌∷◌, ◌++◌, length, codes, decimal, flat_map, if◌then◌else◌}
-use Rattle.std.specs.List.{range_with_len}
+use Rattle.std.specs.Prelude.{ℕ, ◌+◌, ◌==◌, List, [], ◌∷◌, ◌++◌, length, map, codes, decimal, flat_map, if◌then◌else◌}
+use Rattle.std.specs.List.{concat, range_with_len}
 use Rattle.cm_signal.specs.Signals.{SignalsText, edges_at, falls_at}
 use Rattle.cm_signal.specs.declared.wave.WaveAt.{WaveAt}
 use Rattle.cm_facts.specs.FactLine.{fact_line}
@@ -17,11 +17,12 @@ edge_fact s line =
     fact_line (codes "edges") (line ∷ [])
     (decimal (length (edges_at s line)) ∷ decimal (length (falls_at s line)) ∷ [])
 
--- the edges of the 64 external lines that a text can name
-abbrev pub edge_facts : SignalsText → List ℕ
-edge_facts s = flat_map (edge_fact s) (range_with_len 0 64)
+-- the edges of so many external lines
+unfoldable pub line_facts : ℕ → SignalsText → List ℕ
+line_facts count s = concat (map (edge_fact s) (range_with_len 0 count))
 
--- signals: their last nanosecond, the waves in the order of their lines, and the external lines that have edges
+-- signals: their last nanosecond, the waves in the order of their lines,
+-- and those of the 64 external lines that have edges
 abbrev pub signal_facts : SignalsText → List ℕ
 signal_facts s =
-    fact_line (codes "horizon") [] (decimal s.horizon ∷ []) ++ flat_map wave_fact s.waves ++ edge_facts s
+    fact_line (codes "horizon") [] (decimal s.horizon ∷ []) ++ flat_map wave_fact s.waves ++ line_facts 64 s

@@ -1,5 +1,5 @@
 // What is known of the codes of a subdevice and of its channels.
-ghost use Rattle.std.specs.Prelude.{◌≡◌, ◌+◌, ◌<◌, ◌^◌, ◌++◌, Some, length, OnOk};
+ghost use Rattle.std.specs.Prelude.{◌≡◌, ◌+◌, ◌<◌, ◌^◌, ◌++◌, Some, flat_map, length, OnOk};
 ghost use Rattle.cm_board.specs.Board.{munge_by, ranges_by};
 ghost use Rattle.cm_facts.specs.ChannelFacts as spec;
 ghost use Rattle.cm_facts.specs.FactLine.{fact_line};
@@ -21,11 +21,16 @@ pub(crate) fn put_codes(text: &mut Vec<u8>, index: u32, sub: &Sub) -> Result<(),
     put_ranges(text, b"range", &[index], 0, &sub.ranges)
 }
 
-/// Appends the codes of the channels that have something of their own.
-pub(crate) fn put_channels(text: &mut Vec<u8>, index: u32, sub: &Sub) -> Result<(), NoMemory>
-    ensures { OnOk result (text.new.items ≡ text.old.items ++ spec.channels_facts index sub.now) }
+/// Appends the codes of these channels of a subdevice.
+pub(crate) fn put_channels(
+    text: &mut Vec<u8>,
+    index: u32,
+    sub: &Sub,
+    chans: &[ChanSet],
+) -> Result<(), NoMemory>
+    ensures { OnOk result (text.new.items ≡ text.old.items ++ flat_map (spec.channel_facts index sub.now) chans.now) }
 {
-    for chan in &sub.chans {
+    for chan in chans {
         put_channel(text, index, sub, chan)?;
     }
     Ok(())

@@ -1,5 +1,5 @@
 // What is known of the signals at a board's inputs.
-ghost use Rattle.std.specs.Prelude.{◌≡◌, ◌<◌, ◌++◌, flat_map, OnOk};
+ghost use Rattle.std.specs.Prelude.{◌≡◌, ◌<◌, ◌≤◌, ◌++◌, flat_map, OnOk};
 ghost use Rattle.cm_facts.specs.SignalFacts as spec;
 
 use crate::fact::{FactWord, put_fact};
@@ -14,7 +14,7 @@ pub(crate) fn put_signals(text: &mut Vec<u8>, signals: &Signals) -> Result<(), N
 {
     put_fact(text, b"horizon", &[], &[FactWord::Number(signals.horizon)])?;
     put_waves(text, &signals.waves)?;
-    put_edges(text, signals)
+    put_lines(text, signals, 64)
 }
 
 // Appends the waves of channels.
@@ -34,11 +34,13 @@ fn put_wave(text: &mut Vec<u8>, wave: &WaveAt) -> Result<(), NoMemory>
     put_fact(text, b"wave", &[wave.sub, wave.chan], &[FactWord::Fixed(kind)])
 }
 
-// Appends the edges of the 64 external lines that a text can name.
-fn put_edges(text: &mut Vec<u8>, signals: &Signals) -> Result<(), NoMemory>
-    ensures { OnOk result (text.new.items ≡ text.old.items ++ spec.edge_facts signals.now) }
+// Appends the edges of so many external lines.
+#[tactic(auto, unfolding(crate::specs::SignalFacts::line_facts))]
+fn put_lines(text: &mut Vec<u8>, signals: &Signals, count: u32) -> Result<(), NoMemory>
+    requires { count ≤ 64 }
+    ensures { OnOk result (text.new.items ≡ text.old.items ++ spec.line_facts count signals.now) }
 {
-    for line in 0..64 {
+    for line in 0..count {
         put_line(text, signals, line)?;
     }
     Ok(())

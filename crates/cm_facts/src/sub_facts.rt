@@ -57,7 +57,7 @@ fn put_sub(text: &mut Vec<u8>, index: u32, sub: &Sub) -> Result<(), NoMemory>
     put_head(text, index, sub)?;
     put_codes(text, index, sub)?;
     put_own_commands(text, index, sub)?;
-    put_channels(text, index, sub)
+    put_channels(text, index, sub, &sub.chans)
 }
 
 // Appends its kind, how many channels it has, and whether it takes commands.
