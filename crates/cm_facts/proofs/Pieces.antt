@@ -1,5 +1,5 @@
 -- Texts that are written piece by piece.
-use Rattle.std.proofs.Common.{◌≡◌, ℕ, ◌+◌, List, [], ◌∷◌, ◌++◌, map, sym, ap, ◌∙◌, arith, append_assoc, append-nil}
+use Rattle.std.proofs.Common.{◌≡◌, ℕ, ◌+◌, List, [], ◌∷◌, ◌++◌, map, Result, Ok, Err, OnOk, sym, ap, ◌∙◌, arith, append_assoc, append-nil}
 use Rattle.std.specs.Prelude.{codes, flat_map}
 use Rattle.std.specs.List.{concat, range_with_len}
 use Rattle.std.proofs.lemmas.List.{flat_map_more}
@@ -26,3 +26,14 @@ number_more f old n =
     ∙ flat_map_more (λ (x : List ℕ). x) old (map f (range_with_len 0 n)) (f n)
     ∙ ap (λ (xss : List (List ℕ)). old ++ flat_map (λ (x : List ℕ). x) xss) (sym (map-range_with_len_more f 0 n n (omega arith)))
     ∙ ap (λ (t : List ℕ). old ++ t) (sym (concat_is (map f (range_with_len 0 (n + 1)))))
+
+-- three texts, one after another
+pub three_more : (old one two three a b c : List ℕ) → a ≡ old ++ one → b ≡ a ++ two → c ≡ b ++ three → c ≡ old ++ (one ++ two ++ three)
+three_more old one two three a b c p q r =
+    r ∙ ap (λ (t : List ℕ). t ++ three) (q ∙ ap (λ (t : List ℕ). t ++ two) p ∙ append_assoc old one two)
+    ∙ append_assoc old (one ++ two) three
+
+-- what holds if a call succeeds holds in another form, too
+pub if_ok : {T E P Q : Type 0} (r : Result T E) → OnOk r P → (P → Q) → OnOk r Q
+if_ok (Ok x) p more = more p
+if_ok (Err e) p more = tt

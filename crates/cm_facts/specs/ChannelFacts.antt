@@ -3,6 +3,7 @@ use Rattle.std.specs.Prelude.{ℕ, ◌+◌, List, [], ◌∷◌, ◌++◌, codes
 use Rattle.std.specs.Fmt.{signed_decimal}
 use Rattle.cm_board.specs.Board.{ChanText, SubText, is_unused, maxdata_by, munge_by, ranges_by}
 use Rattle.cm_board.specs.declared.board.Range.{Range}
+use Rattle.cm_board.specs.declared.munge.Munge.{Munge}
 use Rattle.cm_facts.specs.FactLine.{fact_line}
 use Rattle.cm_facts.specs.Names.{munge_words}
 
@@ -18,19 +19,24 @@ range_facts key place number (r ∷ more) =
     fact_line key place (range_words number r) ++ range_facts key place (number + 1) more
 
 -- the codes of a subdevice that isn't unused: its greatest code, its munge, and its ranges
-abbrev pub code_facts : ℕ → SubText → List ℕ
+unfoldable pub code_facts : ℕ → SubText → List ℕ
 code_facts index s =
     if is_unused s.kind then [] else
     (fact_line (codes "maxdata") (index ∷ s.maxdata ∷ []) []
     ++ fact_line (codes "munge") (index ∷ []) (munge_words s.munge)
     ++ range_facts (codes "range") (index ∷ []) 0 s.ranges)
 
+-- the codes of a channel: its greatest code, its munge, and its ranges
+unfoldable pub chan_facts : ℕ → ℕ → ℕ → Munge → List Range → List ℕ
+chan_facts index chan maxdata munge ranges =
+    fact_line (codes "chan_maxdata") (index ∷ chan ∷ maxdata ∷ []) []
+    ++ fact_line (codes "chan_munge") (index ∷ chan ∷ []) (munge_words munge)
+    ++ range_facts (codes "chan_range") (index ∷ chan ∷ []) 0 ranges
+
 -- the codes of a channel that has something of its own. What it doesn't have is that of its subdevice
 abbrev pub channel_facts : ℕ → SubText → ChanText → List ℕ
 channel_facts index s c =
-    fact_line (codes "chan_maxdata") (index ∷ c.chan ∷ maxdata_by (Some c) s.maxdata ∷ []) []
-    ++ fact_line (codes "chan_munge") (index ∷ c.chan ∷ []) (munge_words (munge_by (Some c) s.munge))
-    ++ range_facts (codes "chan_range") (index ∷ c.chan ∷ []) 0 (ranges_by (Some c) s.ranges)
+    chan_facts index c.chan (maxdata_by (Some c) s.maxdata) (munge_by (Some c) s.munge) (ranges_by (Some c) s.ranges)
 
 -- all such channels
 abbrev pub channels_facts : ℕ → SubText → List ℕ

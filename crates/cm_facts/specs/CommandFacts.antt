@@ -6,6 +6,8 @@ use Rattle.cm_board.specs.declared.board.Divisors.{Divisors}
 use Rattle.cm_board.specs.declared.board.Divisors.TheVariants as divisors_of
 use Rattle.cm_board.specs.declared.board.Fifo.{Fifo}
 use Rattle.cm_board.specs.declared.board.Forbid.{Forbid}
+use Rattle.cm_board.specs.declared.board.ListOrder.{ListOrder}
+use Rattle.cm_board.specs.declared.board.ListRules.{ListRules}
 use Rattle.cm_running.specs.Texts.{words_text}
 use Rattle.cm_facts.specs.FactLine.{fact_line}
 use Rattle.cm_facts.specs.Names.{list_order_name, may_repeat, rounding_name, trigger_name, yes_or_no}
@@ -25,7 +27,7 @@ source_words m =
     ∷ source_text m.stop ∷ []
 
 -- the sources, the tick, and the times of scans and of conversions
-abbrev pub time_facts : ℕ → SubText → List ℕ
+unfoldable pub time_facts : ℕ → SubText → List ℕ
 time_facts index s =
     fact_line (codes "sources") (index ∷ []) (source_words s.masks)
     ++ number_fact (codes "tick") (index ∷ s.timers.tick ∷ [])
@@ -33,7 +35,7 @@ time_facts index s =
     ++ number_fact (codes "convert") (index ∷ s.conv_min ∷ s.conv_max ∷ [])
 
 -- the longest list, the greatest stop count, the external lines, and how many samples the buffer holds
-abbrev pub size_facts : ℕ → SubText → List ℕ
+unfoldable pub size_facts : ℕ → SubText → List ℕ
 size_facts index s =
     number_fact (codes "list") (index ∷ s.list_max ∷ [])
     ++ number_fact (codes "scans") (index ∷ s.scans_max ∷ [])
@@ -57,7 +59,7 @@ fifo_fact index None = number_fact (codes "fifo") (index ∷ 0 ∷ 0 ∷ [])
 fifo_fact index (Some f) = number_fact (codes "fifo") (index ∷ f.depth ∷ f.latency ∷ [])
 
 -- what a channel list and an external line keep, the pairs, and the FIFO
-abbrev pub rule_facts : ℕ → SubText → List ℕ
+unfoldable pub rule_facts : ℕ → SubText → List ℕ
 rule_facts index s =
     flag_fact (codes "samerange") index s.lists.same_range
     ++ forbid_facts index 0 s.forbidden
@@ -77,24 +79,34 @@ counter_facts index number [] = []
 counter_facts index number (d ∷ more) = counter_fact index number d ++ counter_facts index (number + 1) more
 
 -- how many counters make the times, each of them, and how times are rounded
-abbrev pub clock_facts : ℕ → SubText → List ℕ
+unfoldable pub clock_facts : ℕ → SubText → List ℕ
 clock_facts index s =
     fact_line (codes "counters") (index ∷ []) (decimal (length s.timers.clock) ∷ [])
     ++ counter_facts index 0 s.timers.clock
     ++ fact_line (codes "rounds") (index ∷ []) (rounding_name s.rounding.own ∷ [])
     ++ flag_fact (codes "halfdown") index s.rounding.half_down
 
--- what a timed scan holds at least, and what the entries of a list keep
-abbrev pub list_facts : ℕ → SubText → List ℕ
-list_facts index s =
+-- what a timed scan holds at least
+unfoldable pub scan_facts : ℕ → SubText → List ℕ
+scan_facts index s =
     number_fact (codes "perchan") (index ∷ s.least_scan.per_entry ∷ [])
     ++ flag_fact (codes "scanfits") index s.least_scan.holds
-    ++ fact_line (codes "order") (index ∷ []) (list_order_name s.lists.order ∷ [])
-    ++ flag_fact (codes "repeat") index (may_repeat s.lists.order)
-    ++ flag_fact (codes "samearef") index s.lists.same_reference
-    ++ flag_fact (codes "samepolarity") index s.lists.same_polarity
+
+-- the order of the channels in a list, and whether entries in this order may be repeated
+unfoldable pub order_facts : ℕ → Option ListOrder → List ℕ
+order_facts index order =
+    fact_line (codes "order") (index ∷ []) (list_order_name order ∷ [])
+    ++ flag_fact (codes "repeat") index (may_repeat order)
+
+-- what the entries of a channel list keep
+unfoldable pub list_facts : ℕ → ListRules → List ℕ
+list_facts index lists =
+    order_facts index lists.order
+    ++ flag_fact (codes "samearef") index lists.same_reference
+    ++ flag_fact (codes "samepolarity") index lists.same_polarity
 
 -- what is known of the commands of a subdevice that takes them
-abbrev pub command_facts : ℕ → SubText → List ℕ
+unfoldable pub command_facts : ℕ → SubText → List ℕ
 command_facts index s =
-    time_facts index s ++ size_facts index s ++ rule_facts index s ++ clock_facts index s ++ list_facts index s
+    time_facts index s ++ size_facts index s ++ rule_facts index s
+    ++ clock_facts index s ++ scan_facts index s ++ list_facts index s.lists

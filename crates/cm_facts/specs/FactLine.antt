@@ -12,7 +12,7 @@ spaced [] = []
 spaced (word ∷ words) = (codes " " ++ word) ++ spaced words
 
 -- a fact: its key, then numbers, and then words, each after a space
-abbrev pub fact_line : List ℕ → List ℕ → List (List ℕ) → List ℕ
+unfoldable pub fact_line : List ℕ → List ℕ → List (List ℕ) → List ℕ
 fact_line key numbers words = key ++ words_text numbers ++ spaced words ++ codes "\n"
 
 -- how a word of a fact is written

@@ -7,18 +7,18 @@ use Rattle.cm_facts.specs.CommandFacts.{command_facts, flag_fact, number_fact}
 use Rattle.cm_facts.specs.FactLine.{fact_line}
 
 -- what a subdevice is: its kind, how many channels it has, and whether it takes commands
-abbrev pub head_facts : ℕ → SubText → List ℕ
+unfoldable pub head_facts : ℕ → SubText → List ℕ
 head_facts index s =
     fact_line (codes "kind") (index ∷ []) (kind_text s.kind ∷ [])
     ++ number_fact (codes "channels") (index ∷ s.channels ∷ [])
     ++ flag_fact (codes "commands") index (takes_commands s)
 
 -- the commands of a subdevice, if it takes any
-abbrev pub own_command_facts : ℕ → SubText → List ℕ
+unfoldable pub own_command_facts : ℕ → SubText → List ℕ
 own_command_facts index s = if takes_commands s then command_facts index s else []
 
 -- a subdevice: what it is, its codes, its commands, and its channels that have something of their own
-abbrev pub sub_facts : ℕ → SubText → List ℕ
+unfoldable pub sub_facts : ℕ → SubText → List ℕ
 sub_facts index s =
     head_facts index s ++ code_facts index s ++ own_command_facts index s ++ channels_facts index s
 

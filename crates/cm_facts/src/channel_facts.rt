@@ -1,6 +1,6 @@
 // What is known of the codes of a subdevice and of its channels.
 ghost use Rattle.std.specs.Prelude.{◌≡◌, ◌+◌, ◌<◌, ◌^◌, ◌++◌, Some, flat_map, length, OnOk};
-ghost use Rattle.cm_board.specs.Board.{munge_by, ranges_by};
+ghost use Rattle.cm_board.specs.Board.{maxdata_by, munge_by, ranges_by};
 ghost use Rattle.cm_facts.specs.ChannelFacts as spec;
 ghost use Rattle.cm_facts.specs.FactLine.{fact_line};
 ghost use Rattle.cm_facts.specs.Names.{munge_words};
@@ -10,6 +10,7 @@ use cm_base::transfer::NoMemory;
 use cm_board::board::{ChanSet, Munge, Range, Sub};
 
 /// Appends the codes of a subdevice that isn't unused: its greatest code, its munge, and its ranges.
+#[tactic(auto, unfolding(crate::specs::ChannelFacts::code_facts))]
 pub(crate) fn put_codes(text: &mut Vec<u8>, index: u32, sub: &Sub) -> Result<(), NoMemory>
     ensures { OnOk result (text.new.items ≡ text.old.items ++ spec.code_facts index sub.now) }
 {
@@ -37,18 +38,35 @@ pub(crate) fn put_channels(
 }
 
 // Appends the codes of a channel. What it doesn't have is that of its subdevice.
-fn put_channel(
-    text: &mut Vec<u8>,
-    index: u32,
-    sub: &Sub,
-    chan: &ChanSet,
-) -> Result<(), NoMemory>
+fn put_channel(text: &mut Vec<u8>, index: u32, sub: &Sub, chan: &ChanSet) -> Result<(), NoMemory>
     ensures { OnOk result (text.new.items ≡ text.old.items ++ spec.channel_facts index sub.now chan.now) }
 {
-    let maxdata = chan.maxdata.unwrap_or(sub.maxdata);
-    put_fact(text, b"chan_maxdata", &[index, chan.chan, maxdata], &[])?;
-    put_munge(text, b"chan_munge", &[index, chan.chan], munge_of(sub, chan))?;
-    put_ranges(text, b"chan_range", &[index, chan.chan], 0, ranges_of(sub, chan))
+    let maxdata = maxdata_of(sub, chan);
+    let munge = munge_of(sub, chan);
+    put_chan(text, index, chan.chan, maxdata, munge, ranges_of(sub, chan))
+}
+
+// Appends the codes of a channel: its greatest code, its munge, and its ranges.
+fn put_chan(
+    text: &mut Vec<u8>,
+    index: u32,
+    chan: u32,
+    maxdata: u32,
+    munge: Munge,
+    ranges: &[Range],
+) -> Result<(), NoMemory>
+    ensures { OnOk result (text.new.items ≡ text.old.items ++ spec.chan_facts index chan maxdata munge ranges.now) }
+{
+    put_fact(text, b"chan_maxdata", &[index, chan, maxdata], &[])?;
+    put_munge(text, b"chan_munge", &[index, chan], munge)?;
+    put_ranges(text, b"chan_range", &[index, chan], 0, ranges)
+}
+
+// Returns the greatest code of a channel.
+fn maxdata_of(sub: &Sub, chan: &ChanSet) -> u32
+    ensures { result ≡ maxdata_by (Some chan.now) sub.now.maxdata }
+{
+    chan.maxdata.unwrap_or(sub.maxdata)
 }
 
 // Returns how the words of a channel are munged.
@@ -69,12 +87,7 @@ fn ranges_of<'a>(sub: &'a Sub, chan: &'a ChanSet) -> &'a [Range]
 }
 
 // Appends how words are munged.
-fn put_munge(
-    text: &mut Vec<u8>,
-    key: &[u8],
-    place: &[u32],
-    munge: Munge,
-) -> Result<(), NoMemory>
+fn put_munge(text: &mut Vec<u8>, key: &[u8], place: &[u32], munge: Munge) -> Result<(), NoMemory>
     ensures { OnOk result (text.new.items ≡ text.old.items ++ fact_line key.now place.now (munge_words munge)) }
 {
     match munge {

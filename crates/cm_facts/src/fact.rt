@@ -1,5 +1,5 @@
 // A fact as a line of text.
-ghost use Rattle.std.specs.Prelude.{◌≡◌, ◌++◌, codes, map, OnOk};
+ghost use Rattle.std.specs.Prelude.{◌≡◌, ◌++◌, ◌∷◌, [], codes, decimal, map, OnOk};
 ghost use Rattle.cm_facts.specs.FactLine.{fact_line, spaced, word_text};
 
 use cm_base::numbers::{put_i64, put_u64};
@@ -19,6 +19,7 @@ pub enum FactWord<'a> {
 }
 
 /// Appends a fact: its key, then numbers, and then words, each after a space.
+#[tactic(auto, unfolding(crate::specs::FactLine::fact_line))]
 pub(crate) fn put_fact(
     text: &mut Vec<u8>,
     key: &[u8],
@@ -32,6 +33,18 @@ pub(crate) fn put_fact(
     put_words(text, words)?;
     text.extend_from_slice(b"\n")?;
     Ok(())
+}
+
+/// Appends a fact with numbers of 32 bits and then a count.
+pub(crate) fn put_count(
+    text: &mut Vec<u8>,
+    key: &[u8],
+    numbers: &[u32],
+    count: usize,
+) -> Result<(), NoMemory>
+    ensures { OnOk result (text.new.items ≡ text.old.items ++ fact_line key.now numbers.now (decimal count ∷ [])) }
+{
+    put_fact(text, key, numbers, &[FactWord::Number(count as u64)])
 }
 
 // Appends words, each after a space.
@@ -50,14 +63,14 @@ fn put_words(text: &mut Vec<u8>, words: &[FactWord<'_>]) -> Result<(), NoMemory>
 
 // Appends a word after a space.
 fn put_after_space(text: &mut Vec<u8>, word: FactWord<'_>) -> Result<(), NoMemory>
-    ensures { OnOk result (text.new.items ≡ text.old.items ++ (codes " " ++ word_text word)) }
+    ensures { OnOk result (text.new.items ≡ text.old.items ++ (codes " " ++ word_text word.entry)) }
 {
     text.extend_from_slice(b" ")?;
     put_word(text, word)
 }
 
 fn put_word(text: &mut Vec<u8>, word: FactWord<'_>) -> Result<(), NoMemory>
-    ensures { OnOk result (text.new.items ≡ text.old.items ++ word_text word) }
+    ensures { OnOk result (text.new.items ≡ text.old.items ++ word_text word.entry) }
 {
     match word {
         FactWord::Fixed(word) => Ok(text.extend_from_slice(word)?),

@@ -31,7 +31,12 @@ fn put_wave(text: &mut Vec<u8>, wave: &WaveAt) -> Result<(), NoMemory>
     ensures { OnOk result (text.new.items ≡ text.old.items ++ spec.wave_fact wave.now) }
 {
     let kind = wave_name(&wave.wave);
-    put_fact(text, b"wave", &[wave.sub, wave.chan], &[FactWord::Fixed(kind)])
+    put_fact(
+        text,
+        b"wave",
+        &[wave.sub, wave.chan],
+        &[FactWord::Fixed(kind)],
+    )
 }
 
 // Appends the edges of so many external lines.
@@ -56,5 +61,10 @@ fn put_line(text: &mut Vec<u8>, signals: &Signals, line: u32) -> Result<(), NoMe
     if rises + falls == 0 {
         return Ok(());
     }
-    put_fact(text, b"edges", &[line], &[FactWord::Number(rises), FactWord::Number(falls)])
+    put_fact(
+        text,
+        b"edges",
+        &[line],
+        &[FactWord::Number(rises), FactWord::Number(falls)],
+    )
 }

@@ -6,7 +6,7 @@ ghost use Rattle.cm_facts.specs.SubFacts as spec;
 
 use crate::channel_facts::{put_channels, put_codes};
 use crate::command_facts::{put_commands, put_flag, put_number};
-use crate::fact::{FactWord, put_fact};
+use crate::fact::{FactWord, put_count, put_fact};
 use crate::names::kind_name;
 use cm_base::transfer::NoMemory;
 use cm_board::board::{BoardDesc, Sub};
@@ -18,7 +18,7 @@ pub(crate) fn put_board(text: &mut Vec<u8>, board: &BoardDesc) -> Result<(), NoM
 {
     put_version(text, board.version)?;
     put_fact(text, b"name", &[], &[FactWord::Fixed(&board.name)])?;
-    put_fact(text, b"subdevices", &[], &[FactWord::Number(board.subs.len() as u64)])?;
+    put_count(text, b"subdevices", &[], board.subs.len())?;
     put_subs(text, 0, &board.subs)
 }
 
@@ -30,7 +30,10 @@ fn put_version(text: &mut Vec<u8>, version: u32) -> Result<(), NoMemory>
         let words = [FactWord::Fixed(b"zendrouz"), FactWord::Fixed(b"1")];
         put_fact(text, b"version", &[], &words)
     } else {
-        let words = [FactWord::Fixed(b"comedi"), FactWord::Number(u64::from(version))];
+        let words = [
+            FactWord::Fixed(b"comedi"),
+            FactWord::Number(u64::from(version)),
+        ];
         put_fact(text, b"version", &[], &words)
     }
 }
@@ -51,6 +54,7 @@ fn put_subs(text: &mut Vec<u8>, index: u32, subs: &[Sub]) -> Result<(), NoMemory
 }
 
 // Appends a subdevice: what it is, its codes, its commands, and its channels that have something of their own.
+#[tactic(auto, unfolding(crate::specs::SubFacts::sub_facts))]
 fn put_sub(text: &mut Vec<u8>, index: u32, sub: &Sub) -> Result<(), NoMemory>
     ensures { OnOk result (text.new.items ≡ text.old.items ++ spec.sub_facts index sub.now) }
 {
@@ -61,15 +65,22 @@ fn put_sub(text: &mut Vec<u8>, index: u32, sub: &Sub) -> Result<(), NoMemory>
 }
 
 // Appends its kind, how many channels it has, and whether it takes commands.
+#[tactic(auto, unfolding(crate::specs::SubFacts::head_facts))]
 fn put_head(text: &mut Vec<u8>, index: u32, sub: &Sub) -> Result<(), NoMemory>
     ensures { OnOk result (text.new.items ≡ text.old.items ++ spec.head_facts index sub.now) }
 {
-    put_fact(text, b"kind", &[index], &[FactWord::Fixed(kind_name(sub.kind))])?;
+    put_fact(
+        text,
+        b"kind",
+        &[index],
+        &[FactWord::Fixed(kind_name(sub.kind))],
+    )?;
     put_number(text, b"channels", &[index, sub.channels])?;
     put_flag(text, b"commands", index, sub.takes_commands())
 }
 
 // Appends what is known of its commands, if it takes any.
+#[tactic(auto, unfolding(crate::specs::SubFacts::own_command_facts))]
 fn put_own_commands(text: &mut Vec<u8>, index: u32, sub: &Sub) -> Result<(), NoMemory>
     ensures { OnOk result (text.new.items ≡ text.old.items ++ spec.own_command_facts index sub.now) }
 {
