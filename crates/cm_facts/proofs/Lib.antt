@@ -1,0 +1,4 @@
+pub mod Computes
+pub mod Ends
+pub mod ExamplesHold
+pub mod Pieces

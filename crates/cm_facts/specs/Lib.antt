@@ -1,0 +1,12 @@
+pub mod Answers
+pub mod Asked
+pub mod ChannelFacts
+pub mod CommandFacts
+pub mod Described
+pub mod Examples
+pub mod FactLine
+pub mod Inquiries
+pub mod Names
+pub mod SignalFacts
+pub mod SubFacts
+pub mod Whole

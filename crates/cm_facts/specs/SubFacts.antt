@@ -1,0 +1,36 @@
+-- What is known of a board.
+use Rattle.std.specs.Prelude.{ℕ, ◌+◌, List, [], ◌∷◌, ◌++◌, length, codes, decimal, if◌then◌else◌}
+use Rattle.cm_board.specs.Board.{BoardText, SubText, takes_commands}
+use Rattle.cm_board_text.specs.Printed.{kind_text, version_line}
+use Rattle.cm_facts.specs.ChannelFacts.{channels_facts, code_facts}
+use Rattle.cm_facts.specs.CommandFacts.{command_facts, flag_fact, number_fact}
+use Rattle.cm_facts.specs.FactLine.{fact_line}
+
+-- what a subdevice is: its kind, how many channels it has, and whether it takes commands
+unfoldable pub head_facts : ℕ → SubText → List ℕ
+head_facts index s =
+    fact_line (codes "kind") (index ∷ []) (kind_text s.kind ∷ [])
+    ++ number_fact (codes "channels") (index ∷ s.channels ∷ [])
+    ++ flag_fact (codes "commands") index (takes_commands s)
+
+-- the commands of a subdevice, if it takes any
+unfoldable pub own_command_facts : ℕ → SubText → List ℕ
+own_command_facts index s = if takes_commands s then command_facts index s else []
+
+-- a subdevice: what it is, its codes, its commands, and its channels that have something of their own
+unfoldable pub sub_facts : ℕ → SubText → List ℕ
+sub_facts index s =
+    head_facts index s ++ code_facts index s ++ own_command_facts index s ++ channels_facts index s
+
+-- subdevices, numbered from a number on
+abbrev pub subs_facts : ℕ → List SubText → List ℕ
+subs_facts index [] = []
+subs_facts index (s ∷ more) = sub_facts index s ++ subs_facts (index + 1) more
+
+-- a board: the words of its version, its name, how many subdevices it has, and each of them
+abbrev pub board_facts : BoardText → List ℕ
+board_facts b =
+    fact_line (codes "version") [] (version_line b.version)
+    ++ fact_line (codes "name") [] (b.name ∷ [])
+    ++ fact_line (codes "subdevices") [] (decimal (length b.subs) ∷ [])
+    ++ subs_facts 0 b.subs

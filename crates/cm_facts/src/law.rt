@@ -1,0 +1,7 @@
+// What holds of the definitions alone.
+ghost use Rattle.cm_facts.specs.Examples.{AreExamples};
+
+/// The worked examples have the facts that stand beside them.
+pub fn the_examples_are_described()
+    ensures { AreExamples }
+{}
