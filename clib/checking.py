@@ -141,13 +141,17 @@ class Check:
     def say(self, text):
         self.said.append(text)
 
+    def leave_out(self, name, why, count=1):
+        """Counts a check that isn't made, or so many of them. Too many fail the whole run."""
+        self.left_out += count
+        self.say("LEFT OUT: %s: %s" % (name, why))
+
     def expect(self, name, right, *shown):
         if right:
             self.passed += 1
             return
         if self.is_cut:
-            self.left_out += 1
-            self.say("LEFT OUT: " + name)
+            self.leave_out(name, "the time was over")
             return
         self.failed += 1
         self.say("FAILED: " + name)

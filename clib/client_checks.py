@@ -102,7 +102,7 @@ def times(check):
 def times_of_python(check):
     python = python_with_comedi()
     if not python:
-        check.say("no Python module of comedilib: its waits aren't tried")
+        check.leave_out("waits in Python", "there is no Python module of comedilib")
         return
     for clock in ("", "board") if check.quick else ("", "board", "", "", ""):
         run = check.run("saw", [python, os.path.join(TESTS, "python_waits.py")], ZENDROUZ_CLOCK=clock)

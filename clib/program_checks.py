@@ -132,9 +132,9 @@ def bindings(check):
         check.expect("a client in Python", run.out == "command: 0\nread: 0\nread: 1 2\nread: 3 4\nread:\nvalue: 1 7\n", run.out, run.err)
         check.compare_record("a client in Python", "wide", run, run.codes())
     else:
-        check.say("no Python module of comedilib: its client isn't run")
+        check.leave_out("a client in Python", "there is no Python module of comedilib")
     if not shutil.which("c++"):
-        check.say("no compiler of C++: the client of comedilib's binding isn't run")
+        check.leave_out("a client in C++", "there is no compiler of C++")
         return
     program = check.path("bindings")
     # boost's pointers, or where Debian's package isn't there what stands for them
