@@ -29,7 +29,7 @@ static void start_subdevice(const long *numbers)
 	s->list_length = numbers[3];
 	s->buffer = numbers[4];
 	s->sample_bytes = s->flags & SDF_LSAMPL ? sizeof(lsampl_t) : sizeof(sampl_t);
-	scans_begin(s, 1, 0);
+	scans_begin(s, 1, 0, 0);
 }
 
 /* One of its channels: its greatest code, and three numbers for each range. */

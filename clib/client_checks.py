@@ -51,6 +51,7 @@ def files(check):
     check.client("closed", "wide")
     check.client("stack", "wide", LD_BIND_NOW="1")
     check.client("answers", "wide")
+    check.client("nothing", "wide")
     for more in ("", ":" + check.path("old_library.so")):
         check.client("condition", "wide", LD_PRELOAD=check.path(LIBRARY) + more)
     run = check.client("bytes", "wide")

@@ -46,6 +46,8 @@ struct subdevice {
 	/* what is handed over at once, in entries of the list and in the client's samples: a scan of a digital subdevice, and
 	 * else one entry, which is one sample; and how many samples a scan has where the end of each wakes a read, or 0 */
 	unsigned unit_entries, unit_samples, waking_samples;
+	/* how many samples its command has at its end; NEVER if it has no end, and 0 if that isn't known */
+	uint64_t total;
 	/* samples on their way: an input's that the session has given and the client not taken, or an output's that the client
 	 * has given and the session not taken. They are a part of such a piece, or what the client couldn't take */
 	unsigned rests;
@@ -160,7 +162,7 @@ int stream_next_samples(int file, uint64_t *time);
 struct counts {
 	uint64_t read, written, room;
 };
-void scans_begin(struct subdevice *s, unsigned entries, int each_wakes);
+void scans_begin(struct subdevice *s, unsigned entries, int each_wakes, uint64_t stops_after);
 unsigned scans_capacity(const struct subdevice *s);
 unsigned scans_of_line(const struct subdevice *s, unsigned values);
 int scans_count(int file, int number, struct counts *counts);
@@ -171,6 +173,7 @@ int scans_fetch(int file, int number, uint32_t *sample);
 void scans_give_back(struct subdevice *s, unsigned count, const uint32_t *samples);
 int scans_put(int file, int number, unsigned count, const uint32_t *samples);
 int scans_end(int file, int number);
+int scans_have_failed(int file, int number, const struct counts *counts);
 int scans_map(int file, int number, uint64_t count);
 int scans_peek(int file, int number, uint64_t from, uint32_t *samples);
 int scans_release(int file, int number, unsigned count);

@@ -157,7 +157,8 @@ static ssize_t read_next(int file, int number, char *to)
 	return count < 0 ? count : hand_over(s, to, &sample, 1, s->sample_bytes);
 }
 
-/* A read or a write of no bytes reports an error, which ends the command, and nothing else. */
+/* A read or a write of no bytes reports an error, and nothing else. That ends the command, unless samples are left: they can
+ * still be read, as the kernel has it. */
 static int move_nothing(int file, int number)
 {
 	struct counts counts;
@@ -168,7 +169,7 @@ static int move_nothing(int file, int number)
 	if (answer_says(" idle"))
 		return -EINVAL;
 	if (!answer_says("overrun") && !answer_says("fifo") && !answer_says("underrun"))
-		return 0;
+		return scans_have_failed(file, number, &counts) ? -EPIPE : 0;
 	return board_is_input(&device->subdevice[number]) ? take_samples(file, number, 0, &none) : scans_end(file, number);
 }
 
