@@ -29,6 +29,7 @@ def clients(check):
         check.compare_record(name, "wide", run, [])
     run = check.client("forks", "wide")
     check.compare_record("forks", "wide", run, run.codes())
+    check.client("owners", "wide")
     for name in ("signals", "waiting"):
         run = check.client(name, "wide")
         check.compare_record(name, "wide", run, run.codes())

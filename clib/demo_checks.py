@@ -84,7 +84,7 @@ class Demos:
     def run(self, words, **environment):
         demo = self.check.path("programs/" + words[0])
         program = demo if os.path.exists(demo) else words[0]
-        return self.check.run("", [program] + words[1:], ZENDROUZ_BOARD=self.path, ZENDROUZ_LOG="", **environment)
+        return self.check.run("", [program] + words[1:], **dict({"ZENDROUZ_BOARD": self.path, "ZENDROUZ_LOG": ""}, **environment))
 
     def expect(self, words, right, status=0):
         """What a program prints, by a text or by what a function says; a text of its errors where it fails."""
@@ -126,18 +126,27 @@ class Demos:
         self.wait()
 
     def wait(self):
-        """Commands with two timers, whose samples are waited for. Where a board has no two, the kernel's core says EAGAIN."""
+        """Commands with two timers, whose samples are waited for. Where a board has no two, the kernel's core says EAGAIN.
+        The signal that comes with a sample ends the second read of sigio, as the kernel's does."""
         samples = 10 if self.first.has_two_timers() else 0
         said = "" if samples else "errno=11\n"
         for name in ("poll", "select"):
             self.expect([name], lambda out: values_of(out) == [self.value] * samples and said in out)
-        self.expect(["sigio"], lambda out: said in out)
+        run = self.run(["sigio"])
+        signals = re.findall(r"^\d+\.\d{6} \+\d+\.\d{6}$", run.out, re.M)
+        right = len(signals) == (1 if samples else 0) and ("read: Interrupted system call\n" in run.err if samples else said in run.out)
+        self.check.expect("sigio on " + self.name, right and run.status == 0, "status %s" % run.status, run.out, run.err)
 
     def stream(self):
-        """Outputs that are written until the signals end; without commands they are refused."""
-        outputs = [s for s in self.subdevices if s.kind == "ao" and s.sources]
-        self.expect(["ao_waveform", "-F", "100"], (lambda out: True) if outputs else "comedi_command_test: ", 0 if outputs else 1)
-        self.expect(["ao_mmap", "-F", "100"], "" if outputs else "comedi_command_test: ", 1)
+        """Outputs that are written until the signals end, a word every 10 ms; without commands they are refused."""
+        has_output = any(s.kind == "ao" and s.sources for s in self.subdevices)
+        for name, status, said in (("ao_waveform", 0, "write: Invalid argument\n"), ("ao_mmap", 1, ": Invalid argument\n")):
+            if not has_output:
+                self.expect([name, "-F", "100"], "comedi_command_test: ", 1)
+                continue
+            run = self.run([name, "-F", "100"], ZENDROUZ_LOG=self.check.path("record"))
+            right = run.status == status and run.err.endswith(said) and len(run.outs()) == HORIZON // 10000000
+            self.check.expect("%s on %s" % (name, self.name), right, "status %s, %d words" % (run.status, len(run.outs())), run.out[-1000:], run.err)
         self.expect(["do_waveform", "0"], "comedi_command_test: ", 1)
 
     def test(self):

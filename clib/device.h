@@ -101,6 +101,8 @@ struct device {
 	double pace;
 	/* how often a call changed what others wait for: a command, a trigger, a cancel, a close, and that nothing is answered */
 	uint64_t changes;
+	/* when signals were sent last since something had come (signals.c), or 0 */
+	uint64_t signalled;
 	uint64_t wall_start;
 	/* whether the client's clocks show its time, what each showed at 0, and the date at 0 if it's set, in seconds */
 	int shows_time;
@@ -156,7 +158,7 @@ ssize_t stream_take(int file, int number, char *to, size_t bytes);
 int stream_ready_to_read(int file);
 int stream_ready_to_write(int file);
 int stream_next_time(int file, int reads, int writes, uint64_t *time);
-int stream_next_samples(int file, uint64_t *time);
+int stream_next_event(int file, int number, uint64_t *time);
 
 /* scans.c: the client's samples. How many were read and written, and for an output how many more have room. */
 struct counts {
@@ -188,6 +190,7 @@ int buffer_memory(void);
 /* board.c */
 int board_ask(void);
 int board_runner(unsigned number);
+void board_runners(int *runners);
 int board_is_input(const struct subdevice *s);
 int board_is_digital(const struct subdevice *s);
 int board_subdevices(int file, comedi_subdinfo *to);
@@ -229,6 +232,7 @@ uint64_t time_of_wall(void);
  * result. `due`, if any, has the time at which something comes by itself, which other threads may change. `seen`, if any, is
  * the count of changes of the board (device_changes) that the thread has seen: one more ends the wait with BOARD_CHANGED.
  * `signals`, if any, is the mask with which the client waits, in place of its own: then all signals are blocked already.
+ * `goes_on` is set of a wait that goes on after the handler of a signal has run.
  */
 struct wait {
 	int (*pause)(void *what, uint64_t nanoseconds, const sigset_t *signals);
@@ -236,11 +240,16 @@ struct wait {
 	void *what;
 	const uint64_t *seen;
 	const sigset_t *signals;
+	int goes_on;
 };
 #define BOARD_CHANGED INT_MAX
 int turns_wait(uint64_t end, const struct wait *wait);
 int turns_is_alone(void);
+int turns_is_only_thread(void);
 uint64_t turns_number(pid_t thread);
+uint64_t turns_number_of(pthread_t thread);
+void turns_note_signal(pthread_t thread, uint64_t turn, int number);
+int turns_let_in(pid_t thread, int number);
 void turns_hold(void);
 void turns_let_go(void);
 void turns_begin_child(void);

@@ -67,12 +67,8 @@ PUBLIC ssize_t read(int descriptor, void *to, size_t bytes)
 		return names_answer((ssize_t)bytes < 0 ? -EFAULT : -EBADF);
 	device_enter();
 	time_call();
-	uint64_t start = device->now;
 	ssize_t result = device_read(file, to, bytes, !device->file[file].never_waits);
-	int waited = device->now > start;
 	device_leave();
-	if (waited && result > 0)
-		signals_send();
 	return names_answer(result);
 }
 
@@ -91,12 +87,8 @@ PUBLIC ssize_t write(int descriptor, const void *from, size_t bytes)
 		return names_answer((ssize_t)bytes < 0 ? -EFAULT : -EBADF);
 	device_enter();
 	time_call();
-	uint64_t start = device->now;
 	ssize_t result = device_write(file, from, bytes, !device->file[file].never_waits);
-	int waited = device->now > start;
 	device_leave();
-	if (waited && result > 0)
-		signals_send();
 	return names_answer(result);
 }
 

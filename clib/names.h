@@ -38,15 +38,18 @@ int openings_fresh(int descriptor);
 int polls_wait(struct pollfd *asked, nfds_t count, int64_t nanoseconds, const sigset_t *signals);
 void polls_restore_signals(void *signals);
 
+/* events.c */
+uint64_t events_next(void);
+void events_tell(void);
+
 /* signals.c */
-int signals_wait(uint64_t end, const struct wait *wait);
+int signals_are_handled(uint64_t numbers);
 int64_t signals_sleep_until(uint64_t end);
 int64_t signals_sleep(uint64_t nanoseconds);
 int signals_exchange(const sigset_t *mask, sigset_t *old);
 int signals_restart(void);
 int signals_let_in(const sigset_t *mask);
 void signals_keep_out(const sigset_t *mask);
-void signals_send(void);
 
 /* timers.c */
 int timers_are_in(int descriptor);

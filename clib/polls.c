@@ -183,12 +183,11 @@ static uint64_t next_timer(void *what)
 	return first;
 }
 
-/* Waits for the other files, the timers, and a change of the board. A poll of files that aren't the device's is ended by the
- * signal of one that is, too. */
+/* Waits for the other files, the timers, and a change of the board. */
 static int wait_until(struct ask *a, uint64_t time)
 {
-	const struct wait wait = { pause_poll, a->has_timer ? next_timer : NULL, a, a->has_file ? &a->seen : NULL, a->signals };
-	return a->has_file ? turns_wait(time, &wait) : signals_wait(time, &wait);
+	return turns_wait(time, &(struct wait){ .pause = pause_poll, .due = a->has_timer ? next_timer : NULL, .what = a,
+		.seen = a->has_file ? &a->seen : NULL, .signals = a->signals });
 }
 
 /* Time goes on to the next sample, the next timer, or the end of the wait. */
@@ -200,8 +199,10 @@ static int poll_any(struct ask *a, uint64_t end)
 		if (ready || device->client_now >= end || (next == NEVER && end == NEVER && !a->has_timer))
 			return ready;
 		int result = wait_until(a, next < end ? next : end);
+		/* as in the kernel what is ready comes before a signal, which may have come with it */
+		ready = result < 0 ? look(a, &next) : 0;
 		if (result < 0)
-			return result;
+			return ready ? ready : result;
 	}
 }
 
@@ -216,11 +217,7 @@ static int poll_ours(struct ask *a, int64_t nanoseconds)
 	device_enter();
 	time_call();
 	device_leave();
-	uint64_t start = device->now;
-	int result = poll_any(a, time_after(nanoseconds));
-	if (device->now > start && result > 0)
-		signals_send();
-	return names_answer(result);
+	return names_answer(poll_any(a, time_after(nanoseconds)));
 }
 
 /* A poll of some files for another name, for so long or for ever, with a mask of signals if there is one: then all signals

@@ -330,12 +330,13 @@ int stream_next_time(int file, int reads, int writes, uint64_t *time)
 	return first != UINT64_MAX;
 }
 
-/* When more samples than now are there, or the command has ended. Answers 0 where that is now, or never. */
-int stream_next_samples(int file, uint64_t *time)
+/* When more samples than now have come to an input, or there is room for more words of an output, or the command has ended.
+ * Returns 0 if that is now or never. */
+int stream_next_event(int file, int number, uint64_t *time)
 {
-	int number = device->file[file].read_subdevice;
 	struct counts counts;
-	if (number == NO_SUBDEVICE || !running_counts(file, number, &counts))
+	if (!running_counts(file, number, &counts))
 		return 0;
-	return !scans_await(file, number, counts.written - counts.read + 1, time) && *time > device->now;
+	uint64_t there = board_is_input(&device->subdevice[number]) ? counts.written - counts.read : counts.room;
+	return !scans_await(file, number, there + 1, time) && *time > device->now;
 }
