@@ -39,5 +39,6 @@ void timers_forget(int index);
 void timers_forget_set(int set);
 void sets_forget(int set);
 void sets_forget_member(int descriptor);
+void sets_begin_child(void);
 
 #endif

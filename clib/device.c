@@ -21,6 +21,8 @@ static __thread struct quiet outside;
 static __thread int outside_errno;
 /* how many threads of this process are in the device, or on their way in */
 static int callers;
+/* how many threads of this process are in a call of each file, and whether its last descriptor was closed meanwhile */
+static int calls[MOST_FILES], is_left[MOST_FILES];
 /* one thread of this process opens a board at a time */
 static pthread_mutex_t opening = PTHREAD_MUTEX_INITIALIZER;
 
@@ -53,10 +55,17 @@ uint64_t device_changes(void)
 	return __atomic_load_n(&device->changes, __ATOMIC_SEQ_CST);
 }
 
-/* Notes that a call has changed what others wait for. They look again. */
-void device_changed(void)
+/* Ends the waits of others for the board. They look again. */
+void device_wake(void)
 {
 	__atomic_add_fetch(&device->changes, 1, __ATOMIC_SEQ_CST);
+}
+
+/* Notes that a call has changed what others wait for. */
+void device_changed(void)
+{
+	__atomic_add_fetch(&device->commands, 1, __ATOMIC_SEQ_CST);
+	device_wake();
 }
 
 int device_callers(void)
@@ -87,6 +96,7 @@ void device_share(void)
 void device_begin_child(void)
 {
 	callers = 0;
+	memset(calls, 0, sizeof calls);
 }
 
 static int ends_with(const char *text, const char *end)
@@ -233,15 +243,16 @@ static int has_ended(pid_t process)
 	return !waitid(P_PID, process, &information, WEXITED | WNOHANG | WNOWAIT) && information.si_pid == process;
 }
 
-/* Returns whether a process has a descriptor of a file. If a child of its opener may have one, the kernel is asked. Called
- * within the device. */
+/* Returns whether a process has a descriptor of a file, or a thread of this one is in a call of it. If a child of its opener may
+ * have one, the kernel is asked. Called within the device. */
 static int is_held(int file)
 {
 	const struct file *f = &device->file[file];
 	descriptors_hold();
 	int is_here = descriptors_have(file);
 	descriptors_let_go();
-	if (is_here)
+	is_left[file] = calls[file] && !is_here;
+	if (is_here || is_left[file])
 		return 1;
 	if (f->is_new)
 		return !has_ended(f->opener);
@@ -267,4 +278,47 @@ void device_close_left(void)
 	for (int i = 0; i < MOST_FILES; i++)
 		if (device->file[i].is_open && !is_held(i))
 			close_file(i);
+}
+
+/* Enters for a call of a file. As in the kernel the file stays open up to the end of the call, though another thread may close
+ * its last descriptor meanwhile. Returns 0 if it isn't open any more. */
+int device_begin_call(int file)
+{
+	device_enter();
+	if (!device->file[file].is_open) {
+		device_leave();
+		return 0;
+	}
+	calls[file]++;
+	return 1;
+}
+
+static void end_call(int file)
+{
+	if (!--calls[file] && is_left[file] && device->file[file].is_open && !is_held(file))
+		close_file(file);
+}
+
+void device_end_call(int file)
+{
+	end_call(file);
+	device_leave();
+}
+
+/* Enters for a call of some files, a bit for each. */
+void device_begin_calls(unsigned files)
+{
+	device_enter();
+	for (int i = 0; i < MOST_FILES; i++)
+		calls[i] += files >> i & 1;
+}
+
+/* Ends a call from outside of the device, also if its thread is cancelled in a wait. */
+void device_end_calls(void *files)
+{
+	device_enter();
+	for (int i = 0; i < MOST_FILES; i++)
+		if (*(const unsigned *)files >> i & 1)
+			end_call(i);
+	device_leave();
 }

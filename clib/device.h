@@ -99,8 +99,9 @@ struct device {
 	/* board time, in nanoseconds, which ends at the horizon; and the client's, which is the same and has no end */
 	uint64_t now, horizon, client_now, call_time;
 	double pace;
-	/* how often a call changed what others wait for: a command, a trigger, a cancel, a close, and that nothing is answered */
-	uint64_t changes;
+	/* how often a call changed what others wait for: a command, a trigger, a cancel, a close, and that nothing is answered; and
+	 * how often waits for the board were ended, by these and by changes of sets */
+	uint64_t commands, changes;
 	/* when signals were sent last since something had come (signals.c), or 0 */
 	uint64_t signalled;
 	uint64_t wall_start;
@@ -135,8 +136,13 @@ void device_close_left(void);
 int device_serves(const char *path);
 void device_enter(void);
 void device_leave(void);
+int device_begin_call(int file);
+void device_end_call(int file);
+void device_begin_calls(unsigned files);
+void device_end_calls(void *files);
 int device_callers(void);
 uint64_t device_changes(void);
+void device_wake(void);
 void device_changed(void);
 void device_hold(void);
 void device_let_go(void);
@@ -159,6 +165,14 @@ int stream_ready_to_read(int file);
 int stream_ready_to_write(int file);
 int stream_next_time(int file, int reads, int writes, uint64_t *time);
 int stream_next_event(int file, int number, uint64_t *time);
+int stream_next_change(int file, int reads, int writes, uint64_t *time);
+
+/* How much has happened to a file: how often commands of the board were changed, and what those of the file have read and put
+ * out. */
+struct happened {
+	uint64_t commands, read, written;
+};
+void stream_happened(int file, struct happened *happened);
 
 /* scans.c: the client's samples. How many were read and written, and for an output how many more have room. */
 struct counts {

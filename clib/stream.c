@@ -340,3 +340,33 @@ int stream_next_event(int file, int number, uint64_t *time)
 	uint64_t there = board_is_input(&device->subdevice[number]) ? counts.written - counts.read : counts.room;
 	return !scans_await(file, number, there + 1, time) && *time > device->now;
 }
+
+/* The next time at which something happens to a file, whether it is ready before or not. */
+int stream_next_change(int file, int reads, int writes, uint64_t *time)
+{
+	const struct file *f = &device->file[file];
+	uint64_t found;
+	*time = NEVER;
+	if (reads && f->read_subdevice != NO_SUBDEVICE && stream_next_event(file, f->read_subdevice, &found))
+		*time = found;
+	if (writes && f->write_subdevice != NO_SUBDEVICE && stream_next_event(file, f->write_subdevice, &found) && found < *time)
+		*time = found;
+	return *time != NEVER;
+}
+
+/* How much has come to an input or was put out, counted from the command's start, and whether it runs. */
+static uint64_t count_events(int file, int number)
+{
+	struct counts counts = { 0, 0, 0 };
+	if (number == NO_SUBDEVICE)
+		return 0;
+	int runs = running_counts(file, number, &counts);
+	return 2 * (board_is_input(&device->subdevice[number]) ? counts.written : counts.read) + runs;
+}
+
+void stream_happened(int file, struct happened *happened)
+{
+	happened->commands = device->commands;
+	happened->read = count_events(file, device->file[file].read_subdevice);
+	happened->written = count_events(file, device->file[file].write_subdevice);
+}
