@@ -10,6 +10,7 @@
 #include <dlfcn.h>
 #include <errno.h>
 #include <fcntl.h>
+#include <pthread.h>
 #include <stdarg.h>
 #include <sys/ioctl.h>
 #include <sys/mman.h>
@@ -36,6 +37,19 @@ static int is_of_any_file(unsigned long request)
 	return request == FIONBIO || request == FIOASYNC || request == FIOCLEX || request == FIONCLEX;
 }
 
+static int control(int file, unsigned long request, void *argument)
+{
+	unsigned files = 1u << file;
+	int result;
+	if (!device_begin_call(file))
+		return -EBADF;
+	pthread_cleanup_push(device_end_calls, &files);
+	result = device_ioctl(file, request, argument);
+	pthread_cleanup_pop(0);
+	device_end_call(file);
+	return result;
+}
+
 PUBLIC int ioctl(int descriptor, unsigned long request, ...)
 {
 	va_list values;
@@ -49,10 +63,28 @@ PUBLIC int ioctl(int descriptor, unsigned long request, ...)
 			descriptors_note_flags(descriptor);
 		return result;
 	}
-	device_enter();
-	int result = device_ioctl(file, request, argument);
-	device_leave();
-	return names_answer(result);
+	return names_answer(control(file, request, argument));
+}
+
+/* Reads or writes, each a call of its own. A file that was opened for one of them alone does no other. */
+static ssize_t move(int file, int writes, void *bytes, size_t count)
+{
+	unsigned files = 1u << file;
+	ssize_t result;
+	pthread_testcancel();
+	if (device->file[file].mode == (writes ? O_RDONLY : O_WRONLY))
+		return -EBADF;
+	if ((ssize_t)count < 0)
+		return -EFAULT;
+	if (!device_begin_call(file))
+		return -EBADF;
+	pthread_cleanup_push(device_end_calls, &files);
+	time_call();
+	int waits = !device->file[file].never_waits;
+	result = writes ? device_write(file, bytes, count, waits) : device_read(file, bytes, count, waits);
+	pthread_cleanup_pop(0);
+	device_end_call(file);
+	return result;
 }
 
 PUBLIC ssize_t read(int descriptor, void *to, size_t bytes)
@@ -62,14 +94,7 @@ PUBLIC ssize_t read(int descriptor, void *to, size_t bytes)
 		return names_answer(timers_read(descriptor, to, bytes));
 	if (file == NO_FILE)
 		return rings_stand_for(descriptor) ? rings_read(to, bytes) : REAL(read)(descriptor, to, bytes);
-	pthread_testcancel();
-	if (device->file[file].mode == O_WRONLY || (ssize_t)bytes < 0)
-		return names_answer((ssize_t)bytes < 0 ? -EFAULT : -EBADF);
-	device_enter();
-	time_call();
-	ssize_t result = device_read(file, to, bytes, !device->file[file].never_waits);
-	device_leave();
-	return names_answer(result);
+	return names_answer(move(file, 0, to, bytes));
 }
 
 PUBLIC ssize_t __read_chk(int descriptor, void *to, size_t bytes, size_t room)
@@ -82,14 +107,7 @@ PUBLIC ssize_t write(int descriptor, const void *from, size_t bytes)
 	int file = names_file(descriptor);
 	if (file == NO_FILE)
 		return rings_stand_for(descriptor) ? names_answer(rings_write(from, bytes)) : REAL(write)(descriptor, from, bytes);
-	pthread_testcancel();
-	if (device->file[file].mode == O_RDONLY || (ssize_t)bytes < 0)
-		return names_answer((ssize_t)bytes < 0 ? -EFAULT : -EBADF);
-	device_enter();
-	time_call();
-	ssize_t result = device_write(file, from, bytes, !device->file[file].never_waits);
-	device_leave();
-	return names_answer(result);
+	return names_answer(move(file, 1, (void *)from, bytes));
 }
 
 /* Several pieces: one after another, up to the first that isn't whole. */
