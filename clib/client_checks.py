@@ -61,6 +61,7 @@ def files(check):
     check.expect("bytes: what was put out", words == [0, 2, 4, 6, 8, 10, 12, 14, 0], words)
     check.compare_record("bytes", "wide", run, [0, 1, 2, 3, 10, 20, 30])
     check.client("closing", "wide")
+    check.client("paths", "wide")
     check.client("edges", "wide")
     check.client("tables", "wide")
     check.client("worker", "wide")

@@ -236,6 +236,8 @@ int descriptors_make(int file, int flags)
 		REAL(close)(descriptor);
 		return -EMFILE;
 	}
+	if (flags & O_APPEND)
+		REAL(fcntl)(descriptor, F_SETFL, flags & (O_APPEND | O_NONBLOCK));
 	has_marks = has_marks && !REAL(fcntl)(descriptor, F_SETSIG, MARK);
 	descriptors_enter(&quiet);
 	device->file[file].never_waits = (flags & O_NONBLOCK) != 0;

@@ -6,6 +6,7 @@
 #include "device.h"
 #include "server.h"
 #include <errno.h>
+#include <fcntl.h>
 #include <stdio.h>
 #include <stdlib.h>
 #include <string.h>
@@ -13,6 +14,10 @@
 #include <sys/mman.h>
 #include <sys/wait.h>
 #include <unistd.h>
+
+/* how the names of devices start, and the number of the first subdevice that has a device of its own */
+#define PREFIX "/dev/comedi"
+#define FIRST_OF_SUBDEVICES 48
 
 struct device *device;
 
@@ -105,12 +110,26 @@ static int ends_with(const char *text, const char *end)
 	return length > tail && !strcmp(text + length - tail, end);
 }
 
-/* /dev/comedi0 and its like are the board that ZENDROUZ_BOARD names. A file *.board is a board itself. */
-int device_serves(const char *path)
+/* Returns whether a name is that of a device: /dev/comedi0 and its like are the board that ZENDROUZ_BOARD names. */
+int device_has_name(const char *path)
 {
-	if (ends_with(path, ".board"))
+	return path && !strncmp(path, PREFIX, sizeof PREFIX - 1) && getenv("ZENDROUZ_BOARD");
+}
+
+/* Returns the number of a device among those of Comedi: N of /dev/comediN, and of its subdevices the kernel has others. */
+int device_minor(const char *path)
+{
+	const char *number = device_has_name(path) ? path + sizeof PREFIX - 1 : "", *subdevice = strstr(number, "_subd");
+	return subdevice ? FIRST_OF_SUBDEVICES + atoi(subdevice + 5) : atoi(number);
+}
+
+/* Returns whether to open a name is to open a board. A file *.board is a board itself for who opens it to read and write, as
+ * Comedi's programs do. To all others, as editors, it's a file. */
+int device_serves(const char *path, int flags)
+{
+	if (device_has_name(path))
 		return 1;
-	return !strncmp(path, "/dev/comedi", 11) && getenv("ZENDROUZ_BOARD");
+	return path && ends_with(path, ".board") && (flags & O_ACCMODE) == O_RDWR && !(flags & O_CREAT);
 }
 
 /* Says why a board isn't there: the program refuses its text, or can't be run. */
@@ -206,7 +225,7 @@ static int open_file(void)
 /* Opens the device, and answers the number of the session's file. One process has one board. */
 int device_open(const char *path)
 {
-	const char *board = strncmp(path, "/dev/comedi", 11) ? path : getenv("ZENDROUZ_BOARD");
+	const char *board = device_has_name(path) ? getenv("ZENDROUZ_BOARD") : path;
 	struct quiet quiet;
 	quiet_begin(&quiet);
 	device_hold();

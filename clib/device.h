@@ -68,9 +68,9 @@ struct file {
 	/* whether it has no descriptor yet, whether a child may have it too, whether its last read had to wait, and whether its
 	 * calls never wait: O_NONBLOCK as it was set last */
 	int is_open, is_new, is_shared, has_waited, never_waits;
-	/* O_RDONLY, O_WRONLY or O_RDWR, as it was opened, the inode of its descriptors, and the signal that the client wants of it
-	 * (F_SETSIG), or 0 */
-	int mode, signal;
+	/* O_RDONLY, O_WRONLY or O_RDWR, as it was opened, the signal that the client wants of it (F_SETSIG), or 0, the number of the
+	 * device by whose name it was opened, and the inode of its descriptors */
+	int mode, signal, minor;
 	uint64_t inode;
 	pid_t opener;
 	int read_subdevice, write_subdevice;
@@ -133,7 +133,9 @@ void quiet_end(const struct quiet *quiet);
 int device_open(const char *path);
 void device_close(int file);
 void device_close_left(void);
-int device_serves(const char *path);
+int device_has_name(const char *path);
+int device_minor(const char *path);
+int device_serves(const char *path, int flags);
 void device_enter(void);
 void device_leave(void);
 int device_begin_call(int file);

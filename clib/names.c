@@ -110,6 +110,28 @@ PUBLIC ssize_t write(int descriptor, const void *from, size_t bytes)
 	return names_answer(move(file, 1, (void *)from, bytes));
 }
 
+/* Reads and writes at a place. The device has none, as for the kernel's core of Comedi, which looks only at the sign. */
+#define AT_PLACE(name, chk, plain) \
+	PUBLIC ssize_t name(int descriptor, void *to, size_t bytes, off_t place) \
+	{ \
+		if (names_file(descriptor) == NO_FILE) \
+			return REAL(name)(descriptor, to, bytes, place); \
+		return place < 0 ? names_answer(-EINVAL) : read(descriptor, to, bytes); \
+	} \
+	PUBLIC ssize_t chk(int descriptor, void *to, size_t bytes, off_t place, size_t room) \
+	{ \
+		return name(descriptor, to, bytes < room ? bytes : room, place); \
+	} \
+	PUBLIC ssize_t plain(int descriptor, const void *from, size_t bytes, off_t place) \
+	{ \
+		if (names_file(descriptor) == NO_FILE) \
+			return REAL(plain)(descriptor, from, bytes, place); \
+		return place < 0 ? names_answer(-EINVAL) : write(descriptor, from, bytes); \
+	}
+
+AT_PLACE(pread, __pread_chk, pwrite)
+AT_PLACE(pread64, __pread64_chk, pwrite64)
+
 /* Several pieces: one after another, up to the first that isn't whole. */
 PUBLIC ssize_t readv(int descriptor, const struct iovec *pieces, int count)
 {
@@ -150,6 +172,35 @@ PUBLIC ssize_t writev(int descriptor, const struct iovec *pieces, int count)
 	}
 	return done;
 }
+
+#define PIECES_AT_PLACE(reads, writes) \
+	PUBLIC ssize_t reads(int descriptor, const struct iovec *pieces, int count, off_t place) \
+	{ \
+		if (names_file(descriptor) == NO_FILE) \
+			return REAL(reads)(descriptor, pieces, count, place); \
+		return place < 0 ? names_answer(-EINVAL) : readv(descriptor, pieces, count); \
+	} \
+	PUBLIC ssize_t writes(int descriptor, const struct iovec *pieces, int count, off_t place) \
+	{ \
+		if (names_file(descriptor) == NO_FILE) \
+			return REAL(writes)(descriptor, pieces, count, place); \
+		return place < 0 ? names_answer(-EINVAL) : writev(descriptor, pieces, count); \
+	}
+
+PIECES_AT_PLACE(preadv, pwritev)
+PIECES_AT_PLACE(preadv64, pwritev64)
+
+/* The place is always 0. */
+#define SEEK(name, type) \
+	PUBLIC type name(int descriptor, type place, int whence) \
+	{ \
+		if (names_file(descriptor) == NO_FILE) \
+			return REAL(name)(descriptor, place, whence); \
+		return names_answer(whence < SEEK_SET || whence > SEEK_HOLE ? -EINVAL : 0); \
+	}
+
+SEEK(lseek, off_t)
+SEEK(lseek64, off64_t)
 
 /* The buffer of the subdevice that read is for, or with PROT_WRITE write. Answers the subdevice. */
 static int map_buffer(int file, size_t bytes, int protection, off_t offset)
