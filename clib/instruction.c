@@ -13,6 +13,9 @@
 #define MOST_WAIT 100000
 #define MOST_INSTRUCTIONS 65536
 #define BITS_OF_A_WORD 32
+/* what the kernel has and comedilib's header hasn't: INSN_DEVICE_CONFIG, and the number of its question for routes */
+#define DEVICE_CONFIG (INSN_CONFIG | INSN_MASK_SPECIAL)
+#define GET_ROUTES 3
 
 /* A subdevice that a line can name. There are 16 at most, so all above 255 are as little there as 255. */
 static unsigned number_of(const comedi_insn *instruction)
@@ -178,6 +181,16 @@ static int do_trigger(int file, const comedi_insn *instruction, const unsigned *
 	return result ? kernel_result(CALL_TRIGGER, result) : 1;
 }
 
+/* Routes between lines, of which no board has any. The kernel answers for a driver without them that there are 0, and refuses
+ * to set one. */
+static int do_routes(const comedi_insn *instruction, unsigned *data)
+{
+	if (instruction->n < 2 || data[0] != GET_ROUTES)
+		return -EINVAL;
+	data[1] = 0;
+	return instruction->n;
+}
+
 /* An instruction whose data are here. */
 int instruction_do(int file, comedi_insn *instruction, unsigned *data)
 {
@@ -189,6 +202,8 @@ int instruction_do(int file, comedi_insn *instruction, unsigned *data)
 		return do_wait(instruction, data);
 	case INSN_INTTRIG:
 		return do_trigger(file, instruction, data);
+	case DEVICE_CONFIG:
+		return do_routes(instruction, data);
 	case INSN_READ:
 		result = do_read(file, instruction, data);
 		break;

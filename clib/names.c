@@ -17,6 +17,9 @@
 #include <sys/uio.h>
 #include <unistd.h>
 
+/* how much memory a process has room for */
+#define MOST_MAPPED ((size_t)1 << 47)
+
 int names_file(int descriptor)
 {
 	return descriptors_file(descriptor);
@@ -202,19 +205,36 @@ PIECES_AT_PLACE(preadv64, pwritev64)
 SEEK(lseek, off_t)
 SEEK(lseek64, off64_t)
 
-/* The buffer of the subdevice that read is for, or with PROT_WRITE write. Answers the subdevice. */
-static int map_buffer(int file, size_t bytes, int protection, off_t offset)
+/* Refuses what the kernel does before it asks the driver: a length or a place that no memory has. `whole` is in whole pages. */
+static int check_map(size_t bytes, size_t whole, off_t offset, size_t page)
 {
-	int mode = device->file[file].mode;
-	if (mode == O_WRONLY || (mode == O_RDONLY && protection & PROT_WRITE))
+	if (!bytes || (size_t)offset % page)
+		return -EINVAL;
+	if (whole < bytes || whole > MOST_MAPPED)
+		return -ENOMEM;
+	return (uint64_t)offset > UINT64_MAX - whole ? -EOVERFLOW : 0;
+}
+
+/* The buffer of the subdevice that read is for, or with PROT_WRITE write. A copy of it has one page at most, since the driver
+ * maps page by page. Answers the subdevice. */
+static int map_buffer(int file, size_t bytes, int protection, int flags, off_t offset)
+{
+	size_t page = sysconf(_SC_PAGESIZE), whole = (bytes + page - 1) / page * page;
+	int mode = device->file[file].mode, writes = (protection & PROT_WRITE) != 0, is_copy = (flags & MAP_TYPE) == MAP_PRIVATE;
+	int result = check_map(bytes, whole, offset, page);
+	if (result)
+		return result;
+	if (mode == O_WRONLY || (mode == O_RDONLY && writes && !is_copy))
 		return -EACCES;
-	int number = protection & PROT_WRITE ? device->file[file].write_subdevice : device->file[file].read_subdevice;
+	int number = writes ? device->file[file].write_subdevice : device->file[file].read_subdevice;
 	if (number == NO_SUBDEVICE || offset)
 		return -EINVAL;
-	size_t page = sysconf(_SC_PAGESIZE), whole = (size_t)device->subdevice[number].buffer * device->subdevice[number].sample_bytes;
-	if (bytes > (whole + page - 1) / page * page)
+	size_t there = (size_t)device->subdevice[number].buffer * device->subdevice[number].sample_bytes;
+	if (whole > (there + page - 1) / page * page)
 		return -EFAULT;
-	int result = buffer_map(file, number);
+	if (is_copy && whole > page)
+		return -EINVAL;
+	result = buffer_map(file, number);
 	return result ? result : number;
 }
 
@@ -224,7 +244,7 @@ PUBLIC void *mmap(void *at, size_t bytes, int protection, int flags, int descrip
 	if (file == NO_FILE)
 		return REAL(mmap)(at, bytes, protection, flags, descriptor, offset);
 	device_enter();
-	int number = map_buffer(file, bytes, protection, offset);
+	int number = map_buffer(file, bytes, protection, flags, offset);
 	device_leave();
 	if (number < 0) {
 		errno = -number;
