@@ -18,7 +18,7 @@ DEMOS = "/usr/share/doc/libcomedi-dev/demo"
 LIBRARY = "libzendrouz_comedi.so"
 PROGRAM = "comedi_serve"
 # what is built once, and stands in the folder of each part by a link
-BUILT = (LIBRARY, "counting.so", "old_library.so", "tests", "sanitized", "programs")
+BUILT = (LIBRARY, "counting.so", "old_library.so", "slow_waits.so", "tests", "sanitized", "programs")
 # the last line of a record of which nothing is missing
 WHOLE = "# the record is whole"
 SECONDS = 60

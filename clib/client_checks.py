@@ -137,6 +137,8 @@ def wakes(check):
     """Threads that are woken by what another one does to the board, in board time and with a pace."""
     for _ in range(1 if check.quick else 5):
         check.client("woken", "wide")
+        for behind in ("", ":" + check.path("slow_waits.so")):
+            check.client("between", "wide", LD_PRELOAD=check.path(LIBRARY) + behind)
         run = check.client("pair", "wide")
         check.expect("pair: the samples of its record", len(check.replayed("wide", run.record)[0]) == 4000, run.record[-20:])
     watched = "command: 0\ncancel: 0\nthe last read: Invalid argument\n0 samples in 0 reads, 0 looks, 2000 ms\n"
