@@ -2,6 +2,7 @@
 
 import os
 import re
+import shutil
 import signal
 import subprocess
 import threading
@@ -14,6 +15,8 @@ RANDOM_SECONDS = 200
 # how many lines wide.board has, the text that the program of answers gets first
 LINES_OF_WIDE = text_of("wide.board").count("\n")
 CLIENTS_AT_ONCE = 64
+# the oldest C library that the device is for
+OLDEST_LIBRARY = (2, 31)
 
 
 def clients(check):
@@ -274,6 +277,21 @@ def failures(check):
     check.client("orphan", "small", DYING_SILENTLY="1", **dying)
     run = check.run("small", [check.path("tests/late")], ZENDROUZ_CORE="/nowhere")
     check.expect("a program that isn't there", run.status == 1 and run.out == "open: Input/output error\n", run.out, run.err)
+
+
+def newest_version(path):
+    """The newest version of the C library that a library needs."""
+    text = subprocess.run(["objdump", "-T", path], stdout=subprocess.PIPE).stdout.decode()
+    return max((tuple(int(part) for part in found.split(".")) for found in re.findall(r"GLIBC_([0-9.]+)", text)), default=())
+
+
+def versions(check):
+    """The library needs no newer C library than Debian 11 has."""
+    if not shutil.which("objdump"):
+        check.leave_out("the C library that is needed", "there is no objdump (Debian's package binutils)")
+        return
+    newest = newest_version(check.path(LIBRARY))
+    check.expect("the C library that is needed", (2, 2) < newest <= OLDEST_LIBRARY, newest)
 
 
 def is_broken_off(out, whole):

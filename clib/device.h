@@ -8,6 +8,7 @@
 #ifndef DEVICE_H
 #define DEVICE_H
 
+#include "versions.h"
 #include <comedi.h>
 #include <limits.h>
 #include <pthread.h>
@@ -272,6 +273,7 @@ void turns_begin_child(void);
 
 /* threads.c */
 uint64_t threads_sleep(void);
+unsigned threads_number(void);
 void threads_hold(void);
 void threads_let_go(void);
 

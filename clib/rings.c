@@ -92,7 +92,7 @@ int rings_make(int *socket, int *memory)
 static int is_socket(int descriptor)
 {
 	struct stat state;
-	return !fstat(descriptor, &state) && S_ISSOCK(state.st_mode);
+	return !syscall(SYS_fstat, descriptor, &state) && S_ISSOCK(state.st_mode);
 }
 
 /* Lets go of the client's standard error, which tells why a program doesn't start, and has told it by now. Who waits for

@@ -26,7 +26,6 @@
 #include <poll.h>
 #include <pthread.h>
 #include <signal.h>
-#include <sys/single_threaded.h>
 #include <unistd.h>
 
 #define MOST_TURNS 256
@@ -383,9 +382,18 @@ static int wait_alone(uint64_t end, const struct wait *wait)
 	return result;
 }
 
+/* where the C library says whether the process has one thread; those before 2.32 don't */
+static const char *single_threaded;
+
+__attribute__((constructor)) static void find_single_threaded(void)
+{
+	single_threaded = dlsym(RTLD_DEFAULT, "__libc_single_threaded");
+	dlerror();
+}
+
 int turns_is_only_thread(void)
 {
-	return __libc_single_threaded;
+	return single_threaded ? *(const volatile char *)single_threaded : threads_number() == 1;
 }
 
 /* Returns whether nothing can come between the start of a wait and its end: there is one thread, and the board sends it no
