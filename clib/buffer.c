@@ -107,8 +107,9 @@ int buffer_make_memory(void)
 	}
 	memory = keep_away(memfd_create("comedi-buffers", MFD_CLOEXEC));
 	descriptors_protect(&memory);
-	if (memory < 0 || ftruncate(memory, whole))
-		return -ENOMEM;
+	int result = memory_lengthen(memory, whole);
+	if (result)
+		return result;
 	char *place = mmap(NULL, whole, PROT_READ | PROT_WRITE, MAP_SHARED, memory, 0);
 	if (place == MAP_FAILED)
 		return -ENOMEM;

@@ -279,6 +279,13 @@ def failures(check):
     check.expect("a program that isn't there", run.status == 1 and run.out == "open: Input/output error\n", run.out, run.err)
 
 
+def limits(check):
+    """A client whose files may not be long is told so."""
+    run = check.run("small", ["sh", "-c", "ulimit -f 10; exec \"$0\"", check.path("tests/late")], ZENDROUZ_LOG="")
+    said = re.fullmatch(r"zendrouz: files may have \d+ bytes at most \(ulimit -f\), and the board's memory needs \d+. Allow more\n", run.err)
+    check.expect("a limit of file sizes", run.status == 1 and run.out == "open: File too large\n" and said, run.status, run.out, run.err)
+
+
 def newest_version(path):
     """The newest version of the C library that a library needs."""
     text = subprocess.run(["objdump", "-T", path], stdout=subprocess.PIPE).stdout.decode()

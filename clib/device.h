@@ -286,5 +286,6 @@ void clocks_start(void);
 /* memory.c: within the device */
 int copy_in(void *to, const void *from, size_t bytes);
 int copy_out(void *to, const void *from, size_t bytes);
+int memory_lengthen(int descriptor, size_t bytes);
 
 #endif

@@ -82,8 +82,11 @@ int rings_make(int *socket, int *memory)
 	if (rings)
 		munmap(rings, sizeof *rings);
 	rings = NULL;
-	if (*memory < 0 || ftruncate(*memory, sizeof *rings) || map(*memory))
-		return -ENOMEM;
+	int result = memory_lengthen(*memory, sizeof *rings);
+	if (!result)
+		result = map(*memory);
+	if (result)
+		return result;
 	outgoing = &rings->question;
 	incoming = &rings->answer;
 	return 0;
