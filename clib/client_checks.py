@@ -279,6 +279,18 @@ def failures(check):
     check.expect("a program that isn't there", run.status == 1 and run.out == "open: Input/output error\n", run.out, run.err)
 
 
+def silences(check):
+    """A program of answers that says nothing. The client can be ended meanwhile, and the program ends with it."""
+    silent = write_file(check.path("silent"), "#!/bin/sh\nsleep 1000\n", True)
+    started = check.start([check.path("tests/late")], check.settings("small", ZENDROUZ_CORE=silent, ZENDROUZ_LOG=""))
+    time.sleep(0.5)
+    started.terminate()
+    began = time.monotonic()
+    out, err = check.finish(started, 20)
+    check.expect("a client that waits for a silent program can be ended", started.returncode == -signal.SIGTERM and time.monotonic() - began < 10, started.returncode, out, err)
+    check.expect_no_process("a client of a silent program")
+
+
 def limits(check):
     """A client whose files may not be long is told so."""
     run = check.run("small", ["sh", "-c", "ulimit -f 10; exec \"$0\"", check.path("tests/late")], ZENDROUZ_LOG="")

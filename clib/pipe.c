@@ -108,8 +108,10 @@ static int start_apart(const char *program, char **environment, int socket, int 
 {
 	long child = syscall(SYS_clone, 0, 0, 0, 0, 0);
 	if (child == 0) {
-		if (syscall(SYS_clone, 0, 0, 0, 0, 0) == 0)
+		long server = syscall(SYS_clone, 0, 0, 0, 0, 0);
+		if (server == 0)
 			become_server(program, environment, socket, memory);
+		rings_note_program(server);
 		syscall(SYS_exit_group, 0);
 	}
 	if (child < 0)
