@@ -46,6 +46,7 @@ def clients(check):
     check.client("claims", "bench")
     check.client("wild", "wide")
     check.client("paced", "wide", ZENDROUZ_PACE="10")
+    check.client("beside", "wide", ZENDROUZ_PACE="0.5")
 
 
 def files(check):

@@ -318,8 +318,10 @@ static int wait_for_ever(const struct wait *wait, const sigset_t *signals)
 /* A wait with a pace: the board's time is the wall clock's. */
 static int wait_paced(struct turn *turn)
 {
+	uint64_t left = 1;
 	int result = pause_in_turn(turn, 0);
-	for (uint64_t left; !result && (left = time_left(turn->end)); ) {
+	while (!result && left) {
+		left = time_left(turn->end);
 		if (events_next() != NEVER)
 			events_tell();
 		result = pause_in_turn(turn, left < PACED_PIECE ? left : PACED_PIECE);
