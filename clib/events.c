@@ -84,12 +84,12 @@ static void send_to_owner(int file, int is_output)
 		syscall(SYS_rt_sigqueueinfo, owner.pid, number, &information);
 }
 
-/* Sends the signals for what has come by now, unless another thread or process has. */
-void events_tell(void)
+/* Sends the signals for what has come by now, unless another thread or process has. Returns whether it did. */
+int events_tell(void)
 {
 	unsigned files = descriptors_asynchronous();
 	if (!files)
-		return;
+		return 0;
 	device_enter();
 	int is_new = is_untold(), is_output = next.is_output;
 	if (is_new)
@@ -98,4 +98,5 @@ void events_tell(void)
 	for (int i = 0; is_new && i < MOST_FILES; i++)
 		if (files >> i & 1)
 			send_to_owner(i, is_output);
+	return is_new;
 }

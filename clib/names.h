@@ -47,7 +47,7 @@ int sets_have_news(int set, int descriptor, int file);
 
 /* events.c */
 uint64_t events_next(void);
-void events_tell(void);
+int events_tell(void);
 
 /* signals.c */
 int signals_are_handled(uint64_t numbers);

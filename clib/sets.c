@@ -96,6 +96,17 @@ static int change_member(int set, int what, int descriptor, const struct epoll_e
 	return 0;
 }
 
+static void make_bell(void)
+{
+	struct quiet quiet;
+	descriptors_enter(&quiet);
+	if (bell < 0) {
+		bell = keep_away(syscall(SYS_eventfd2, 1, EFD_CLOEXEC | EFD_NONBLOCK));
+		descriptors_protect(&bell);
+	}
+	descriptors_leave(&quiet);
+}
+
 /* Ends the waits of other threads for a set, so that they look at its members again. */
 static void wake_others(int set)
 {
@@ -104,10 +115,7 @@ static void wake_others(int set)
 	device_wake();
 	if (set < 0 || set >= DESCRIPTORS || !__atomic_load_n(sleepers + set, __ATOMIC_SEQ_CST))
 		return;
-	if (bell < 0) {
-		bell = keep_away(syscall(SYS_eventfd2, 1, EFD_CLOEXEC | EFD_NONBLOCK));
-		descriptors_protect(&bell);
-	}
+	make_bell();
 	REAL(epoll_ctl)(set, EPOLL_CTL_ADD, bell, &event);
 }
 

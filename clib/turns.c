@@ -240,15 +240,12 @@ static void go_on(uint64_t end)
 	device_leave();
 }
 
-/* The time goes on to the end of a wait, or to a signal before it. Returns whether the wait's end has come. */
+/* The time goes on to the end of a wait, or to a signal of the board before it. Returns whether signals were sent. */
 static int take_turn(const struct turn *turn)
 {
-	uint64_t end = end_of(turn);
-	int is_its_own = end == own_end_of(turn);
-	go_on(end);
-	events_tell();
+	go_on(end_of(turn));
 	last_turn = time_of_wall();
-	return is_its_own;
+	return events_tell();
 }
 
 /* Whether a wait has its turn, but for what may have come before the others slept. Answers as threads_sleep. The first one
@@ -287,7 +284,7 @@ static int pause_in_turn(struct turn *turn, uint64_t nanoseconds)
 }
 
 /* Real waits, until what is waited for is there or the wait has its turn: the others sleep, what is waited for isn't there,
- * and none of them has run meanwhile. */
+ * and none of them has run meanwhile. A signal that comes at the very end of a wait ends it, too. */
 static int wait_in_pieces(struct turn *turn)
 {
 	uint64_t before = 0, sleep = 0;
@@ -295,13 +292,14 @@ static int wait_in_pieces(struct turn *turn)
 	while (!result && own_end_of(turn) > turn->start) {
 		sleep = has_turn(turn);
 		if (sleep && sleep == before && is_first(turn)) {
-			if (take_turn(turn))
+			result = take_turn(turn) ? pause_in_turn(turn, 0) : 0;
+			if (own_end_of(turn) <= device->client_now)
 				break;
-			sleep = 0;
-			turn->piece = 0;
+			before = turn->piece = 0;
+			continue;
 		}
 		before = sleep;
-		result = pause_in_turn(turn, before ? 0 : turn->piece ? turn->piece : PIECE_BEHIND);
+		result = pause_in_turn(turn, sleep ? 0 : turn->piece ? turn->piece : PIECE_BEHIND);
 	}
 	return result;
 }
