@@ -118,7 +118,7 @@ static int refuse_list(int file, comedi_cmd asked, int error)
 	return result == -EINVAL ? error : result;
 }
 
-/* After how many scans a command stops: NEVER, or 0 if an edge stops it, since nobody knows that before. */
+/* Returns after how many scans a command stops: NEVER if it doesn't, and 0 if an edge stops it, which isn't known before. */
 static uint64_t stops_after(const comedi_cmd *command)
 {
 	return command->stop_src == TRIG_COUNT ? command->stop_arg : command->stop_src == TRIG_NONE ? NEVER : 0;

@@ -181,8 +181,8 @@ static int do_trigger(int file, const comedi_insn *instruction, const unsigned *
 	return result ? kernel_result(CALL_TRIGGER, result) : 1;
 }
 
-/* Routes between lines, of which no board has any. The kernel answers for a driver without them that there are 0, and refuses
- * to set one. */
+/* Answers questions for routes between lines, of which no board has any. For a driver without them the kernel answers that there
+ * are 0, and refuses to set one. */
 static int do_routes(const comedi_insn *instruction, unsigned *data)
 {
 	if (instruction->n < 2 || data[0] != GET_ROUTES)

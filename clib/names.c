@@ -69,7 +69,7 @@ PUBLIC int ioctl(int descriptor, unsigned long request, ...)
 	return names_answer(control(file, request, argument));
 }
 
-/* Reads or writes, each a call of its own. A file that was opened for one of them alone does no other. */
+/* Reads or writes as one call. A file that was opened for one of them alone can't do the other. */
 static ssize_t move(int file, int writes, void *bytes, size_t count)
 {
 	unsigned files = 1u << file;
@@ -193,7 +193,7 @@ PUBLIC ssize_t writev(int descriptor, const struct iovec *pieces, int count)
 PIECES_AT_PLACE(preadv, pwritev)
 PIECES_AT_PLACE(preadv64, pwritev64)
 
-/* The place is always 0. */
+/* Moves to a place, which is always 0. */
 #define SEEK(name, type) \
 	PUBLIC type name(int descriptor, type place, int whence) \
 	{ \
@@ -205,7 +205,8 @@ PIECES_AT_PLACE(preadv64, pwritev64)
 SEEK(lseek, off_t)
 SEEK(lseek64, off64_t)
 
-/* Refuses what the kernel does before it asks the driver: a length or a place that no memory has. `whole` is in whole pages. */
+/* Refuses what the kernel refuses before it asks the driver: a length or a place that no memory has. `whole` is the length in
+ * whole pages. */
 static int check_map(size_t bytes, size_t whole, off_t offset, size_t page)
 {
 	if (!bytes || (size_t)offset % page)
@@ -215,8 +216,8 @@ static int check_map(size_t bytes, size_t whole, off_t offset, size_t page)
 	return (uint64_t)offset > UINT64_MAX - whole ? -EOVERFLOW : 0;
 }
 
-/* The buffer of the subdevice that read is for, or with PROT_WRITE write. A copy of it has one page at most, since the driver
- * maps page by page. Answers the subdevice. */
+/* Maps the buffer of the subdevice that read is for, or with PROT_WRITE write. A copy of it has one page at most, since the
+ * driver maps page by page. Returns the subdevice. */
 static int map_buffer(int file, size_t bytes, int protection, int flags, off_t offset)
 {
 	size_t page = sysconf(_SC_PAGESIZE), whole = (bytes + page - 1) / page * page;

@@ -19,7 +19,7 @@
 /* what the kernel puts into the flags of each file that a program of 64 bits opens */
 #define LARGE_FILE 0100000
 
-/* The device is a file that is there, and no folder. */
+/* Refuses to open the device as a folder or as a new file. */
 static int check_flags(int flags)
 {
 	if (flags & O_DIRECTORY)

@@ -142,7 +142,7 @@ PUBLIC int statx(int folder, const char *restrict path, int flags, unsigned mask
 	return device_has_name(path) ? fill_extended(to, device_minor(path)) : REAL(statx)(folder, path, flags, mask, to);
 }
 
-/* Whether the device may be used so: it can be read and written, but isn't a program. */
+/* Checks whether the device may be used so. It can be read and written, but it isn't a program. */
 static int may_use(int how)
 {
 	if (how & ~(R_OK | W_OK | X_OK))

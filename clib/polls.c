@@ -126,7 +126,7 @@ static int ask_kernel(struct ask *a, uint64_t nanoseconds, const sigset_t *signa
 	return a->has_file ? ask_for_others(a, &time, signals) : REAL(ppoll)(a->asked, a->count, &time, signals);
 }
 
-/* What a file of the device is ready for. A member of a set that is asked for changes alone is ready after a change. */
+/* Returns what a file of the device is ready for. A member of a set that is asked for changes alone is ready after a change. */
 static short ready_events(const struct ask *a, nfds_t i)
 {
 	int file = a->files[i];
@@ -138,7 +138,7 @@ static short ready_events(const struct ask *a, nfds_t i)
 	return found && (a->set == NO_SET || sets_have_news(a->set, a->asked[i].fd, file)) ? found : 0;
 }
 
-/* What is ready now. A descriptor that was closed meanwhile is no file any more, as the kernel finds when it looks again. */
+/* Looks what is ready now. A descriptor that was closed meanwhile is no file any more, as the kernel finds when it looks again. */
 static int ask_ready(struct ask *a)
 {
 	int ready = ask_kernel(a, 0, NULL);
@@ -154,7 +154,7 @@ static int ask_ready(struct ask *a)
 	return ready;
 }
 
-/* The next time at which a file of the device gets ready, or may be ready once more. At the horizon none does any more. */
+/* Returns the next time at which a file of the device gets ready, or may be ready once more. At the horizon none does any more. */
 static uint64_t next_time(const struct ask *a)
 {
 	uint64_t first = NEVER, time;
@@ -236,7 +236,7 @@ static int poll_any(struct ask *a, uint64_t end)
 	}
 }
 
-/* A poll of the device's files takes a call's time. They stay open meanwhile. */
+/* Polls files of the device among others. This takes a call's time, and the files stay open meanwhile. */
 static int poll_files(struct ask *a, int64_t nanoseconds)
 {
 	int result;
@@ -257,7 +257,7 @@ static int poll_ours(struct ask *a, int64_t nanoseconds)
 	return names_answer(a->has_file ? poll_files(a, nanoseconds) : poll_any(a, time_after(nanoseconds)));
 }
 
-/* A poll of some files for another name, for so long or for ever. */
+/* Polls some files for another name, for so long or for ever. */
 int polls_wait(struct pollfd *asked, nfds_t count, int64_t nanoseconds)
 {
 	struct timespec time = clocks_time(nanoseconds);
@@ -266,7 +266,7 @@ int polls_wait(struct pollfd *asked, nfds_t count, int64_t nanoseconds)
 	return is_ours(&a, nanoseconds) ? poll_ours(&a, nanoseconds) : REAL(ppoll)(asked, count, nanoseconds < 0 ? NULL : &time, NULL);
 }
 
-/* A poll of the members of a set, of which there have been so many changes, with a mask of signals if there is one: then all
+/* Polls the members of a set, of which there have been so many changes, with a mask of signals if there is one: then all
  * signals are blocked already. As in the kernel a set doesn't keep its members open. */
 int polls_wait_for_set(int set, unsigned changes, struct pollfd *asked, nfds_t count, int64_t nanoseconds, const sigset_t *signals)
 {

@@ -13,8 +13,8 @@
 
 #define BITS_OF(s) (8 * (s)->sample_bytes)
 
-/* A command has begun. Each of its scans may wake a read. It stops after so many scans, or NEVER, or after 0 if that isn't
- * known. */
+/* Notes that a command has begun. Each of its scans may wake a read. It stops after so many scans, or NEVER, or after 0 if that
+ * isn't known. */
 void scans_begin(struct subdevice *s, unsigned entries, int each_wakes, uint64_t stops_after)
 {
 	int packed = board_is_digital(s);

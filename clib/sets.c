@@ -243,7 +243,7 @@ static int take_events(const struct pollfd *asked, int count, struct epoll_event
 	return done ? done + (others > 0 ? others : 0) : others;
 }
 
-/* A poll of the device's members, and of the set itself for the others. Another thread may take what was found there, or
+/* Polls the device's members, and the set itself for the others. Another thread may take what was found there, or
  * change the members. */
 static int poll_members(int set, struct epoll_event *events, int most, int64_t nanoseconds, const sigset_t *signals)
 {
@@ -316,7 +316,7 @@ static int wait_for_set(int set, struct epoll_event *events, int most, int milli
 	return wait_masked(set, events, most, nanoseconds, signals);
 }
 
-/* Whether a wait may be for the board at all. */
+/* Returns whether a wait may be for the board at all. */
 static int may_be_ours(int set, int most)
 {
 	return device && most > 0 && set >= 0 && set < DESCRIPTORS;

@@ -157,7 +157,7 @@ static ssize_t read_next(int file, int number, char *to)
 	return count < 0 ? count : hand_over(s, to, &sample, 1, s->sample_bytes);
 }
 
-/* A read or a write of no bytes reports an error, and nothing else. That ends the command, unless samples are left: they can
+/* Reports an error to a read or a write of no bytes, and nothing else. That ends the command, unless samples are left: they can
  * still be read, as the kernel has it. */
 static int move_nothing(int file, int number)
 {
@@ -330,8 +330,8 @@ int stream_next_time(int file, int reads, int writes, uint64_t *time)
 	return first != UINT64_MAX;
 }
 
-/* When more samples than now have come to an input, or there is room for more words of an output, or the command has ended.
- * Returns 0 if that is now or never. */
+/* Finds when more samples than now have come to an input, or there is room for more words of an output, or the command has
+ * ended. Returns 0 if that is now or never. */
 int stream_next_event(int file, int number, uint64_t *time)
 {
 	struct counts counts;
@@ -341,7 +341,7 @@ int stream_next_event(int file, int number, uint64_t *time)
 	return !scans_await(file, number, there + 1, time) && *time > device->now;
 }
 
-/* The next time at which something happens to a file, whether it is ready before or not. */
+/* Finds the next time at which something happens to a file, whether it is ready before or not. Returns 0 if there is none. */
 int stream_next_change(int file, int reads, int writes, uint64_t *time)
 {
 	const struct file *f = &device->file[file];
@@ -354,7 +354,7 @@ int stream_next_change(int file, int reads, int writes, uint64_t *time)
 	return *time != NEVER;
 }
 
-/* How much has come to an input or was put out, counted from the command's start, and whether it runs. */
+/* Counts what has come to an input or was put out since the command's start, with whether it runs. */
 static uint64_t count_events(int file, int number)
 {
 	struct counts counts = { 0, 0, 0 };

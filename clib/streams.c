@@ -27,14 +27,14 @@ static ssize_t read_stream(void *stream, char *to, size_t bytes)
 	return read(((struct stream *)stream)->descriptor, to, bytes);
 }
 
-/* Here an error is 0. */
+/* Writes what a stream holds. Returns the number of bytes, and 0 after an error. */
 static ssize_t write_stream(void *stream, const char *from, size_t bytes)
 {
 	ssize_t result = write(((struct stream *)stream)->descriptor, from, bytes);
 	return result < 0 ? 0 : result;
 }
 
-/* The device has no places: each is taken, and is 0. */
+/* Moves to a place. The device has none, so the place is always 0. */
 static int seek_stream(void *stream, off64_t *place, int whence)
 {
 	(void)stream;
@@ -50,7 +50,7 @@ static int close_stream(void *stream)
 	return close(descriptor);
 }
 
-/* The flags with which a stream of a mode opens its file, or -1. */
+/* Returns the flags with which a stream of a mode opens its file, or -1 if there is no such mode. */
 static int flags_of(const char *mode)
 {
 	int flags = *mode == 'r' ? 0 : *mode == 'w' ? O_CREAT | O_TRUNC : *mode == 'a' ? O_CREAT | O_APPEND : -1;
@@ -60,6 +60,7 @@ static int flags_of(const char *mode)
 	return flags | (strchr(mode, 'e') ? O_CLOEXEC : 0) | (strchr(mode, 'x') ? O_EXCL : 0);
 }
 
+/* Makes a stream of a descriptor. Returns NULL if there is no memory. */
 static FILE *make_stream(int descriptor, const char *mode)
 {
 	const cookie_io_functions_t functions = { read_stream, write_stream, seek_stream, close_stream };
@@ -77,6 +78,7 @@ static FILE *make_stream(int descriptor, const char *mode)
 	return stream;
 }
 
+/* Opens the device for a stream. */
 static FILE *open_stream(const char *path, const char *mode)
 {
 	int descriptor = open(path, flags_of(mode), 0666);
@@ -96,7 +98,7 @@ PUBLIC FILE *fopen64(const char *restrict path, const char *restrict mode)
 	return device_serves(path, flags_of(mode)) ? open_stream(path, mode) : REAL(fopen64)(path, mode);
 }
 
-/* A stream can't do more than its descriptor. */
+/* Makes a stream of a descriptor, which can't do more than the descriptor. */
 PUBLIC FILE *fdopen(int descriptor, const char *mode)
 {
 	int file = names_file(descriptor), flags = flags_of(mode);

@@ -48,7 +48,7 @@ static int read_text(const char *path, char *text, size_t room)
 	return length > 0;
 }
 
-/* How many threads this process has, or 0 if the kernel doesn't say: their folder has a link for each, and two of its own. */
+/* Returns how many threads this process has, or 0 if the kernel doesn't say. Their folder has a link for each, and two more. */
 unsigned threads_number(void)
 {
 	struct stat folder;

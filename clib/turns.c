@@ -104,14 +104,14 @@ static struct turn *join(uint64_t end, const struct wait *wait, const sigset_t *
 	return turn;
 }
 
-/* When a wait ends, or something comes by itself. */
+/* Returns when a wait ends, or something comes by itself. */
 static uint64_t own_end_of(const struct turn *turn)
 {
 	uint64_t due = turn->wait->due ? turn->wait->due(turn->wait->what) : NEVER;
 	return due < turn->end ? due : turn->end;
 }
 
-/* Up to when a wait lets the time go on: a signal of the board may end it before its end. */
+/* Returns up to when a wait lets the time go on. A signal of the board may come before the wait's end. */
 static uint64_t end_of(const struct turn *turn)
 {
 	uint64_t end = own_end_of(turn);
@@ -130,7 +130,7 @@ uint64_t turns_number(pid_t thread)
 	return number;
 }
 
-/* The number of the last wait of a thread, or 0 if it has none. */
+/* Returns the number of the last wait of a thread, or 0 if it has none. */
 uint64_t turns_number_of(pthread_t thread)
 {
 	uint64_t number = 0;
@@ -240,7 +240,7 @@ static void go_on(uint64_t end)
 	device_leave();
 }
 
-/* The time goes on to the end of a wait, or to a signal of the board before it. Returns whether signals were sent. */
+/* Lets the time go on to the end of a wait, or to a signal of the board before it. Returns whether signals were sent. */
 static int take_turn(const struct turn *turn)
 {
 	go_on(end_of(turn));
@@ -271,7 +271,7 @@ static int pause_once(const struct wait *wait, uint64_t nanoseconds, const sigse
 	return is_news(wait) ? BOARD_CHANGED : wait->pause(wait->what, nanoseconds, signals);
 }
 
-/* One piece of a wait that has a turn. */
+/* Waits for one piece of a wait that has a turn. Returns as the wait's `pause`, and -EINTR after a signal of another thread. */
 static int pause_in_turn(struct turn *turn, uint64_t nanoseconds)
 {
 	static const struct timespec no_time;
