@@ -174,7 +174,8 @@ static int do_trigger(int file, const comedi_insn *instruction, const unsigned *
 	unsigned number = number_of(instruction);
 	int runner = board_runner(number);
 	int result = line_of_session("insn %d %u inttrig %u", runner == NO_FILE ? file : runner, number, data[0]);
-	device_changed();
+	if (!result)
+		device_changed();
 	/* if no command waits for a trigger, the kernel doesn't look at the lock */
 	if (result == -EACCES && runner == NO_FILE)
 		return -EAGAIN;

@@ -111,7 +111,8 @@ static int lock_call(int file, unsigned number, int locks)
 static int cancel_call(int file, unsigned number)
 {
 	int result = line_of_session("cancel %d %u", file, number);
-	device_changed();
+	if (!result)
+		device_changed();
 	if (result == -EACCES)
 		return board_runner(number) == NO_FILE ? 0 : -EBUSY;
 	return kernel_result(CALL_CANCEL, result);
