@@ -178,10 +178,10 @@ static int look(struct ask *a, uint64_t *next)
 	timers_ring();
 	a->seen = device_changes();
 	int ready = ask_ready(a);
-	if (a->has_file && server_is_lost())
-		ready = -EIO;
 	if (!ready)
 		*next = next_time(a);
+	if (a->has_file && server_is_lost())
+		ready = -EIO;
 	device_leave();
 	return ready;
 }
