@@ -1,10 +1,28 @@
 /*
- * Which versions of the C library's names are linked. Version 2.34 joined several libraries into one and gave some names a new
- * version, though they do the same. With their first versions the device can also be loaded where the C library is older, from
- * 2.31 on.
+ * What differs between versions of the C library, from 2.31 on: which names are linked, and what older headers don't have.
+ *
+ * Version 2.34 joined several libraries into one and gave some names a new version, though they do the same. With their first
+ * versions the device can also be loaded where the C library is older.
  */
 #ifndef VERSIONS_H
 #define VERSIONS_H
+
+#include <linux/close_range.h>
+#include <signal.h>
+#include <sys/syscall.h>
+#include <time.h>
+
+#ifndef SYS_close_range
+#define SYS_close_range 436
+#endif
+#ifndef CLOSE_RANGE_CLOEXEC
+#define CLOSE_RANGE_CLOEXEC (1u << 2)
+#endif
+
+struct epoll_event;
+int close_range(unsigned first, unsigned last, int flags);
+void closefrom(int first);
+int epoll_pwait2(int set, struct epoll_event *events, int most, const struct timespec *time, const sigset_t *signals);
 
 #if defined __x86_64__ && !defined __SANITIZE_ADDRESS__
 #define LINK_VERSION(name, version) __asm__(".symver " #name "," #name "@GLIBC_" #version)
