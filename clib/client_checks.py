@@ -60,9 +60,9 @@ def files(check):
     for more in ("", ":" + check.path("old_library.so")):
         check.client("condition", "wide", LD_PRELOAD=check.path(LIBRARY) + more)
     run = check.client("bytes", "wide")
-    # eight words of the first output, and one of the second
+    # eight words of the first output, two of the second, and one of the third
     words = [int(line.split()[4]) for line in run.outs()]
-    check.expect("bytes: what was put out", words == [0, 2, 4, 6, 8, 10, 12, 14, 0], words)
+    check.expect("bytes: what was put out", words == [0, 2, 4, 6, 8, 10, 12, 14, 5, 7, 0], words)
     check.compare_record("bytes", "wide", run, [0, 1, 2, 3, 10, 20, 30])
     check.client("closing", "wide")
     check.client("paths", "wide")

@@ -31,6 +31,10 @@ void descriptors_protect(int *place);
 int descriptors_are_private(int descriptor);
 void descriptors_make_way(int descriptor);
 
+/* listings.c */
+int listings_have(const char *path, int (*fits)(const char *line, const void *what), const void *what);
+const char *listings_word(const char *line, int index);
+
 /* sockets.c */
 int sockets_has(uint64_t inode);
 

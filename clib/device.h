@@ -72,6 +72,8 @@ struct file {
 	/* O_RDONLY, O_WRONLY or O_RDWR, as it was opened, the signal that the client wants of it (F_SETSIG), or 0, the number of the
 	 * device by whose name it was opened, and the inode of its descriptors */
 	int mode, signal, minor;
+	/* the other flags of its open that the kernel shows of a file, and doesn't know of a socket */
+	int flags;
 	uint64_t inode;
 	pid_t opener;
 	int read_subdevice, write_subdevice;
@@ -203,6 +205,7 @@ int buffer_make_memory(void);
 int buffer_map(int file, int number);
 int buffer_take(int file, int number, unsigned most, uint32_t *samples);
 int buffer_memory(void);
+int buffer_is_mapped(int number);
 
 /* board.c */
 int board_ask(void);

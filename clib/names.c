@@ -10,6 +10,7 @@
 #include <dlfcn.h>
 #include <errno.h>
 #include <fcntl.h>
+#include <linux/fs.h>
 #include <pthread.h>
 #include <stdarg.h>
 #include <sys/ioctl.h>
@@ -37,7 +38,7 @@ long names_answer(long result)
 /* Whether a request is one that the kernel answers itself, before it asks the driver of a file. */
 static int is_of_any_file(unsigned long request)
 {
-	return request == FIONBIO || request == FIOASYNC || request == FIOCLEX || request == FIONCLEX;
+	return request == FIONBIO || request == FIOASYNC || request == FIOCLEX || request == FIONCLEX || request == FIGETBSZ;
 }
 
 static int control(int file, unsigned long request, void *argument)

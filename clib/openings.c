@@ -17,13 +17,17 @@
 
 /* what the kernel puts into the flags of each file that a program of 64 bits opens */
 #define LARGE_FILE 0100000
+/* what else it shows of those of an open */
+#define SHOWN_FLAGS (O_NOFOLLOW | O_NOATIME | O_SYNC)
 
-/* Refuses to open the device as a folder or as a new file. */
+/* Refuses to open the device as a folder, as a new file, or past the system's memory of files. */
 static int check_flags(int flags)
 {
 	if (flags & O_DIRECTORY)
 		return -ENOTDIR;
-	return (flags & (O_CREAT | O_EXCL)) == (O_CREAT | O_EXCL) ? -EEXIST : 0;
+	if ((flags & (O_CREAT | O_EXCL)) == (O_CREAT | O_EXCL))
+		return -EEXIST;
+	return flags & O_DIRECT ? -EINVAL : 0;
 }
 
 static int open_device(const char *path, int flags)
@@ -34,6 +38,7 @@ static int open_device(const char *path, int flags)
 	if (file < 0)
 		return names_answer(file);
 	device->file[file].minor = device_minor(path);
+	device->file[file].flags = flags & SHOWN_FLAGS;
 	int descriptor = descriptors_make(file, flags);
 	if (descriptor < 0) {
 		device->file[file].is_new = 0;
@@ -227,7 +232,7 @@ static int flags_of(int descriptor, int what, int result)
 		return result;
 	if (what == F_SETFL)
 		descriptors_note_flags(descriptor);
-	return what == F_GETFL ? (result & ~O_ACCMODE) | LARGE_FILE | device->file[file].mode : result;
+	return what == F_GETFL ? (result & ~O_ACCMODE) | LARGE_FILE | device->file[file].mode | device->file[file].flags : result;
 }
 
 /* Sets or returns the signal that a client wants of a file of the device. The kernel's is the mark of such files. */

@@ -98,6 +98,16 @@ static void ask_without_commands(void)
 	report("poll of no subdevice", ioctl(descriptor, COMEDI_POLL, 99));
 }
 
+/* A buffer that is mapped keeps its size. */
+static void ask_mapped(void)
+{
+	comedi_bufconfig size = { .subdevice = 0, .size = 2 };
+	void *place = mmap(NULL, 4096, PROT_READ, MAP_SHARED, descriptor, 0);
+	report("a smaller buffer, mapped", ioctl(descriptor, COMEDI_BUFCONFIG, &size));
+	munmap(place, 4096);
+	report("a smaller buffer, not mapped", ioctl(descriptor, COMEDI_BUFCONFIG, &size));
+}
+
 static void ask_busy(void)
 {
 	comedi_t *other = open_board();
@@ -139,6 +149,7 @@ int main(void)
 	ask_maps();
 	ask_routes();
 	ask_without_commands();
+	ask_mapped();
 	ask_busy();
 	write_from_nowhere();
 	comedi_close(device);

@@ -8,6 +8,8 @@
 #include "client.h"
 #include <dlfcn.h>
 #include <fcntl.h>
+#include <linux/fs.h>
+#include <sys/ioctl.h>
 #include <sys/stat.h>
 #include <sys/sysmacros.h>
 #include <sys/uio.h>
@@ -62,9 +64,13 @@ static void open_otherwise(void)
 {
 	report("open as a folder", open(NAME, O_RDONLY | O_DIRECTORY));
 	report("open as a new file", open(NAME, O_RDWR | O_CREAT | O_EXCL, 0600));
+	report("open past the system's memory", open(NAME, O_RDWR | O_DIRECT));
 	report("open of no name", open(no_name, O_RDONLY));
-	int appends = open(NAME, O_RDWR | O_APPEND | O_NONBLOCK), flags = fcntl(appends, F_GETFL);
-	printf("its flags:%s%s%s\n", (flags & O_ACCMODE) == O_RDWR ? " O_RDWR" : "", flags & O_APPEND ? " O_APPEND" : "", flags & O_NONBLOCK ? " O_NONBLOCK" : "");
+	int appends = open(NAME, O_RDWR | O_APPEND | O_NONBLOCK | O_NOFOLLOW), flags = fcntl(appends, F_GETFL), block = 0;
+	printf("its flags:%s%s%s%s\n", (flags & O_ACCMODE) == O_RDWR ? " O_RDWR" : "", flags & O_APPEND ? " O_APPEND" : "",
+		flags & O_NONBLOCK ? " O_NONBLOCK" : "", flags & O_NOFOLLOW ? " O_NOFOLLOW" : "");
+	report("FIGETBSZ", ioctl(appends, FIGETBSZ, &block));
+	printf("a block: %d\n", block);
 	close(appends);
 }
 
