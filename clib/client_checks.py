@@ -66,6 +66,7 @@ def files(check):
     check.compare_record("bytes", "wide", run, [0, 1, 2, 3, 10, 20, 30])
     check.client("closing", "wide")
     check.client("paths", "wide")
+    check.client("named", "wide")
     check.client("edges", "wide")
     check.client("tables", "wide")
     check.client("worker", "wide")
