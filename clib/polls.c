@@ -236,15 +236,19 @@ static int poll_any(struct ask *a, uint64_t end)
 	}
 }
 
-/* Polls files of the device among others. This takes a call's time, and the files stay open meanwhile. */
+/* Polls files of the device among others. This takes a call's time, and the files stay open meanwhile. A single thread can't
+ * close them. */
 static int poll_files(struct ask *a, int64_t nanoseconds)
 {
 	int result;
 	if (a->count > MOST_POLLED)
 		return -EINVAL;
+	a->held = turns_is_only_thread() ? 0 : a->held;
 	device_begin_calls(a->held);
 	time_call();
 	device_leave();
+	if (!a->held)
+		return poll_any(a, time_after(nanoseconds));
 	pthread_cleanup_push(device_end_calls, &a->held);
 	result = poll_any(a, time_after(nanoseconds));
 	pthread_cleanup_pop(1);
