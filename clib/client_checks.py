@@ -67,6 +67,8 @@ def files(check):
     check.client("closing", "wide")
     check.client("paths", "wide")
     check.client("named", "wide")
+    run = check.run("wide", ["ls", "-l", "/dev/comedi0"])
+    check.expect("ls -l", run.status == 0 and run.out.startswith("crw-rw----") and "98, 0" in run.out and not run.err, run.status, run.out, run.err)
     check.client("edges", "wide")
     check.client("tables", "wide")
     check.client("worker", "wide")

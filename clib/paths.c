@@ -11,6 +11,7 @@
 #include <sys/stat.h>
 #include <sys/syscall.h>
 #include <sys/sysmacros.h>
+#include <sys/xattr.h>
 #include <unistd.h>
 
 /* the number of the kernel's devices of Comedi */
@@ -169,3 +170,17 @@ PUBLIC int faccessat(int folder, const char *path, int how, int flags)
 {
 	return device_has_name(path) ? may_use(how) : REAL(faccessat)(folder, path, how, flags);
 }
+
+/* The device has no attributes beside those. `ls -l` asks for them. */
+#define ATTRIBUTE(name, list) \
+	PUBLIC ssize_t name(const char *path, const char *attribute, void *to, size_t bytes) \
+	{ \
+		return device_has_name(path) ? names_answer(-ENODATA) : REAL(name)(path, attribute, to, bytes); \
+	} \
+	PUBLIC ssize_t list(const char *path, char *to, size_t bytes) \
+	{ \
+		return device_has_name(path) ? 0 : REAL(list)(path, to, bytes); \
+	}
+
+ATTRIBUTE(getxattr, listxattr)
+ATTRIBUTE(lgetxattr, llistxattr)
