@@ -64,6 +64,7 @@ def files(check):
     words = [int(line.split()[4]) for line in run.outs()]
     check.expect("bytes: what was put out", words == [0, 2, 4, 6, 8, 10, 12, 14, 5, 7, 0], words)
     check.compare_record("bytes", "wide", run, [0, 1, 2, 3, 10, 20, 30])
+    check.client("outless", "small")
     check.client("closing", "wide")
     check.client("paths", "wide")
     check.client("named", "wide")
