@@ -191,7 +191,7 @@ static long call_set(int descriptor)
 	case 0:
 		return epoll_ctl(set, changes[below(3)], descriptor, events);
 	case 1:
-		return fcntl(descriptor, F_SETFL, O_NONBLOCK | (below(12) ? 0 : O_ASYNC));
+		return fcntl(descriptor, F_SETFL, O_NONBLOCK | (below(40) ? 0 : O_ASYNC));
 	case 2:
 		return usleep(below(4000));
 	}
