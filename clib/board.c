@@ -29,7 +29,7 @@ static void start_subdevice(const long *numbers)
 	s->list_length = numbers[3];
 	s->buffer = numbers[4];
 	s->sample_bytes = s->flags & SDF_LSAMPL ? sizeof(lsampl_t) : sizeof(sampl_t);
-	scans_begin(s, 1, 0);
+	scans_begin(s, 1, 0, 0);
 }
 
 /* One of its channels: its greatest code, and three numbers for each range. */
@@ -99,13 +99,22 @@ static void ask_claims(struct claim *claims)
 	}
 }
 
-int board_runner(unsigned number)
+/* Puts for each subdevice the file that called its command, or NO_FILE. */
+void board_runners(int *runners)
 {
 	struct claim claims[MOST_SUBDEVICES];
+	ask_claims(claims);
+	for (unsigned i = 0; i < device->subdevices; i++)
+		runners[i] = claims[i].runner;
+}
+
+int board_runner(unsigned number)
+{
+	int runners[MOST_SUBDEVICES];
 	if (number >= device->subdevices)
 		return NO_FILE;
-	ask_claims(claims);
-	return claims[number].runner;
+	board_runners(runners);
+	return runners[number];
 }
 
 /* Who has the subdevice, and whether its command still runs: as long as more than any buffer holds is awaited. */

@@ -197,6 +197,8 @@ def words_of(check, script):
                                 (["board.txt", "./nowhere"], 127, "./nowhere: No such file or directory"), (["board.txt", "nowhere-"], 127, "nowhere-: command not found"),
                                 (["board.txt", "./tests"], 126, "./tests: Is a directory"), (["board.txt", "./board.txt"], 126, "./board.txt: Permission denied")):
         script.expect(" ".join(words), words, (status, "", "with_board: %s\n" % said))
+    script.expect("a program that goes elsewhere", ["board.txt", "sh", "-c", "cd / && exec \"$0\"", late], (0, text_of("late.expected"), ""), ZENDROUZ_LOG="own.log")
+    check.expect("with_board: its record", os.path.exists(check.path("own.log")), os.listdir(check.folder))
     script.expect("a program's status and words", ["board.txt", "sh", "-c", "echo \"$1\"; exit 7", "sh", "a  b"], (7, "a  b\n", ""))
 
 

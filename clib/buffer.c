@@ -10,8 +10,10 @@
 #include <errno.h>
 #include <fcntl.h>
 #include <stdio.h>
+#include <stdlib.h>
 #include <string.h>
 #include <sys/mman.h>
+#include <sys/stat.h>
 #include <sys/syscall.h>
 #include <unistd.h>
 
@@ -107,8 +109,9 @@ int buffer_make_memory(void)
 	}
 	memory = keep_away(memfd_create("comedi-buffers", MFD_CLOEXEC));
 	descriptors_protect(&memory);
-	if (memory < 0 || ftruncate(memory, whole))
-		return -ENOMEM;
+	int result = memory_lengthen(memory, whole);
+	if (result)
+		return result;
 	char *place = mmap(NULL, whole, PROT_READ | PROT_WRITE, MAP_SHARED, memory, 0);
 	if (place == MAP_FAILED)
 		return -ENOMEM;
@@ -121,6 +124,34 @@ int buffer_make_memory(void)
 int buffer_memory(void)
 {
 	return memory;
+}
+
+/* A part of the file of all buffers. */
+struct part {
+	uint64_t inode, start, length;
+};
+
+/* the list of what this process has mapped, and which words of a line are the place in the file and the inode */
+#define MAPS "/proc/self/maps"
+#define PLACE_WORD 2
+#define INODE_WORD 4
+
+static int maps_part(const char *line, const void *what)
+{
+	const struct part *part = what;
+	uint64_t place = strtoull(listings_word(line, PLACE_WORD), NULL, 16), inode = strtoull(listings_word(line, INODE_WORD), NULL, 10);
+	return inode == part->inode && place >= part->start && place - part->start < part->length;
+}
+
+/* Returns whether a client has mapped the buffer of a subdevice and not given it back. The library's own map starts before all
+ * buffers. */
+int buffer_is_mapped(int number)
+{
+	const struct subdevice *s = &device->subdevice[number];
+	struct stat state;
+	if (!s->is_mapped || syscall(SYS_fstat, memory, &state))
+		return 0;
+	return listings_have(MAPS, maps_part, &(struct part){ state.st_ino, s->memory_offset, memory_bytes(s) }) == 1;
 }
 
 /* A client is about to map the buffer: from now on it is kept filled. */
@@ -152,6 +183,25 @@ static int mark_words(int file, int number, uint64_t written, uint64_t asked)
 			break;
 	}
 	return done;
+}
+
+/* Marks bytes of the memory as written, also those of a part of a word, which is put out when all of it is marked. Returns how
+ * many, and counts the words. */
+static int mark_bytes(int file, int number, struct counts *counts, size_t bytes)
+{
+	struct subdevice *s = &device->subdevice[number];
+	size_t size = s->sample_bytes, before = s->part, whole = (before + bytes) / size, part = (before + bytes) % size;
+	char *memory = s->memory;
+	memcpy(memory + counts->written % s->buffer * size, s->part_bytes, before);
+	int marked = mark_words(file, number, counts->written, whole);
+	if (marked < 0 || (!marked && whole))
+		return marked;
+	counts->written += marked;
+	/* the part of a word has room if the word has */
+	int has_room = counts->room > (uint64_t)marked || (!whole && before);
+	s->part = (size_t)marked == whole && has_room ? part : 0;
+	memcpy(s->part_bytes, memory + counts->written % s->buffer * size, s->part);
+	return marked * size + s->part - before;
 }
 
 /* The counts in bytes, with those of a sample that the client has moved a part of. */
@@ -203,11 +253,10 @@ static int output_info(int file, int number, comedi_bufinfo *info, struct counts
 		int result = scans_put(file, number, 1, &last);
 		return result == END_REPORTED ? 0 : result;
 	}
-	int marked = mark_words(file, number, counts->written, info->bytes_written / s->sample_bytes);
+	int marked = mark_bytes(file, number, counts, info->bytes_written);
 	if (marked < 0)
 		return marked;
-	info->bytes_written = marked * s->sample_bytes;
-	counts->written += marked;
+	info->bytes_written = marked;
 	put_counts(s, counts, info);
 	return 0;
 }

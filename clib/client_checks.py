@@ -2,6 +2,7 @@
 
 import os
 import re
+import shutil
 import signal
 import subprocess
 import threading
@@ -14,6 +15,8 @@ RANDOM_SECONDS = 200
 # how many lines wide.board has, the text that the program of answers gets first
 LINES_OF_WIDE = text_of("wide.board").count("\n")
 CLIENTS_AT_ONCE = 64
+# the oldest C library that the device is for
+OLDEST_LIBRARY = (2, 31)
 
 
 def clients(check):
@@ -29,6 +32,7 @@ def clients(check):
         check.compare_record(name, "wide", run, [])
     run = check.client("forks", "wide")
     check.compare_record("forks", "wide", run, run.codes())
+    check.client("owners", "wide")
     for name in ("signals", "waiting"):
         run = check.client(name, "wide")
         check.compare_record(name, "wide", run, run.codes())
@@ -42,6 +46,7 @@ def clients(check):
     check.client("claims", "bench")
     check.client("wild", "wide")
     check.client("paced", "wide", ZENDROUZ_PACE="10")
+    check.client("beside", "wide", ZENDROUZ_PACE="0.5")
 
 
 def files(check):
@@ -51,13 +56,21 @@ def files(check):
     check.client("closed", "wide")
     check.client("stack", "wide", LD_BIND_NOW="1")
     check.client("answers", "wide")
+    check.client("nothing", "wide")
     for more in ("", ":" + check.path("old_library.so")):
         check.client("condition", "wide", LD_PRELOAD=check.path(LIBRARY) + more)
     run = check.client("bytes", "wide")
-    # eight words of the first output, and one of the second
+    # eight words of the first output, two of the second, and one of the third
     words = [int(line.split()[4]) for line in run.outs()]
-    check.expect("bytes: what was put out", words == [0, 2, 4, 6, 8, 10, 12, 14, 0], words)
+    check.expect("bytes: what was put out", words == [0, 2, 4, 6, 8, 10, 12, 14, 5, 7, 0], words)
     check.compare_record("bytes", "wide", run, [0, 1, 2, 3, 10, 20, 30])
+    check.client("outless", "small")
+    check.client("closing", "wide")
+    check.client("paths", "wide")
+    check.client("named", "wide")
+    run = check.run("wide", ["ls", "-l", "/dev/comedi0"])
+    check.expect("ls -l", run.status == 0 and run.out.startswith("crw-rw----") and "98, 0" in run.out and not run.err, run.status, run.out, run.err)
+    check.client("edges", "wide")
     check.client("tables", "wide")
     check.client("worker", "wide")
     slow = write_file(check.path("slow"), "#!/bin/sh\nsleep 1\nexec %s\n" % check.serve, True)
@@ -102,7 +115,7 @@ def times(check):
 def times_of_python(check):
     python = python_with_comedi()
     if not python:
-        check.say("no Python module of comedilib: its waits aren't tried")
+        check.leave_out("waits in Python", "there is no Python module of comedilib")
         return
     for clock in ("", "board") if check.quick else ("", "board", "", "", ""):
         run = check.run("saw", [python, os.path.join(TESTS, "python_waits.py")], ZENDROUZ_CLOCK=clock)
@@ -132,6 +145,8 @@ def wakes(check):
     """Threads that are woken by what another one does to the board, in board time and with a pace."""
     for _ in range(1 if check.quick else 5):
         check.client("woken", "wide")
+        for behind in ("", ":" + check.path("slow_waits.so")):
+            check.client("between", "wide", LD_PRELOAD=check.path(LIBRARY) + behind)
         run = check.client("pair", "wide")
         check.expect("pair: the samples of its record", len(check.replayed("wide", run.record)[0]) == 4000, run.record[-20:])
     watched = "command: 0\ncancel: 0\nthe last read: Invalid argument\n0 samples in 0 reads, 0 looks, 2000 ms\n"
@@ -267,6 +282,40 @@ def failures(check):
     check.client("orphan", "small", DYING_SILENTLY="1", **dying)
     run = check.run("small", [check.path("tests/late")], ZENDROUZ_CORE="/nowhere")
     check.expect("a program that isn't there", run.status == 1 and run.out == "open: Input/output error\n", run.out, run.err)
+
+
+def silences(check):
+    """A program of answers that says nothing. The client can be ended meanwhile, and the program ends with it."""
+    silent = write_file(check.path("silent"), "#!/bin/sh\nsleep 1000\n", True)
+    started = check.start([check.path("tests/late")], check.settings("small", ZENDROUZ_CORE=silent, ZENDROUZ_LOG=""))
+    time.sleep(0.5)
+    started.terminate()
+    began = time.monotonic()
+    out, err = check.finish(started, 20)
+    check.expect("a client that waits for a silent program can be ended", started.returncode == -signal.SIGTERM and time.monotonic() - began < 10, started.returncode, out, err)
+    check.expect_no_process("a client of a silent program")
+
+
+def limits(check):
+    """A client whose files may not be long is told so."""
+    run = check.run("small", ["sh", "-c", "ulimit -f 10; exec \"$0\"", check.path("tests/late")], ZENDROUZ_LOG="")
+    said = re.fullmatch(r"zendrouz: files may have \d+ bytes at most \(ulimit -f\), and the board's memory needs \d+. Allow more\n", run.err)
+    check.expect("a limit of file sizes", run.status == 1 and run.out == "open: File too large\n" and said, run.status, run.out, run.err)
+
+
+def newest_version(path):
+    """The newest version of the C library that a library needs."""
+    text = subprocess.run(["objdump", "-T", path], stdout=subprocess.PIPE).stdout.decode()
+    return max((tuple(int(part) for part in found.split(".")) for found in re.findall(r"GLIBC_([0-9.]+)", text)), default=())
+
+
+def versions(check):
+    """The library needs no newer C library than Debian 11 has."""
+    if not shutil.which("objdump"):
+        check.leave_out("the C library that is needed", "there is no objdump (Debian's package binutils)")
+        return
+    newest = newest_version(check.path(LIBRARY))
+    check.expect("the C library that is needed", (2, 2) < newest <= OLDEST_LIBRARY, newest)
 
 
 def is_broken_off(out, whole):

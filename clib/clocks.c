@@ -107,10 +107,12 @@ PUBLIC int clock_gettime(clockid_t clock, struct timespec *to)
 
 PUBLIC int gettimeofday(struct timeval *restrict to, void *restrict zone)
 {
+	/* a client may ask for its zone alone, though the header forbids it */
+	struct timeval *volatile place = to;
 	struct timespec now;
 	if (zone || !time_is_shown())
 		REAL(gettimeofday)(to, zone);
-	if (!time_is_shown())
+	if (!time_is_shown() || !place)
 		return 0;
 	clock_gettime(CLOCK_REALTIME, &now);
 	*to = (struct timeval){ now.tv_sec, now.tv_nsec / 1000 };

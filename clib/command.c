@@ -118,6 +118,12 @@ static int refuse_list(int file, comedi_cmd asked, int error)
 	return result == -EINVAL ? error : result;
 }
 
+/* Returns after how many scans a command stops: NEVER if it doesn't, and 0 if an edge stops it, which isn't known before. */
+static uint64_t stops_after(const comedi_cmd *command)
+{
+	return command->stop_src == TRIG_COUNT ? command->stop_arg : command->stop_src == TRIG_NONE ? NEVER : 0;
+}
+
 int command_call(int file, comedi_cmd *command)
 {
 	struct subdevice *s;
@@ -137,7 +143,7 @@ int command_call(int file, comedi_cmd *command)
 		ask_test(command);
 	if (!result) {
 		device_changed();
-		scans_begin(s, command->chanlist_len, device->wake == WAKE_SCAN || command->flags & CMDF_WAKE_EOS);
+		scans_begin(s, command->chanlist_len, device->wake == WAKE_SCAN || command->flags & CMDF_WAKE_EOS, stops_after(command));
 		s->filled = 0;
 	}
 	return kernel_result(CALL_COMMAND, result);

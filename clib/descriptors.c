@@ -38,9 +38,9 @@ enum kind { NOTHING, FILE_OF_DEVICE, TIMER };
 /* It is written under the lock, and a word of it is read without. Beyond `used` words nothing was ever written. */
 static uint64_t table[DESCRIPTORS];
 static int used;
-/* which of them want a signal when samples come, and how many do */
-static unsigned char asynchronous[DESCRIPTORS];
-static int waiting_for_signals;
+/* which files of the session want a signal when something comes, a bit for each, and by which number that was asked for */
+static unsigned asynchronous;
+static int asked_by[MOST_FILES];
 /* whether the kernel takes marks */
 static int has_marks = 1;
 /* whose numbers these are: a child made by vfork has this memory, and numbers of its own */
@@ -137,10 +137,12 @@ static void write_word(int descriptor, uint64_t word)
 	__atomic_store_n(table + descriptor, word, __ATOMIC_RELEASE);
 }
 
-static void want_signals(int descriptor, int wants)
+static void want_signals(int file, int wants)
 {
-	__atomic_add_fetch(&waiting_for_signals, wants - asynchronous[descriptor], __ATOMIC_SEQ_CST);
-	asynchronous[descriptor] = wants;
+	if (wants)
+		__atomic_or_fetch(&asynchronous, 1u << file, __ATOMIC_SEQ_CST);
+	else
+		__atomic_and_fetch(&asynchronous, ~(1u << file), __ATOMIC_SEQ_CST);
 }
 
 /* Returns whether a file of the session has a number in this process, within the lock. */
@@ -163,9 +165,11 @@ static int take_out(int descriptor)
 		timers_forget(index_of(word));
 		return NO_FILE;
 	}
-	want_signals(descriptor, 0);
 	sets_forget_member(descriptor);
-	return descriptors_have(index_of(word)) ? NO_FILE : index_of(word);
+	if (descriptors_have(index_of(word)))
+		return NO_FILE;
+	want_signals(index_of(word), 0);
+	return index_of(word);
 }
 
 /* Forgets a number that goes, or that is another file's from now on. Returns the file of the session that has no number any
@@ -232,6 +236,8 @@ int descriptors_make(int file, int flags)
 		REAL(close)(descriptor);
 		return -EMFILE;
 	}
+	if (flags & O_APPEND)
+		REAL(fcntl)(descriptor, F_SETFL, flags & (O_APPEND | O_NONBLOCK));
 	has_marks = has_marks && !REAL(fcntl)(descriptor, F_SETSIG, MARK);
 	descriptors_enter(&quiet);
 	device->file[file].never_waits = (flags & O_NONBLOCK) != 0;
@@ -272,16 +278,25 @@ void descriptors_note_flags(int descriptor)
 	uint64_t word = word_of(descriptor);
 	if (flags >= 0 && kind_of(word) == FILE_OF_DEVICE) {
 		device->file[index_of(word)].never_waits = (flags & O_NONBLOCK) != 0;
-		want_signals(descriptor, (flags & O_ASYNC) != 0);
+		want_signals(index_of(word), (flags & O_ASYNC) != 0);
+		asked_by[index_of(word)] = descriptor;
 	}
 	descriptors_leave(&quiet);
 }
 
-/* Returns the first descriptor of the device that wants signals, or -1. */
-int descriptors_asynchronous(void)
+/* Returns which files of the session want a signal when something comes, a bit for each. */
+unsigned descriptors_asynchronous(void)
 {
-	for (int i = 0; waiting_for_signals && i < __atomic_load_n(&used, __ATOMIC_ACQUIRE); i++)
-		if (asynchronous[i] && descriptors_file(i) != NO_FILE)
+	return __atomic_load_n(&asynchronous, __ATOMIC_SEQ_CST);
+}
+
+/* Returns a number of a file of the session, or -1: the one by which it was asked for signals, if it's still there. */
+int descriptors_of(int file)
+{
+	if (descriptors_file(asked_by[file]) == file)
+		return asked_by[file];
+	for (int i = 0; i < __atomic_load_n(&used, __ATOMIC_ACQUIRE); i++)
+		if (descriptors_file(i) == file)
 			return i;
 	return -1;
 }

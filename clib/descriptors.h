@@ -24,11 +24,16 @@ int descriptors_forget(int descriptor);
 int descriptors_have(int file);
 void descriptors_sweep(void);
 void descriptors_note_flags(int descriptor);
-int descriptors_asynchronous(void);
+unsigned descriptors_asynchronous(void);
+int descriptors_of(int file);
 int keep_away(int descriptor);
 void descriptors_protect(int *place);
 int descriptors_are_private(int descriptor);
 void descriptors_make_way(int descriptor);
+
+/* listings.c */
+int listings_have(const char *path, int (*fits)(const char *line, const void *what), const void *what);
+const char *listings_word(const char *line, int index);
 
 /* sockets.c */
 int sockets_has(uint64_t inode);
@@ -38,5 +43,6 @@ void timers_forget(int index);
 void timers_forget_set(int set);
 void sets_forget(int set);
 void sets_forget_member(int descriptor);
+void sets_begin_child(void);
 
 #endif

@@ -6,6 +6,7 @@
 #include "device.h"
 #include "server.h"
 #include <errno.h>
+#include <fcntl.h>
 #include <stdio.h>
 #include <stdlib.h>
 #include <string.h>
@@ -14,6 +15,10 @@
 #include <sys/wait.h>
 #include <unistd.h>
 
+/* how the names of devices start, and the number of the first subdevice that has a device of its own */
+#define PREFIX "/dev/comedi"
+#define FIRST_OF_SUBDEVICES 48
+
 struct device *device;
 
 /* how the client was interrupted before it came in, and its errno, which only a call that fails changes */
@@ -21,6 +26,8 @@ static __thread struct quiet outside;
 static __thread int outside_errno;
 /* how many threads of this process are in the device, or on their way in */
 static int callers;
+/* how many threads of this process are in a call of each file, and whether its last descriptor was closed meanwhile */
+static int calls[MOST_FILES], is_left[MOST_FILES];
 /* one thread of this process opens a board at a time */
 static pthread_mutex_t opening = PTHREAD_MUTEX_INITIALIZER;
 
@@ -53,10 +60,17 @@ uint64_t device_changes(void)
 	return __atomic_load_n(&device->changes, __ATOMIC_SEQ_CST);
 }
 
-/* Notes that a call has changed what others wait for. They look again. */
-void device_changed(void)
+/* Ends the waits of others for the board. They look again. */
+void device_wake(void)
 {
 	__atomic_add_fetch(&device->changes, 1, __ATOMIC_SEQ_CST);
+}
+
+/* Notes that a call has changed what others wait for. */
+void device_changed(void)
+{
+	__atomic_add_fetch(&device->commands, 1, __ATOMIC_SEQ_CST);
+	device_wake();
 }
 
 int device_callers(void)
@@ -87,6 +101,7 @@ void device_share(void)
 void device_begin_child(void)
 {
 	callers = 0;
+	memset(calls, 0, sizeof calls);
 }
 
 static int ends_with(const char *text, const char *end)
@@ -95,12 +110,26 @@ static int ends_with(const char *text, const char *end)
 	return length > tail && !strcmp(text + length - tail, end);
 }
 
-/* /dev/comedi0 and its like are the board that ZENDROUZ_BOARD names. A file *.board is a board itself. */
-int device_serves(const char *path)
+/* Returns whether a name is that of a device: /dev/comedi0 and its like are the board that ZENDROUZ_BOARD names. */
+int device_has_name(const char *path)
 {
-	if (ends_with(path, ".board"))
+	return path && !strncmp(path, PREFIX, sizeof PREFIX - 1) && getenv("ZENDROUZ_BOARD");
+}
+
+/* Returns the number of a device among those of Comedi: N of /dev/comediN, and of its subdevices the kernel has others. */
+int device_minor(const char *path)
+{
+	const char *number = device_has_name(path) ? path + sizeof PREFIX - 1 : "", *subdevice = strstr(number, "_subd");
+	return subdevice ? FIRST_OF_SUBDEVICES + atoi(subdevice + 5) : atoi(number);
+}
+
+/* Returns whether to open a name is to open a board. A file *.board is a board itself for who opens it to read and write, as
+ * Comedi's programs do. To all others, as editors, it's a file. */
+int device_serves(const char *path, int flags)
+{
+	if (device_has_name(path))
 		return 1;
-	return !strncmp(path, "/dev/comedi", 11) && getenv("ZENDROUZ_BOARD");
+	return path && ends_with(path, ".board") && (flags & O_ACCMODE) == O_RDWR && !(flags & O_CREAT);
 }
 
 /* Says why a board isn't there: the program refuses its text, or can't be run. */
@@ -196,7 +225,7 @@ static int open_file(void)
 /* Opens the device, and answers the number of the session's file. One process has one board. */
 int device_open(const char *path)
 {
-	const char *board = strncmp(path, "/dev/comedi", 11) ? path : getenv("ZENDROUZ_BOARD");
+	const char *board = device_has_name(path) ? getenv("ZENDROUZ_BOARD") : path;
 	struct quiet quiet;
 	quiet_begin(&quiet);
 	device_hold();
@@ -233,15 +262,16 @@ static int has_ended(pid_t process)
 	return !waitid(P_PID, process, &information, WEXITED | WNOHANG | WNOWAIT) && information.si_pid == process;
 }
 
-/* Returns whether a process has a descriptor of a file. If a child of its opener may have one, the kernel is asked. Called
- * within the device. */
+/* Returns whether a process has a descriptor of a file, or a thread of this one is in a call of it. If a child of its opener may
+ * have one, the kernel is asked. Called within the device. */
 static int is_held(int file)
 {
 	const struct file *f = &device->file[file];
 	descriptors_hold();
 	int is_here = descriptors_have(file);
 	descriptors_let_go();
-	if (is_here)
+	is_left[file] = calls[file] && !is_here;
+	if (is_here || is_left[file])
 		return 1;
 	if (f->is_new)
 		return !has_ended(f->opener);
@@ -267,4 +297,47 @@ void device_close_left(void)
 	for (int i = 0; i < MOST_FILES; i++)
 		if (device->file[i].is_open && !is_held(i))
 			close_file(i);
+}
+
+/* Enters for a call of a file. As in the kernel the file stays open up to the end of the call, though another thread may close
+ * its last descriptor meanwhile. Returns 0 if it isn't open any more. */
+int device_begin_call(int file)
+{
+	device_enter();
+	if (!device->file[file].is_open) {
+		device_leave();
+		return 0;
+	}
+	calls[file]++;
+	return 1;
+}
+
+static void end_call(int file)
+{
+	if (!--calls[file] && is_left[file] && device->file[file].is_open && !is_held(file))
+		close_file(file);
+}
+
+void device_end_call(int file)
+{
+	end_call(file);
+	device_leave();
+}
+
+/* Enters for a call of some files, a bit for each. */
+void device_begin_calls(unsigned files)
+{
+	device_enter();
+	for (int i = 0; i < MOST_FILES; i++)
+		calls[i] += files >> i & 1;
+}
+
+/* Ends a call from outside of the device, also if its thread is cancelled in a wait. */
+void device_end_calls(void *files)
+{
+	device_enter();
+	for (int i = 0; i < MOST_FILES; i++)
+		if (*(const unsigned *)files >> i & 1)
+			end_call(i);
+	device_leave();
 }

@@ -8,6 +8,7 @@
 #ifndef DEVICE_H
 #define DEVICE_H
 
+#include "versions.h"
 #include <comedi.h>
 #include <limits.h>
 #include <pthread.h>
@@ -46,6 +47,8 @@ struct subdevice {
 	/* what is handed over at once, in entries of the list and in the client's samples: a scan of a digital subdevice, and
 	 * else one entry, which is one sample; and how many samples a scan has where the end of each wakes a read, or 0 */
 	unsigned unit_entries, unit_samples, waking_samples;
+	/* how many samples its command has at its end; NEVER if it has no end, and 0 if that isn't known */
+	uint64_t total;
 	/* samples on their way: an input's that the session has given and the client not taken, or an output's that the client
 	 * has given and the session not taken. They are a part of such a piece, or what the client couldn't take */
 	unsigned rests;
@@ -66,9 +69,11 @@ struct file {
 	/* whether it has no descriptor yet, whether a child may have it too, whether its last read had to wait, and whether its
 	 * calls never wait: O_NONBLOCK as it was set last */
 	int is_open, is_new, is_shared, has_waited, never_waits;
-	/* O_RDONLY, O_WRONLY or O_RDWR, as it was opened, the inode of its descriptors, and the signal that the client wants of it
-	 * (F_SETSIG), or 0 */
-	int mode, signal;
+	/* O_RDONLY, O_WRONLY or O_RDWR, as it was opened, the signal that the client wants of it (F_SETSIG), or 0, the number of the
+	 * device by whose name it was opened, and the inode of its descriptors */
+	int mode, signal, minor;
+	/* the other flags of its open that the kernel shows of a file, and doesn't know of a socket */
+	int flags;
 	uint64_t inode;
 	pid_t opener;
 	int read_subdevice, write_subdevice;
@@ -97,8 +102,11 @@ struct device {
 	/* board time, in nanoseconds, which ends at the horizon; and the client's, which is the same and has no end */
 	uint64_t now, horizon, client_now, call_time;
 	double pace;
-	/* how often a call changed what others wait for: a command, a trigger, a cancel, a close, and that nothing is answered */
-	uint64_t changes;
+	/* how often a call changed what others wait for: a command, a trigger, a cancel, a close, and that nothing is answered; and
+	 * how often waits for the board were ended, by these and by changes of sets */
+	uint64_t commands, changes;
+	/* when signals were sent last since something had come (signals.c), or 0 */
+	uint64_t signalled;
 	uint64_t wall_start;
 	/* whether the client's clocks show its time, what each showed at 0, and the date at 0 if it's set, in seconds */
 	int shows_time;
@@ -128,11 +136,18 @@ void quiet_end(const struct quiet *quiet);
 int device_open(const char *path);
 void device_close(int file);
 void device_close_left(void);
-int device_serves(const char *path);
+int device_has_name(const char *path);
+int device_minor(const char *path);
+int device_serves(const char *path, int flags);
 void device_enter(void);
 void device_leave(void);
+int device_begin_call(int file);
+void device_end_call(int file);
+void device_begin_calls(unsigned files);
+void device_end_calls(void *files);
 int device_callers(void);
 uint64_t device_changes(void);
+void device_wake(void);
 void device_changed(void);
 void device_hold(void);
 void device_let_go(void);
@@ -154,13 +169,21 @@ ssize_t stream_take(int file, int number, char *to, size_t bytes);
 int stream_ready_to_read(int file);
 int stream_ready_to_write(int file);
 int stream_next_time(int file, int reads, int writes, uint64_t *time);
-int stream_next_samples(int file, uint64_t *time);
+int stream_next_event(int file, int number, uint64_t *time);
+int stream_next_change(int file, int reads, int writes, uint64_t *time);
+
+/* How much has happened to a file: how often commands of the board were changed, and what those of the file have read and put
+ * out. */
+struct happened {
+	uint64_t commands, read, written;
+};
+void stream_happened(int file, struct happened *happened);
 
 /* scans.c: the client's samples. How many were read and written, and for an output how many more have room. */
 struct counts {
 	uint64_t read, written, room;
 };
-void scans_begin(struct subdevice *s, unsigned entries, int each_wakes);
+void scans_begin(struct subdevice *s, unsigned entries, int each_wakes, uint64_t stops_after);
 unsigned scans_capacity(const struct subdevice *s);
 unsigned scans_of_line(const struct subdevice *s, unsigned values);
 int scans_count(int file, int number, struct counts *counts);
@@ -171,6 +194,7 @@ int scans_fetch(int file, int number, uint32_t *sample);
 void scans_give_back(struct subdevice *s, unsigned count, const uint32_t *samples);
 int scans_put(int file, int number, unsigned count, const uint32_t *samples);
 int scans_end(int file, int number);
+int scans_have_failed(int file, int number, const struct counts *counts);
 int scans_map(int file, int number, uint64_t count);
 int scans_peek(int file, int number, uint64_t from, uint32_t *samples);
 int scans_release(int file, int number, unsigned count);
@@ -181,10 +205,12 @@ int buffer_make_memory(void);
 int buffer_map(int file, int number);
 int buffer_take(int file, int number, unsigned most, uint32_t *samples);
 int buffer_memory(void);
+int buffer_is_mapped(int number);
 
 /* board.c */
 int board_ask(void);
 int board_runner(unsigned number);
+void board_runners(int *runners);
 int board_is_input(const struct subdevice *s);
 int board_is_digital(const struct subdevice *s);
 int board_subdevices(int file, comedi_subdinfo *to);
@@ -226,6 +252,7 @@ uint64_t time_of_wall(void);
  * result. `due`, if any, has the time at which something comes by itself, which other threads may change. `seen`, if any, is
  * the count of changes of the board (device_changes) that the thread has seen: one more ends the wait with BOARD_CHANGED.
  * `signals`, if any, is the mask with which the client waits, in place of its own: then all signals are blocked already.
+ * `goes_on` is set of a wait that goes on after the handler of a signal has run.
  */
 struct wait {
 	int (*pause)(void *what, uint64_t nanoseconds, const sigset_t *signals);
@@ -233,17 +260,23 @@ struct wait {
 	void *what;
 	const uint64_t *seen;
 	const sigset_t *signals;
+	int goes_on;
 };
 #define BOARD_CHANGED INT_MAX
 int turns_wait(uint64_t end, const struct wait *wait);
 int turns_is_alone(void);
+int turns_is_only_thread(void);
 uint64_t turns_number(pid_t thread);
+uint64_t turns_number_of(pthread_t thread);
+void turns_note_signal(pthread_t thread, uint64_t turn, int number);
+int turns_let_in(pid_t thread, int number);
 void turns_hold(void);
 void turns_let_go(void);
 void turns_begin_child(void);
 
 /* threads.c */
 uint64_t threads_sleep(void);
+unsigned threads_number(void);
 void threads_hold(void);
 void threads_let_go(void);
 
@@ -256,5 +289,6 @@ void clocks_start(void);
 /* memory.c: within the device */
 int copy_in(void *to, const void *from, size_t bytes);
 int copy_out(void *to, const void *from, size_t bytes);
+int memory_lengthen(int descriptor, size_t bytes);
 
 #endif

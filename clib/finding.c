@@ -14,6 +14,8 @@
 static const char *const versioned[] = { "pthread_cond_signal", "pthread_cond_broadcast", "pthread_cond_timedwait" };
 #define VERSION "GLIBC_2.3.2"
 
+static const char *const old[] = { "GLIBC_2.2.5", "GLIBC_2.4" };
+
 /* Returns the next function of a name. */
 void *names_find(const char *name)
 {
@@ -23,5 +25,9 @@ void *names_find(const char *name)
 			return found;
 	}
 	/* on other machines there is no such version, and only one function */
-	return dlsym(RTLD_NEXT, name);
+	void *found = dlsym(RTLD_NEXT, name);
+	/* names that only old programs call are found by their versions alone */
+	for (size_t i = 0; !found && i < sizeof old / sizeof *old; i++)
+		found = dlvsym(RTLD_NEXT, name, old[i]);
+	return found;
 }

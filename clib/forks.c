@@ -40,6 +40,7 @@ static void begin_child(void)
 {
 	turns_begin_child();
 	descriptors_begin_child();
+	sets_begin_child();
 	record_begin_child();
 	device_begin_child();
 	let_go_of_all();

@@ -13,6 +13,9 @@
 #define MOST_WAIT 100000
 #define MOST_INSTRUCTIONS 65536
 #define BITS_OF_A_WORD 32
+/* what the kernel has and comedilib's header hasn't: INSN_DEVICE_CONFIG, and the number of its question for routes */
+#define DEVICE_CONFIG (INSN_CONFIG | INSN_MASK_SPECIAL)
+#define GET_ROUTES 3
 
 /* A subdevice that a line can name. There are 16 at most, so all above 255 are as little there as 255. */
 static unsigned number_of(const comedi_insn *instruction)
@@ -171,11 +174,22 @@ static int do_trigger(int file, const comedi_insn *instruction, const unsigned *
 	unsigned number = number_of(instruction);
 	int runner = board_runner(number);
 	int result = line_of_session("insn %d %u inttrig %u", runner == NO_FILE ? file : runner, number, data[0]);
-	device_changed();
+	if (!result)
+		device_changed();
 	/* if no command waits for a trigger, the kernel doesn't look at the lock */
 	if (result == -EACCES && runner == NO_FILE)
 		return -EAGAIN;
 	return result ? kernel_result(CALL_TRIGGER, result) : 1;
+}
+
+/* Answers questions for routes between lines, of which no board has any. For a driver without them the kernel answers that there
+ * are 0, and refuses to set one. */
+static int do_routes(const comedi_insn *instruction, unsigned *data)
+{
+	if (instruction->n < 2 || data[0] != GET_ROUTES)
+		return -EINVAL;
+	data[1] = 0;
+	return instruction->n;
 }
 
 /* An instruction whose data are here. */
@@ -189,6 +203,8 @@ int instruction_do(int file, comedi_insn *instruction, unsigned *data)
 		return do_wait(instruction, data);
 	case INSN_INTTRIG:
 		return do_trigger(file, instruction, data);
+	case DEVICE_CONFIG:
+		return do_routes(instruction, data);
 	case INSN_READ:
 		result = do_read(file, instruction, data);
 		break;

@@ -80,9 +80,9 @@ static int buffer_information(int file, void *argument)
 	return result < 0 ? result : copy_out(argument, &information, sizeof information);
 }
 
-/* The buffer has the size that the board's text says. A smaller one is as good; a larger one, or another limit, is refused
- * as of a user who may not. While a command has the buffer, its size can't be changed. A subdevice without commands has
- * none. */
+/* Sets or asks for the size of a buffer, which is what the board's text says. A smaller one is as good; a larger one, or another
+ * limit, is refused as of a user who may not. While a command has the buffer, or a client has mapped it, its size can't be
+ * changed. A subdevice without commands has none. */
 static int buffer_size(void *argument)
 {
 	comedi_bufconfig asked;
@@ -95,7 +95,7 @@ static int buffer_size(void *argument)
 	unsigned size = has_buffer ? s->buffer * s->sample_bytes : 0;
 	if (has_buffer && (asked.maximum_size || asked.size > size))
 		return -EPERM;
-	if (has_buffer && asked.size && board_runner(asked.subdevice) != NO_FILE)
+	if (has_buffer && asked.size && (board_runner(asked.subdevice) != NO_FILE || buffer_is_mapped(asked.subdevice)))
 		return -EBUSY;
 	asked.size = asked.maximum_size = size;
 	return copy_out(argument, &asked, sizeof asked);
@@ -111,7 +111,8 @@ static int lock_call(int file, unsigned number, int locks)
 static int cancel_call(int file, unsigned number)
 {
 	int result = line_of_session("cancel %d %u", file, number);
-	device_changed();
+	if (!result)
+		device_changed();
 	if (result == -EACCES)
 		return board_runner(number) == NO_FILE ? 0 : -EBUSY;
 	return kernel_result(CALL_CANCEL, result);

@@ -38,7 +38,7 @@ static int pause_semaphore(void *what, uint64_t nanoseconds, const sigset_t *sig
 
 static int wait_for_semaphore(sem_t *semaphore, uint64_t end)
 {
-	int result = signals_wait(end, &(struct wait){ .pause = pause_semaphore, .what = semaphore });
+	int result = turns_wait(end, &(struct wait){ .pause = pause_semaphore, .what = semaphore });
 	return result == CAME ? 0 : names_answer(result ? result : -ETIMEDOUT);
 }
 
@@ -110,7 +110,7 @@ static int wait_for_condition(pthread_cond_t *variable, pthread_mutex_t *mutex, 
 	struct condition c = { variable, mutex, *signals_of(variable) };
 	if ((const char *)variable >= python && (const char *)variable < python_end)
 		return wait_for_python(&c, end);
-	int result = turns_wait(end, &(struct wait){ .pause = pause_condition, .what = &c });
+	int result = turns_wait(end, &(struct wait){ .pause = pause_condition, .what = &c, .goes_on = 1 });
 	return result == CAME ? 0 : result ? -result : ETIMEDOUT;
 }
 
@@ -152,7 +152,7 @@ static int wait_for_lock(struct lock l, clockid_t clock, const struct timespec *
 {
 	if (!clocks_rule(clock, time))
 		return l.real(l.lock, clock, time);
-	turns_wait(clocks_end(clock, time), &(struct wait){ .pause = pause_lock, .what = &l });
+	turns_wait(clocks_end(clock, time), &(struct wait){ .pause = pause_lock, .what = &l, .goes_on = 1 });
 	return l.result;
 }
 

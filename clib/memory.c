@@ -4,8 +4,10 @@
  */
 #define _GNU_SOURCE
 #include "device.h"
+#include "server.h"
 #include <errno.h>
 #include <string.h>
+#include <sys/resource.h>
 #include <sys/syscall.h>
 #include <unistd.h>
 
@@ -34,4 +36,16 @@ int copy_out(void *to, const void *from, size_t bytes)
 			return -EFAULT;
 	}
 	return 0;
+}
+
+/* Makes a file of the library's own memory as long as it has to be. One that the client's limit of file sizes forbids isn't
+ * made, since the attempt would end the client (SIGXFSZ). Returns 0, or a negative error number. */
+int memory_lengthen(int descriptor, size_t bytes)
+{
+	struct rlimit most;
+	if (!getrlimit(RLIMIT_FSIZE, &most) && most.rlim_cur != RLIM_INFINITY && most.rlim_cur < bytes) {
+		message("files may have %llu bytes at most (ulimit -f), and the board's memory needs %zu. Allow more", (unsigned long long)most.rlim_cur, bytes);
+		return -EFBIG;
+	}
+	return descriptor < 0 || ftruncate(descriptor, bytes) ? -ENOMEM : 0;
 }

@@ -35,18 +35,28 @@ long names_answer(long result);
 int openings_fresh(int descriptor);
 
 /* polls.c */
-int polls_wait(struct pollfd *asked, nfds_t count, int64_t nanoseconds, const sigset_t *signals);
+int polls_wait(struct pollfd *asked, nfds_t count, int64_t nanoseconds);
+int polls_wait_for_set(int set, unsigned changes, struct pollfd *asked, nfds_t count, int64_t nanoseconds, const sigset_t *signals);
 void polls_restore_signals(void *signals);
 
+/* sets.c: a poll that isn't one of a set's members, and what is asked of a set */
+#define NO_SET (-1)
+unsigned sets_changes(void);
+int sets_have_edges(int set, int descriptor);
+int sets_have_news(int set, int descriptor, int file);
+
+/* events.c */
+uint64_t events_next(void);
+int events_tell(void);
+
 /* signals.c */
-int signals_wait(uint64_t end, const struct wait *wait);
+int signals_are_handled(uint64_t numbers);
 int64_t signals_sleep_until(uint64_t end);
 int64_t signals_sleep(uint64_t nanoseconds);
 int signals_exchange(const sigset_t *mask, sigset_t *old);
 int signals_restart(void);
 int signals_let_in(const sigset_t *mask);
 void signals_keep_out(const sigset_t *mask);
-void signals_send(void);
 
 /* timers.c */
 int timers_are_in(int descriptor);

@@ -9,18 +9,36 @@
 #include <errno.h>
 #include <fcntl.h>
 #include <limits.h>
-#include <linux/close_range.h>
 #include <signal.h>
 #include <stdarg.h>
 #include <stdio.h>
 #include <sys/epoll.h>
 #include <unistd.h>
 
+/* what the kernel puts into the flags of each file that a program of 64 bits opens */
+#define LARGE_FILE 0100000
+/* what else it shows of those of an open */
+#define SHOWN_FLAGS (O_NOFOLLOW | O_NOATIME | O_SYNC)
+
+/* Refuses to open the device as a folder, as a new file, or past the system's memory of files. */
+static int check_flags(int flags)
+{
+	if (flags & O_DIRECTORY)
+		return -ENOTDIR;
+	if ((flags & (O_CREAT | O_EXCL)) == (O_CREAT | O_EXCL))
+		return -EEXIST;
+	return flags & O_DIRECT ? -EINVAL : 0;
+}
+
 static int open_device(const char *path, int flags)
 {
-	int file = device_open(path);
+	int file = check_flags(flags);
+	if (!file)
+		file = device_open(path);
 	if (file < 0)
 		return names_answer(file);
+	device->file[file].minor = device_minor(path);
+	device->file[file].flags = flags & SHOWN_FLAGS;
 	int descriptor = descriptors_make(file, flags);
 	if (descriptor < 0) {
 		device->file[file].is_new = 0;
@@ -51,6 +69,17 @@ int openings_fresh(int descriptor)
 	return descriptor;
 }
 
+/* Opens a board that is named from a folder on. */
+static int open_device_at(int folder, const char *path, int flags)
+{
+	char name[512];
+	if (*path == '/' || folder == AT_FDCWD)
+		return open_device(path, flags);
+	if (snprintf(name, sizeof name, "/proc/self/fd/%d/%s", folder, path) >= (int)sizeof name)
+		return names_answer(-ENAMETOOLONG);
+	return open_device(name, flags);
+}
+
 static int mode_of(int flags, va_list values)
 {
 	return flags & O_CREAT || (flags & O_TMPFILE) == O_TMPFILE ? va_arg(values, int) : 0;
@@ -63,7 +92,7 @@ static int mode_of(int flags, va_list values)
 		va_start(values, flags); \
 		int mode = mode_of(flags, values); \
 		va_end(values); \
-		return device_serves(path) ? open_device(path, flags) : openings_fresh(REAL(name)(path, flags, mode)); \
+		return device_serves(path, flags) ? open_device(path, flags) : openings_fresh(REAL(name)(path, flags, mode)); \
 	}
 #define OPEN_AT(name) \
 	PUBLIC int name(int folder, const char *path, int flags, ...) \
@@ -72,7 +101,7 @@ static int mode_of(int flags, va_list values)
 		va_start(values, flags); \
 		int mode = mode_of(flags, values); \
 		va_end(values); \
-		return device_serves(path) ? open_device(path, flags) : openings_fresh(REAL(name)(folder, path, flags, mode)); \
+		return device_serves(path, flags) ? open_device_at(folder, path, flags) : openings_fresh(REAL(name)(folder, path, flags, mode)); \
 	}
 
 OPEN(open)
@@ -116,14 +145,6 @@ PUBLIC int close(int descriptor)
 		return names_answer(-EBADF);
 	int file = forget(descriptor), result = REAL(close)(descriptor);
 	close_file(file);
-	return result;
-}
-
-/* Closes a stream. The C library closes its descriptor itself. */
-PUBLIC int fclose(FILE *stream)
-{
-	int descriptor = fileno(stream), result = REAL(fclose)(stream);
-	openings_fresh(descriptor);
 	return result;
 }
 
@@ -211,7 +232,7 @@ static int flags_of(int descriptor, int what, int result)
 		return result;
 	if (what == F_SETFL)
 		descriptors_note_flags(descriptor);
-	return what == F_GETFL ? (result & ~O_ACCMODE) | device->file[file].mode : result;
+	return what == F_GETFL ? (result & ~O_ACCMODE) | LARGE_FILE | device->file[file].mode | device->file[file].flags : result;
 }
 
 /* Sets or returns the signal that a client wants of a file of the device. The kernel's is the mark of such files. */

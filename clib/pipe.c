@@ -12,7 +12,6 @@
 #include <stdio.h>
 #include <stdlib.h>
 #include <string.h>
-#include <linux/close_range.h>
 #include <sys/resource.h>
 #include <sys/syscall.h>
 #include <sys/wait.h>
@@ -108,8 +107,10 @@ static int start_apart(const char *program, char **environment, int socket, int 
 {
 	long child = syscall(SYS_clone, 0, 0, 0, 0, 0);
 	if (child == 0) {
-		if (syscall(SYS_clone, 0, 0, 0, 0, 0) == 0)
+		long server = syscall(SYS_clone, 0, 0, 0, 0, 0);
+		if (server == 0)
 			become_server(program, environment, socket, memory);
+		rings_note_program(server);
 		syscall(SYS_exit_group, 0);
 	}
 	if (child < 0)

@@ -9,6 +9,7 @@
 #include "server.h"
 #include <errno.h>
 #include <poll.h>
+#include <stddef.h>
 #include <string.h>
 #include <sys/mman.h>
 #include <sys/select.h>
@@ -29,24 +30,34 @@
 #define READS (POLLIN | POLLRDNORM)
 #define WRITES (POLLOUT | POLLWRNORM)
 
-/* What is asked for together. `signals` is the mask with which is waited, if the client gave one, and `seen` the changes of
- * the board up to the last look. */
+/* What is asked for together, and of each which file of the device it is. `held` has a bit for each such file: it stays open
+ * meanwhile. `signals` is the mask with which is waited, if the client gave one, and `seen` the changes of the board up to
+ * the last look. `set` is the set of which these are the members, or NO_SET. */
 struct ask {
 	struct pollfd *asked;
 	nfds_t count;
-	int has_file, has_timer;
+	int has_file, has_timer, has_others, set;
+	unsigned held, members;
 	const sigset_t *signals;
 	uint64_t seen;
+	signed char files[MOST_POLLED];
 };
 
-static struct ask find_ask(struct pollfd *asked, nfds_t count)
+static void find_ask(struct ask *a, struct pollfd *asked, nfds_t count)
 {
-	struct ask a = { .asked = asked, .count = count };
+	memset(a, 0, offsetof(struct ask, files));
+	a->asked = asked;
+	a->count = count;
+	a->set = NO_SET;
 	for (nfds_t i = 0; i < count; i++) {
-		a.has_file |= names_file(asked[i].fd) != NO_FILE;
-		a.has_timer |= time_is_shown() && timers_are_in(asked[i].fd);
+		int file = names_file(asked[i].fd);
+		if (i < MOST_POLLED)
+			a->files[i] = file;
+		a->has_file |= file != NO_FILE;
+		a->held |= file == NO_FILE ? 0 : 1u << file;
+		a->has_others |= file == NO_FILE && asked[i].fd >= 0;
+		a->has_timer |= time_is_shown() && timers_are_in(asked[i].fd);
 	}
-	return a;
 }
 
 /* Whether a wait is for a file of the device, or takes time of the client's. */
@@ -84,7 +95,7 @@ static int ask_with_copy(struct ask *a, struct pollfd *others, const struct time
 {
 	for (nfds_t i = 0; i < a->count; i++) {
 		others[i] = a->asked[i];
-		if (names_file(others[i].fd) != NO_FILE)
+		if (a->files[i] != NO_FILE)
 			others[i].fd = -1;
 	}
 	int ready = REAL(ppoll)(others, a->count, time, signals);
@@ -115,7 +126,19 @@ static int ask_kernel(struct ask *a, uint64_t nanoseconds, const sigset_t *signa
 	return a->has_file ? ask_for_others(a, &time, signals) : REAL(ppoll)(a->asked, a->count, &time, signals);
 }
 
-/* What is ready now. */
+/* Returns what a file of the device is ready for. A member of a set that is asked for changes alone is ready after a change. */
+static short ready_events(const struct ask *a, nfds_t i)
+{
+	int file = a->files[i];
+	short asked = a->asked[i].events, found = 0;
+	if (asked & READS && stream_ready_to_read(file))
+		found |= asked & READS;
+	if (asked & WRITES && stream_ready_to_write(file))
+		found |= asked & WRITES;
+	return found && (a->set == NO_SET || sets_have_news(a->set, a->asked[i].fd, file)) ? found : 0;
+}
+
+/* Looks what is ready now. A descriptor that was closed meanwhile is no file any more, as the kernel finds when it looks again. */
 static int ask_ready(struct ask *a)
 {
 	int ready = ask_kernel(a, 0, NULL);
@@ -123,26 +146,25 @@ static int ask_ready(struct ask *a)
 		return -errno;
 	for (nfds_t i = 0; i < a->count && a->has_file; i++) {
 		struct pollfd *asked = a->asked + i;
-		int file = names_file(asked->fd);
-		if (file == NO_FILE)
+		if (a->files[i] == NO_FILE)
 			continue;
-		if (asked->events & READS && stream_ready_to_read(file))
-			asked->revents |= asked->events & READS;
-		if (asked->events & WRITES && stream_ready_to_write(file))
-			asked->revents |= asked->events & WRITES;
+		asked->revents = names_file(asked->fd) == a->files[i] ? ready_events(a, i) : POLLNVAL;
 		ready += asked->revents != 0;
 	}
 	return ready;
 }
 
-/* The next time at which a file of the device gets ready. At the horizon none does any more. */
+/* Returns the next time at which a file of the device gets ready, or may be ready once more. At the horizon none does any more. */
 static uint64_t next_time(const struct ask *a)
 {
 	uint64_t first = NEVER, time;
-	for (nfds_t i = 0; i < a->count && device->now < device->horizon; i++) {
-		int file = names_file(a->asked[i].fd);
+	for (nfds_t i = 0; a->has_file && i < a->count && device->now < device->horizon; i++) {
 		short events = a->asked[i].events;
-		if (file != NO_FILE && stream_next_time(file, events & READS, events & WRITES, &time) && time < first)
+		if (a->files[i] == NO_FILE)
+			continue;
+		int has_edges = a->set != NO_SET && sets_have_edges(a->set, a->asked[i].fd);
+		int (*next)(int file, int reads, int writes, uint64_t *time) = has_edges ? stream_next_change : stream_next_time;
+		if (next(a->files[i], events & READS, events & WRITES, &time) && time < first)
 			first = time;
 	}
 	return first;
@@ -156,10 +178,10 @@ static int look(struct ask *a, uint64_t *next)
 	timers_ring();
 	a->seen = device_changes();
 	int ready = ask_ready(a);
-	if (a->has_file && server_is_lost())
-		ready = -EIO;
 	if (!ready)
 		*next = next_time(a);
+	if (a->has_file && server_is_lost())
+		ready = -EIO;
 	device_leave();
 	return ready;
 }
@@ -183,60 +205,89 @@ static uint64_t next_timer(void *what)
 	return first;
 }
 
-/* Waits for the other files, the timers, and a change of the board. A poll of files that aren't the device's is ended by the
- * signal of one that is, too. */
+/* Waits for the other files, the timers, and a change of the board. */
 static int wait_until(struct ask *a, uint64_t time)
 {
-	const struct wait wait = { pause_poll, a->has_timer ? next_timer : NULL, a, a->has_file ? &a->seen : NULL, a->signals };
-	return a->has_file ? turns_wait(time, &wait) : signals_wait(time, &wait);
+	return turns_wait(time, &(struct wait){ .pause = pause_poll, .due = a->has_timer ? next_timer : NULL, .what = a,
+		.seen = a->has_file || a->set != NO_SET ? &a->seen : NULL, .signals = a->signals });
 }
 
-/* Time goes on to the next sample, the next timer, or the end of the wait. */
+/* Returns whether nothing ends a wait any more. */
+static int is_in_vain(const struct ask *a, uint64_t next, uint64_t end)
+{
+	return next == NEVER && end == NEVER && !a->has_timer && !a->has_others;
+}
+
+/* Time goes on to the next sample, the next timer, or the end of the wait. If the members of a set change, nothing is ready. */
 static int poll_any(struct ask *a, uint64_t end)
 {
 	for (;;) {
 		uint64_t next = NEVER;
 		int ready = look(a, &next);
-		if (ready || device->client_now >= end || (next == NEVER && end == NEVER && !a->has_timer))
+		if (ready || device->client_now >= end || is_in_vain(a, next, end))
 			return ready;
+		if (a->set != NO_SET && sets_changes() != a->members)
+			return 0;
 		int result = wait_until(a, next < end ? next : end);
+		/* as in the kernel what is ready comes before a signal, which may have come with it */
+		ready = result < 0 ? look(a, &next) : 0;
 		if (result < 0)
-			return result;
+			return ready ? ready : result;
 	}
 }
 
-/* A poll of the device's files takes a call's time. */
+/* Polls files of the device among others. This takes a call's time, and the files stay open meanwhile. A single thread can't
+ * close them. */
+static int poll_files(struct ask *a, int64_t nanoseconds)
+{
+	int result;
+	if (a->count > MOST_POLLED)
+		return -EINVAL;
+	a->held = turns_is_only_thread() ? 0 : a->held;
+	device_begin_calls(a->held);
+	time_call();
+	device_leave();
+	if (!a->held)
+		return poll_any(a, time_after(nanoseconds));
+	pthread_cleanup_push(device_end_calls, &a->held);
+	result = poll_any(a, time_after(nanoseconds));
+	pthread_cleanup_pop(1);
+	return result;
+}
+
 static int poll_ours(struct ask *a, int64_t nanoseconds)
 {
 	pthread_testcancel();
-	if (!a->has_file)
-		return names_answer(poll_any(a, time_after(nanoseconds)));
-	if (a->count > MOST_POLLED)
-		return names_answer(-EINVAL);
-	device_enter();
-	time_call();
-	device_leave();
-	uint64_t start = device->now;
-	int result = poll_any(a, time_after(nanoseconds));
-	if (device->now > start && result > 0)
-		signals_send();
-	return names_answer(result);
+	return names_answer(a->has_file ? poll_files(a, nanoseconds) : poll_any(a, time_after(nanoseconds)));
 }
 
-/* A poll of some files for another name, for so long or for ever, with a mask of signals if there is one: then all signals
- * are blocked already. */
-int polls_wait(struct pollfd *asked, nfds_t count, int64_t nanoseconds, const sigset_t *signals)
+/* Polls some files for another name, for so long or for ever. */
+int polls_wait(struct pollfd *asked, nfds_t count, int64_t nanoseconds)
 {
 	struct timespec time = clocks_time(nanoseconds);
-	struct ask a = find_ask(asked, count);
+	struct ask a;
+	find_ask(&a, asked, count);
+	return is_ours(&a, nanoseconds) ? poll_ours(&a, nanoseconds) : REAL(ppoll)(asked, count, nanoseconds < 0 ? NULL : &time, NULL);
+}
+
+/* Polls the members of a set, of which there have been so many changes, with a mask of signals if there is one: then all
+ * signals are blocked already. As in the kernel a set doesn't keep its members open. */
+int polls_wait_for_set(int set, unsigned changes, struct pollfd *asked, nfds_t count, int64_t nanoseconds, const sigset_t *signals)
+{
+	struct ask a;
+	find_ask(&a, asked, count);
+	a.set = set;
+	a.held = 0;
+	a.members = changes;
 	a.signals = signals;
-	return is_ours(&a, nanoseconds) ? poll_ours(&a, nanoseconds) : REAL(ppoll)(asked, count, nanoseconds < 0 ? NULL : &time, signals);
+	return poll_ours(&a, nanoseconds);
 }
 
 PUBLIC int poll(struct pollfd *asked, nfds_t count, int milliseconds)
 {
-	struct ask a = find_ask(asked, count);
+	struct ask a;
 	int64_t nanoseconds = milliseconds < 0 ? -1 : milliseconds * 1000000ll;
+	find_ask(&a, asked, count);
 	return is_ours(&a, nanoseconds) ? poll_ours(&a, nanoseconds) : REAL(poll)(asked, count, milliseconds);
 }
 
@@ -272,7 +323,8 @@ static int poll_masked(struct ask *a, int64_t nanoseconds, const sigset_t *signa
 
 PUBLIC int ppoll(struct pollfd *asked, nfds_t count, const struct timespec *time, const sigset_t *signals)
 {
-	struct ask a = find_ask(asked, count);
+	struct ask a;
+	find_ask(&a, asked, count);
 	if ((time && !clocks_is_time(time)) || !is_ours(&a, clocks_nanoseconds(time)))
 		return REAL(ppoll)(asked, count, time, signals);
 	return poll_masked(&a, clocks_nanoseconds(time), signals);
@@ -346,13 +398,14 @@ static int select_members(const struct sets *sets, struct ask *a, int64_t nanose
 static int select_ours(const struct sets *sets, int64_t nanoseconds, const sigset_t *signals)
 {
 	struct room room;
+	struct ask a;
 	int result = NOT_OURS;
 	nfds_t members = members_of(sets);
 	if (make_room(&room, members))
 		return names_answer(-ENOMEM);
 	pthread_cleanup_push(give_room_back, &room);
 	put_members(sets, room.files);
-	struct ask a = find_ask(room.files, members);
+	find_ask(&a, room.files, members);
 	if (is_ours(&a, nanoseconds))
 		result = select_members(sets, &a, nanoseconds, signals);
 	pthread_cleanup_pop(1);

@@ -3,12 +3,15 @@
  */
 #define _GNU_SOURCE
 #include "server.h"
+#include "versions.h"
 #include <dlfcn.h>
+#include <fcntl.h>
 #include <limits.h>
 #include <stdio.h>
 #include <stdlib.h>
 #include <string.h>
 #include <sys/stat.h>
+#include <sys/syscall.h>
 #include <unistd.h>
 
 /* from the library's folder: an archive of one folder, bin/ beside lib/, bin/ beside lib/zendrouz/, the repository */
@@ -46,7 +49,7 @@ const char *program_library(void)
 static int is_program(const char *path)
 {
 	struct stat state;
-	return !stat(path, &state) && S_ISREG(state.st_mode) && !access(path, X_OK);
+	return !syscall(SYS_newfstatat, AT_FDCWD, path, &state, 0) && S_ISREG(state.st_mode) && !access(path, X_OK);
 }
 
 const char *program_path(void)

@@ -60,7 +60,7 @@ static int write_held(int descriptor)
 static int begin(int descriptor)
 {
 	struct stat state;
-	if (fstat(descriptor, &state))
+	if (syscall(SYS_fstat, descriptor, &state))
 		return errno;
 	is_file = S_ISREG(state.st_mode);
 	device->record_length = device->record_is_cut = length_of_held = 0;

@@ -13,6 +13,7 @@
 #include <errno.h>
 #include <fcntl.h>
 #include <sched.h>
+#include <signal.h>
 #include <stdlib.h>
 #include <string.h>
 #include <sys/mman.h>
@@ -28,7 +29,8 @@
 #define MOMENT 200000
 /* how many waits don't look at it, at most, after one that has looked in vain */
 #define LONGEST_PAUSE 255
-/* an answer takes microseconds: a program that keeps silent so long is taken for dead */
+/* an answer takes microseconds: a program that keeps silent so long is taken for dead. Every second is looked for a signal that
+ * ends the client */
 #define SECONDS_OF_SILENCE 60
 
 /* An end of a ring: how many bytes went by, and whether its process sleeps until the other end moves. */
@@ -46,6 +48,8 @@ struct rings {
 	struct ring question, answer;
 	/* whether an answer can't be waited for any more, and which processor has asked in vain last, counted from 1 */
 	int is_over, asking;
+	/* the process of the program, or 0 if it isn't known */
+	pid_t program;
 };
 
 static struct rings *rings;
@@ -68,7 +72,7 @@ static int map(int memory)
 int rings_make(int *socket, int *memory)
 {
 	int pair[2];
-	struct timeval silence = { SECONDS_OF_SILENCE, 0 };
+	struct timeval silence = { 1, 0 };
 	if (channel >= 0)
 		syscall(SYS_close, channel);
 	channel = -1;
@@ -82,8 +86,11 @@ int rings_make(int *socket, int *memory)
 	if (rings)
 		munmap(rings, sizeof *rings);
 	rings = NULL;
-	if (*memory < 0 || ftruncate(*memory, sizeof *rings) || map(*memory))
-		return -ENOMEM;
+	int result = memory_lengthen(*memory, sizeof *rings);
+	if (!result)
+		result = map(*memory);
+	if (result)
+		return result;
 	outgoing = &rings->question;
 	incoming = &rings->answer;
 	return 0;
@@ -92,7 +99,7 @@ int rings_make(int *socket, int *memory)
 static int is_socket(int descriptor)
 {
 	struct stat state;
-	return !fstat(descriptor, &state) && S_ISSOCK(state.st_mode);
+	return !syscall(SYS_fstat, descriptor, &state) && S_ISSOCK(state.st_mode);
 }
 
 /* Lets go of the client's standard error, which tells why a program doesn't start, and has told it by now. Who waits for
@@ -150,12 +157,42 @@ static void move(struct end *own, struct end *other, uint32_t to)
 		send(channel, "", 1, MSG_NOSIGNAL | MSG_DONTWAIT);
 }
 
+/* Notes the process of the program that was started. It may be called in another process, which shares the memory. */
+void rings_note_program(pid_t program)
+{
+	rings->program = program;
+}
+
+/* Returns whether a signal waits that ends the client. All signals are blocked during a question. */
+static int is_to_end(void)
+{
+	static const int deadly[] = { SIGHUP, SIGINT, SIGQUIT, SIGTERM };
+	struct sigaction action;
+	sigset_t waiting;
+	sigpending(&waiting);
+	for (size_t i = 0; i < sizeof deadly / sizeof *deadly; i++)
+		if (sigismember(&waiting, deadly[i]) && !sigaction(deadly[i], NULL, &action) && action.sa_handler == SIG_DFL)
+			return 1;
+	return 0;
+}
+
+/* Returns whether to wait on after a second of silence. A program that keeps silent is ended, with all that it has started. */
+static int is_worth_waiting(int seconds)
+{
+	if (seconds < SECONDS_OF_SILENCE && !is_to_end())
+		return 1;
+	if (rings->program > 0)
+		kill(-rings->program, SIGKILL);
+	return 0;
+}
+
 /* Sleeps until the other end isn't where it was seen any more, or its process has ended. */
 static void sleep_until_moved(struct end *own, const struct end *other, uint32_t seen)
 {
 	char bytes[64];
 	ssize_t count = 1;
-	while (count > 0 || (count < 0 && errno == EINTR)) {
+	int silent = 0;
+	while (count > 0 || (count < 0 && (errno == EINTR || (errno == EAGAIN && is_worth_waiting(++silent))))) {
 		__atomic_store_n(&own->sleeps, 1, __ATOMIC_SEQ_CST);
 		if (passed(other) != seen)
 			break;

@@ -13,13 +13,16 @@
 
 #define BITS_OF(s) (8 * (s)->sample_bytes)
 
-/* A command has begun. Each of its scans may wake a read. */
-void scans_begin(struct subdevice *s, unsigned entries, int each_wakes)
+/* Notes that a command has begun. Each of its scans may wake a read. It stops after so many scans, or NEVER, or after 0 if that
+ * isn't known. */
+void scans_begin(struct subdevice *s, unsigned entries, int each_wakes, uint64_t stops_after)
 {
 	int packed = board_is_digital(s);
 	s->unit_entries = packed ? entries : 1;
 	s->unit_samples = packed ? (entries + BITS_OF(s) - 1) / BITS_OF(s) : 1;
-	s->waking_samples = each_wakes ? entries / s->unit_entries * s->unit_samples : 0;
+	unsigned scan = entries / s->unit_entries * s->unit_samples;
+	s->waking_samples = each_wakes ? scan : 0;
+	s->total = stops_after == NEVER ? NEVER : stops_after * scan;
 	s->rests = s->part = 0;
 }
 
@@ -129,6 +132,16 @@ int scans_await(int file, int number, uint64_t count, uint64_t *time)
 	const struct subdevice *s = &device->subdevice[number];
 	uint64_t missing = !board_is_input(s) ? count + s->rests : count > s->rests ? count - s->rests : 0;
 	return await_entries(file, number, entries_of(s, missing), time);
+}
+
+/* Returns whether the command of an input, of which samples are left, has ended by an error. The session says that only when
+ * none is left. But such a command has ended before its samples were complete, and before the signals were over. */
+int scans_have_failed(int file, int number, const struct counts *counts)
+{
+	uint64_t end;
+	if (counts->written >= device->subdevice[number].total || device->now >= device->horizon)
+		return 0;
+	return !question_await(file, number, UINT32_MAX) && answer_numbers(&end, 1) == 1 && end <= device->now;
 }
 
 /* An answer that ends a command: what the client gets for it. */

@@ -15,6 +15,7 @@ const char *program_library(void);
 
 /* rings.c: the bytes between the device and the program. */
 int rings_make(int *socket, int *memory);
+void rings_note_program(pid_t program);
 int rings_stand_for(int descriptor);
 ssize_t rings_read(char *to, size_t most);
 ssize_t rings_write(const char *from, size_t length);

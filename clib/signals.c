@@ -1,8 +1,6 @@
 /*
- * SIGIO, and the names that wait for a signal. A descriptor with O_ASYNC has the signal sent where samples come while the
- * client sleeps, pauses or waits for other things in board time; as from the system, the signal ends that wait. A read, a
- * write or a poll that waited for what came has it sent at its end, and is answered as without it. It isn't sent in other
- * calls, and not where waits are real (ZENDROUZ_PACE).
+ * The names that wait for a signal, and what signals are to a wait. Those that the board sends by itself (events.c) come while
+ * a client pauses, too: the time goes on to them.
  */
 #define _GNU_SOURCE
 #include "clocks.h"
@@ -15,69 +13,10 @@
 #include <signal.h>
 #include <unistd.h>
 
-/* The signal of a descriptor. */
-static int signal_of(int descriptor)
-{
-	int file = names_file(descriptor), number = file == NO_FILE ? 0 : device->file[file].signal;
-	return number ? number : SIGIO;
-}
-
-/* Whether a signal that is sent now would end a wait with a mask, or with the thread's own: the mask doesn't
- * block it, and it isn't ignored. */
-static int ends_waits(int number, const sigset_t *mask)
-{
-	struct sigaction action;
-	sigset_t blocked;
-	pthread_sigmask(SIG_SETMASK, NULL, &blocked);
-	sigaction(number, NULL, &action);
-	return !sigismember(mask ? mask : &blocked, number) && action.sa_handler != SIG_IGN;
-}
-
-/* Sends the signal, where a descriptor wants one, since something came while a call waited. */
-void signals_send(void)
-{
-	int descriptor = time_is_board_time() ? descriptors_asynchronous() : -1;
-	if (descriptor >= 0)
-		raise(signal_of(descriptor));
-}
-
-/* When the next samples of a descriptor come. Answers 0 where none come by a time. */
-static int find_samples(int descriptor, uint64_t until, uint64_t *time)
-{
-	device_enter();
-	int comes = stream_next_samples(names_file(descriptor), time) && *time <= until;
-	device_leave();
-	return comes;
-}
-
-/* A wait as turns_wait, which the signal ends with -EINTR. */
-int signals_wait(uint64_t end, const struct wait *wait)
-{
-	int descriptor, comes, result = BOARD_CHANGED;
-	uint64_t next, seen;
-	while (result == BOARD_CHANGED) {
-		descriptor = descriptors_asynchronous();
-		if (descriptor < 0)
-			return turns_wait(end, wait);
-		struct wait both = *wait;
-		both.seen = &seen;
-		seen = device_changes();
-		comes = find_samples(descriptor, end, &next);
-		result = turns_wait(comes ? next : end, &both);
-	}
-	if (result || !comes)
-		return result;
-	int number = signal_of(descriptor), ends = ends_waits(number, wait->signals);
-	raise(number);
-	signals_let_in(wait->signals);
-	signals_keep_out(wait->signals);
-	return ends ? -EINTR : turns_wait(end, wait);
-}
-
 /* A sleep of the client up to a time. Answers what is left of it where a signal ended it. */
 int64_t signals_sleep_until(uint64_t end)
 {
-	if (!signals_wait(end, &time_sleep))
+	if (!turns_wait(end, &time_sleep))
 		return 0;
 	return device->client_now < end ? end - device->client_now : 1;
 }
@@ -99,16 +38,29 @@ int signals_restart(void)
 	return 1;
 }
 
+static int has_handler(int number)
+{
+	struct sigaction action;
+	return !sigaction(number, NULL, &action) && action.sa_handler != SIG_IGN && action.sa_handler != SIG_DFL;
+}
+
+/* Returns whether one of these signals, a bit for each, has a handler. */
+int signals_are_handled(uint64_t numbers)
+{
+	for (int i = 1; i < NSIG; i++)
+		if (numbers >> (i - 1) & 1 && has_handler(i))
+			return 1;
+	return 0;
+}
+
 /* Returns whether a signal waits that a mask lets in and that has a handler. */
 static int is_waiting(const sigset_t *mask)
 {
 	sigset_t waiting;
-	struct sigaction action;
 	int is = 0;
 	sigpending(&waiting);
 	for (int i = 1; i < NSIG && !is; i++)
-		if (sigismember(&waiting, i) == 1 && !sigismember(mask, i) && !sigaction(i, NULL, &action))
-			is = action.sa_handler != SIG_IGN && action.sa_handler != SIG_DFL;
+		is = sigismember(&waiting, i) == 1 && !sigismember(mask, i) && has_handler(i);
 	return is;
 }
 
@@ -145,48 +97,44 @@ void signals_keep_out(const sigset_t *mask)
 		pthread_sigmask(SIG_SETMASK, &all, NULL);
 }
 
-/* Waits for a signal up to the next samples. Returns 0 if none can come from the device. */
-static int wait_for_signal(const sigset_t *mask)
+/* Returns whether a wait for a signal lets the time go on to those that the board sends. */
+static int is_for_board(void)
+{
+	if (!time_is_board_time() || !descriptors_asynchronous())
+		return 0;
+	if (!turns_is_only_thread() || events_next() != NEVER)
+		return 1;
+	message("a wait for a signal, and no sample comes any more");
+	return 0;
+}
+
+static void wait_for_signal(const sigset_t *mask)
 {
 	struct wait wait = time_sleep;
-	uint64_t next = NEVER, seen;
-	int descriptor, comes, result = BOARD_CHANGED;
-	wait.seen = &seen;
 	wait.signals = mask;
-	while (result == BOARD_CHANGED) {
-		descriptor = time_is_board_time() ? descriptors_asynchronous() : -1;
-		if (descriptor < 0 || !ends_waits(signal_of(descriptor), mask))
-			return 0;
-		seen = device_changes();
-		comes = find_samples(descriptor, device->horizon, &next);
-		if (!comes && turns_is_alone()) {
-			message("a wait for a signal, and no sample comes any more");
-			return 0;
-		}
-		result = turns_wait(comes ? next : NEVER, &wait);
-	}
-	if (!result)
-		raise(signal_of(descriptor));
-	return 1;
+	turns_wait(NEVER, &wait);
 }
 
 PUBLIC int pause(void)
 {
-	return wait_for_signal(NULL) ? names_answer(-EINTR) : REAL(pause)();
+	if (!is_for_board())
+		return REAL(pause)();
+	wait_for_signal(NULL);
+	return names_answer(-EINTR);
 }
 
 PUBLIC int sigsuspend(const sigset_t *mask)
 {
 	sigset_t old;
-	if (!time_is_board_time() || descriptors_asynchronous() < 0)
+	if (!time_is_board_time() || !descriptors_asynchronous())
 		return REAL(sigsuspend)(mask);
 	if (signals_exchange(mask, &old))
 		return names_answer(-EINTR);
-	int done = wait_for_signal(mask);
-	if (done)
-		pthread_sigmask(SIG_SETMASK, mask, NULL);
+	int is_ours = is_for_board();
+	if (is_ours)
+		wait_for_signal(mask);
 	pthread_sigmask(SIG_SETMASK, &old, NULL);
-	return done ? names_answer(-EINTR) : REAL(sigsuspend)(mask);
+	return is_ours ? names_answer(-EINTR) : REAL(sigsuspend)(mask);
 }
 
 struct wanted {
@@ -207,12 +155,66 @@ static int pause_signal(void *what, uint64_t nanoseconds, const sigset_t *signal
 	return number >= 0 ? number : error == EAGAIN ? 0 : -error;
 }
 
-/* The signal of the device is blocked here, and is there once it was sent. */
-PUBLIC int sigtimedwait(const sigset_t *restrict set, siginfo_t *restrict information, const struct timespec *restrict time)
+/* Waits for a signal of a set, which the client blocks. Returns its number, or a negative error number. */
+static int take_signal(const sigset_t *set, siginfo_t *information, uint64_t end)
 {
 	struct wanted w = { set, information };
+	int result = turns_wait(end, &(struct wait){ .pause = pause_signal, .what = &w });
+	return result ? result : -EAGAIN;
+}
+
+PUBLIC int sigtimedwait(const sigset_t *restrict set, siginfo_t *restrict information, const struct timespec *restrict time)
+{
 	if (!time_is_shown() || !clocks_is_time(time))
 		return REAL(sigtimedwait)(set, information, time);
-	int result = signals_wait(time_after(clocks_nanoseconds(time)), &(struct wait){ .pause = pause_signal, .what = &w });
-	return names_answer(result ? result : -EAGAIN);
+	return names_answer(take_signal(set, information, time_after(clocks_nanoseconds(time))));
+}
+
+PUBLIC int sigwaitinfo(const sigset_t *restrict set, siginfo_t *restrict information)
+{
+	return is_for_board() ? names_answer(take_signal(set, information, NEVER)) : REAL(sigwaitinfo)(set, information);
+}
+
+/* This name answers its error itself, and other signals don't end it. */
+PUBLIC int sigwait(const sigset_t *restrict set, int *restrict number)
+{
+	int result = -EINTR;
+	while (result == -EINTR && is_for_board())
+		result = take_signal(set, NULL, NEVER);
+	if (result == -EINTR)
+		return REAL(sigwait)(set, number);
+	if (result > 0)
+		*number = result;
+	return result > 0 ? 0 : -result;
+}
+
+/* Sends a signal to a thread. If that one waits, it's noted, since the handler may run between two pieces of the wait. */
+static int send_noted(pthread_t thread, int number, int (*send)(pthread_t thread, int number, const union sigval *value), const union sigval *value)
+{
+	uint64_t turn = device && number > 0 && number < NSIG ? turns_number_of(thread) : 0;
+	int error = send(thread, number, value);
+	if (!error && turn)
+		turns_note_signal(thread, turn, number);
+	return error;
+}
+
+static int send_plainly(pthread_t thread, int number, const union sigval *value)
+{
+	(void)value;
+	return REAL(pthread_kill)(thread, number);
+}
+
+static int send_with_value(pthread_t thread, int number, const union sigval *value)
+{
+	return REAL(pthread_sigqueue)(thread, number, *value);
+}
+
+PUBLIC int pthread_kill(pthread_t thread, int number)
+{
+	return send_noted(thread, number, send_plainly, NULL);
+}
+
+PUBLIC int pthread_sigqueue(pthread_t thread, int number, const union sigval value)
+{
+	return send_noted(thread, number, send_with_value, &value);
 }

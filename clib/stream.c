@@ -157,7 +157,8 @@ static ssize_t read_next(int file, int number, char *to)
 	return count < 0 ? count : hand_over(s, to, &sample, 1, s->sample_bytes);
 }
 
-/* A read or a write of no bytes reports an error, which ends the command, and nothing else. */
+/* Reports an error to a read or a write of no bytes, and nothing else. That ends the command, unless samples are left: they can
+ * still be read, as the kernel has it. */
 static int move_nothing(int file, int number)
 {
 	struct counts counts;
@@ -168,7 +169,7 @@ static int move_nothing(int file, int number)
 	if (answer_says(" idle"))
 		return -EINVAL;
 	if (!answer_says("overrun") && !answer_says("fifo") && !answer_says("underrun"))
-		return 0;
+		return scans_have_failed(file, number, &counts) ? -EPIPE : 0;
 	return board_is_input(&device->subdevice[number]) ? take_samples(file, number, 0, &none) : scans_end(file, number);
 }
 
@@ -329,12 +330,43 @@ int stream_next_time(int file, int reads, int writes, uint64_t *time)
 	return first != UINT64_MAX;
 }
 
-/* When more samples than now are there, or the command has ended. Answers 0 where that is now, or never. */
-int stream_next_samples(int file, uint64_t *time)
+/* Finds when more samples than now have come to an input, or there is room for more words of an output, or the command has
+ * ended. Returns 0 if that is now or never. */
+int stream_next_event(int file, int number, uint64_t *time)
 {
-	int number = device->file[file].read_subdevice;
 	struct counts counts;
-	if (number == NO_SUBDEVICE || !running_counts(file, number, &counts))
+	if (!running_counts(file, number, &counts))
 		return 0;
-	return !scans_await(file, number, counts.written - counts.read + 1, time) && *time > device->now;
+	uint64_t there = board_is_input(&device->subdevice[number]) ? counts.written - counts.read : counts.room;
+	return !scans_await(file, number, there + 1, time) && *time > device->now;
+}
+
+/* Finds the next time at which something happens to a file, whether it is ready before or not. Returns 0 if there is none. */
+int stream_next_change(int file, int reads, int writes, uint64_t *time)
+{
+	const struct file *f = &device->file[file];
+	uint64_t found;
+	*time = NEVER;
+	if (reads && f->read_subdevice != NO_SUBDEVICE && stream_next_event(file, f->read_subdevice, &found))
+		*time = found;
+	if (writes && f->write_subdevice != NO_SUBDEVICE && stream_next_event(file, f->write_subdevice, &found) && found < *time)
+		*time = found;
+	return *time != NEVER;
+}
+
+/* Counts what has come to an input or was put out since the command's start, with whether it runs. */
+static uint64_t count_events(int file, int number)
+{
+	struct counts counts = { 0, 0, 0 };
+	if (number == NO_SUBDEVICE)
+		return 0;
+	int runs = running_counts(file, number, &counts);
+	return 2 * (board_is_input(&device->subdevice[number]) ? counts.written : counts.read) + runs;
+}
+
+void stream_happened(int file, struct happened *happened)
+{
+	happened->commands = device->commands;
+	happened->read = count_events(file, device->file[file].read_subdevice);
+	happened->written = count_events(file, device->file[file].write_subdevice);
 }

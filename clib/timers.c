@@ -275,7 +275,7 @@ ssize_t timers_read(int descriptor, void *to, size_t bytes)
 	while (!(count = take_count(descriptor))) {
 		if (REAL(fcntl)(descriptor, F_GETFL) & O_NONBLOCK)
 			return -EAGAIN;
-		if (polls_wait(&asked, 1, -1, NULL) < 0)
+		if (polls_wait(&asked, 1, -1) < 0)
 			return -errno;
 	}
 	device_enter();

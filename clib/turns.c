@@ -10,14 +10,22 @@
  * All that can end a wait is in its `struct wait`, where the others see it. A thread whose wait is over, since the board has
  * changed, has something to do, though it still sleeps: no time goes on before it has seen that.
  *
- * A signal of the client is delivered only within a piece of a wait, which it ends. Between two pieces it would be lost.
+ * The time doesn't go past a moment at which the board sends a signal (events.c): each wait that lets time go on stops there
+ * first.
+ *
+ * A signal of the client is delivered only within a piece of a wait, which it ends. A semaphore and a futex can't be waited for
+ * and signals let in by one call of the kernel, so a handler may run just before such a piece or after it. What one thread
+ * sends to another is noted, and then ends the wait as well.
  */
 #define _GNU_SOURCE
+#include "descriptors.h"
 #include "device.h"
+#include "names.h"
 #include "server.h"
+#include <errno.h>
+#include <poll.h>
 #include <pthread.h>
 #include <signal.h>
-#include <sys/single_threaded.h>
 #include <unistd.h>
 
 #define MOST_TURNS 256
@@ -34,16 +42,21 @@
 /* what stands for threads that have run for long enough */
 #define OVER NEVER
 
-/* A thread's wait, from a time of the client to another. In a signal's handler it may have another one. */
+/* A thread's wait, from a time of the client to another, with the mask of signals that it has meanwhile. In a signal's handler
+ * it may have another one. `sent` has a bit for each signal that another thread has sent to it. */
 struct turn {
 	int is_there;
 	pid_t thread;
+	pthread_t self;
 	const struct wait *wait;
-	uint64_t start, end, number, began, piece;
+	const sigset_t *signals;
+	uint64_t start, end, number, began, piece, sent;
 };
 
 static struct turn turns[MOST_TURNS];
 static uint64_t last_number, last_turn;
+/* when the board sends a signal next, as the last look found */
+static uint64_t next_signal = NEVER;
 static pthread_mutex_t lock = PTHREAD_MUTEX_INITIALIZER;
 static __thread struct quiet outside;
 
@@ -77,7 +90,7 @@ void turns_begin_child(void)
 		turns[i].is_there = 0;
 }
 
-static struct turn *join(uint64_t end, const struct wait *wait)
+static struct turn *join(uint64_t end, const struct wait *wait, const sigset_t *signals)
 {
 	struct turn *turn = NULL;
 	uint64_t now = time_of_wall();
@@ -86,16 +99,23 @@ static struct turn *join(uint64_t end, const struct wait *wait)
 		if (!turns[i].is_there)
 			turn = turns + i;
 	if (turn)
-		*turn = (struct turn){ 1, gettid(), wait, device->client_now, end, ++last_number, now, 0 };
+		*turn = (struct turn){ 1, gettid(), pthread_self(), wait, signals, device->client_now, end, ++last_number, now, 0, 0 };
 	leave();
 	return turn;
 }
 
-/* When a wait ends, or something comes by itself. */
-static uint64_t end_of(const struct turn *turn)
+/* Returns when a wait ends, or something comes by itself. */
+static uint64_t own_end_of(const struct turn *turn)
 {
 	uint64_t due = turn->wait->due ? turn->wait->due(turn->wait->what) : NEVER;
 	return due < turn->end ? due : turn->end;
+}
+
+/* Returns up to when a wait lets the time go on. A signal of the board may come before the wait's end. */
+static uint64_t end_of(const struct turn *turn)
+{
+	uint64_t end = own_end_of(turn);
+	return next_signal < end ? next_signal : end;
 }
 
 /* The number of a thread's last wait, or 0 where it has none. */
@@ -108,6 +128,39 @@ uint64_t turns_number(pid_t thread)
 			number = turns[i].number;
 	leave();
 	return number;
+}
+
+/* Returns the number of the last wait of a thread, or 0 if it has none. */
+uint64_t turns_number_of(pthread_t thread)
+{
+	uint64_t number = 0;
+	enter();
+	for (int i = 0; i < MOST_TURNS; i++)
+		if (turns[i].is_there && pthread_equal(turns[i].self, thread) && turns[i].number > number)
+			number = turns[i].number;
+	leave();
+	return number;
+}
+
+/* Notes that a signal was sent to a thread, which was in this wait before. */
+void turns_note_signal(pthread_t thread, uint64_t number, int signal)
+{
+	enter();
+	for (int i = 0; i < MOST_TURNS; i++)
+		if (turns[i].is_there && turns[i].number == number && pthread_equal(turns[i].self, thread))
+			turns[i].sent |= 1ull << (signal - 1);
+	leave();
+}
+
+/* Returns whether a thread waits with a mask that lets a signal in. */
+int turns_let_in(pid_t thread, int signal)
+{
+	int lets_in = 0;
+	enter();
+	for (int i = 0; i < MOST_TURNS; i++)
+		lets_in |= turns[i].is_there && turns[i].thread == thread && turns[i].signals && !sigismember(turns[i].signals, signal);
+	leave();
+	return lets_in;
 }
 
 static int comes_before(const struct turn *one, const struct turn *other)
@@ -131,15 +184,31 @@ static int is_news(const struct wait *wait)
 	return wait->seen && device_changes() != *wait->seen;
 }
 
-/* Returns whether a thread that waits has to look at the board again. */
+/* Returns whether a thread that waits has to look at the board again, or has to run a handler. */
 static int have_news(void)
 {
 	int have = 0;
 	enter();
 	for (int i = 0; i < MOST_TURNS; i++)
-		have |= turns[i].is_there && is_news(turns[i].wait) && !is_under_another(turns + i);
+		have |= turns[i].is_there && (is_news(turns[i].wait) || turns[i].sent) && !is_under_another(turns + i);
 	leave();
 	return have;
+}
+
+/* Returns whether another thread has sent signals to this one since its wait began, and one of them ends the wait. Those that
+ * the mask keeps out or that have no handler don't. */
+static int was_sent_signal(struct turn *turn)
+{
+	uint64_t ending = 0;
+	if (!__atomic_load_n(&turn->sent, __ATOMIC_SEQ_CST))
+		return 0;
+	enter();
+	for (int i = 1; i < NSIG; i++)
+		if (turn->sent >> (i - 1) & 1 && !sigismember(turn->signals, i))
+			ending |= 1ull << (i - 1);
+	turn->sent = 0;
+	leave();
+	return ending && !turn->wait->goes_on && signals_are_handled(ending);
 }
 
 /* Whether a wait has an end, and the earliest. */
@@ -171,10 +240,22 @@ static void go_on(uint64_t end)
 	device_leave();
 }
 
+/* Lets the time go on to the end of a wait, or to a signal of the board before it. Returns whether signals were sent. */
+static int take_turn(const struct turn *turn)
+{
+	go_on(end_of(turn));
+	last_turn = time_of_wall();
+	return events_tell();
+}
+
 /* Whether a wait has its turn, but for what may have come before the others slept. Answers as threads_sleep. The first one
  * looks again soon, and later more seldom. */
 static uint64_t has_turn(struct turn *turn)
 {
+	uint64_t signal = events_next();
+	enter();
+	next_signal = signal;
+	leave();
 	if (!is_first(turn)) {
 		turn->piece = 0;
 		return 0;
@@ -190,22 +271,35 @@ static int pause_once(const struct wait *wait, uint64_t nanoseconds, const sigse
 	return is_news(wait) ? BOARD_CHANGED : wait->pause(wait->what, nanoseconds, signals);
 }
 
-/* Real waits, until what is waited for is there or the wait has its turn: the others sleep, what is waited for isn't there,
- * and none of them has run meanwhile. */
-static int wait_in_pieces(struct turn *turn, const sigset_t *signals)
+/* Waits for one piece of a wait that has a turn. Returns as the wait's `pause`, and -EINTR after a signal of another thread. */
+static int pause_in_turn(struct turn *turn, uint64_t nanoseconds)
 {
-	const struct wait *wait = turn->wait;
+	static const struct timespec no_time;
+	int result = pause_once(turn->wait, nanoseconds, turn->signals);
+	if (result || !was_sent_signal(turn))
+		return result;
+	/* its handler has run, or runs now */
+	REAL(ppoll)(NULL, 0, &no_time, turn->signals);
+	return -EINTR;
+}
+
+/* Real waits, until what is waited for is there or the wait has its turn: the others sleep, what is waited for isn't there,
+ * and none of them has run meanwhile. A signal that comes at the very end of a wait ends it, too. */
+static int wait_in_pieces(struct turn *turn)
+{
 	uint64_t before = 0, sleep = 0;
-	int result = pause_once(wait, 0, signals);
-	while (!result && end_of(turn) > turn->start) {
+	int result = pause_in_turn(turn, 0);
+	while (!result && own_end_of(turn) > turn->start) {
 		sleep = has_turn(turn);
 		if (sleep && sleep == before && is_first(turn)) {
-			go_on(end_of(turn));
-			last_turn = time_of_wall();
-			break;
+			result = take_turn(turn) ? pause_in_turn(turn, 0) : 0;
+			if (own_end_of(turn) <= device->client_now)
+				break;
+			before = turn->piece = 0;
+			continue;
 		}
 		before = sleep;
-		result = pause_once(wait, sleep ? 0 : turn->piece ? turn->piece : PIECE_BEHIND, signals);
+		result = pause_in_turn(turn, sleep ? 0 : turn->piece ? turn->piece : PIECE_BEHIND);
 	}
 	return result;
 }
@@ -220,11 +314,16 @@ static int wait_for_ever(const struct wait *wait, const sigset_t *signals)
 }
 
 /* A wait with a pace: the board's time is the wall clock's. */
-static int wait_paced(uint64_t end, const struct wait *wait, const sigset_t *signals)
+static int wait_paced(struct turn *turn)
 {
-	int result = pause_once(wait, 0, signals);
-	for (uint64_t left; !result && (left = time_left(end)); )
-		result = pause_once(wait, left < PACED_PIECE ? left : PACED_PIECE, signals);
+	uint64_t left = 1;
+	int result = pause_in_turn(turn, 0);
+	while (!result && left) {
+		left = time_left(turn->end);
+		if (events_next() != NEVER)
+			events_tell();
+		result = pause_in_turn(turn, left < PACED_PIECE ? left : PACED_PIECE);
+	}
 	return result;
 }
 
@@ -247,12 +346,12 @@ static void stop_waiting(void *what)
 static int wait_really(uint64_t end, const struct wait *wait, struct waiting *waiting)
 {
 	const sigset_t *signals = wait->signals ? wait->signals : &waiting->signals;
-	if (device->pace > 0)
-		return wait_paced(end, wait, signals);
-	if (end == NEVER && !wait->due && !wait->seen)
+	if (device->pace <= 0 && end == NEVER && !wait->due && !wait->seen && !descriptors_asynchronous())
 		return wait_for_ever(wait, signals);
-	waiting->turn = join(end, wait);
-	return waiting->turn ? wait_in_pieces(waiting->turn, signals) : pause_once(wait, end - device->client_now, signals);
+	waiting->turn = join(end, wait, signals);
+	if (!waiting->turn)
+		return pause_once(wait, end - device->client_now, signals);
+	return device->pace > 0 ? wait_paced(waiting->turn) : wait_in_pieces(waiting->turn);
 }
 
 /* A wait among several threads. It is known before the thread sleeps at all. If the thread is cancelled, it has no turn any
@@ -283,9 +382,25 @@ static int wait_alone(uint64_t end, const struct wait *wait)
 	return result;
 }
 
+/* where the C library says whether the process has one thread; those before 2.32 don't */
+static const char *single_threaded;
+
+__attribute__((constructor)) static void find_single_threaded(void)
+{
+	single_threaded = dlsym(RTLD_DEFAULT, "__libc_single_threaded");
+	dlerror();
+}
+
+int turns_is_only_thread(void)
+{
+	return single_threaded ? *(const volatile char *)single_threaded : threads_number() == 1;
+}
+
+/* Returns whether nothing can come between the start of a wait and its end: there is one thread, and the board sends it no
+ * signal. */
 int turns_is_alone(void)
 {
-	return __libc_single_threaded;
+	return turns_is_only_thread() && !descriptors_asynchronous();
 }
 
 /* Waits up to a time of the client, or for ever. Returns 0 when the time has come, or what has ended the wait before. */

@@ -54,6 +54,41 @@ static void ask_lengths(void)
 	report("more than the buffer", mmap(NULL, 1 << 20, PROT_READ, MAP_SHARED, descriptor, 0) == MAP_FAILED ? -1 : 0);
 }
 
+static void map(const char *name, int file, size_t length, int protection, int flags, off_t offset)
+{
+	void *place = mmap(NULL, length, protection, flags, file, offset);
+	report(name, place == MAP_FAILED ? -1 : 0);
+	if (place != MAP_FAILED)
+		munmap(place, length);
+}
+
+static void ask_maps(void)
+{
+	int reads = open("/dev/comedi0", O_RDONLY);
+	map("a map", descriptor, 8192, PROT_READ, MAP_SHARED, 0);
+	map("a map of nothing", descriptor, 0, PROT_READ, MAP_SHARED, 0);
+	map("a copy of a page", descriptor, 4096, PROT_READ, MAP_PRIVATE, 0);
+	map("a copy of two", descriptor, 8192, PROT_READ, MAP_PRIVATE, 0);
+	map("a copy to write of one that reads", reads, 4096, PROT_READ | PROT_WRITE, MAP_PRIVATE, 0);
+	map("a map from the second page on", descriptor, 4096, PROT_READ, MAP_SHARED, 4096);
+	map("a map from within a page on", descriptor, 4096, PROT_READ, MAP_SHARED, 100);
+	map("a map before the start", descriptor, 4096, PROT_READ, MAP_SHARED, -4096);
+	map("a map of more than there is", descriptor, (size_t)0 - 4096, PROT_READ, MAP_SHARED, 0);
+	close(reads);
+}
+
+/* Routes, which comedilib's header hasn't: one of the special instructions, and its questions. */
+static void ask_routes(void)
+{
+	lsampl_t data[3] = { 3, 10, 0 };
+	comedi_insn routes = { .insn = INSN_CONFIG | INSN_MASK_SPECIAL, .n = 2, .data = data };
+	report("routes", ioctl(descriptor, COMEDI_INSN, &routes));
+	printf("their number: %u\n", data[1]);
+	data[0] = 1;
+	routes.n = 3;
+	report("a route", ioctl(descriptor, COMEDI_INSN, &routes));
+}
+
 static void ask_without_commands(void)
 {
 	comedi_bufconfig size = { .subdevice = 2, .size = 7 };
@@ -61,6 +96,16 @@ static void ask_without_commands(void)
 	printf("its size: %u\n", size.size);
 	report("poll of none", ioctl(descriptor, COMEDI_POLL, 2));
 	report("poll of no subdevice", ioctl(descriptor, COMEDI_POLL, 99));
+}
+
+/* A buffer that is mapped keeps its size. */
+static void ask_mapped(void)
+{
+	comedi_bufconfig size = { .subdevice = 0, .size = 2 };
+	void *place = mmap(NULL, 4096, PROT_READ, MAP_SHARED, descriptor, 0);
+	report("a smaller buffer, mapped", ioctl(descriptor, COMEDI_BUFCONFIG, &size));
+	munmap(place, 4096);
+	report("a smaller buffer, not mapped", ioctl(descriptor, COMEDI_BUFCONFIG, &size));
 }
 
 static void ask_busy(void)
@@ -101,7 +146,10 @@ int main(void)
 	descriptor = comedi_fileno(device);
 	open_for_one_thing();
 	ask_lengths();
+	ask_maps();
+	ask_routes();
 	ask_without_commands();
+	ask_mapped();
 	ask_busy();
 	write_from_nowhere();
 	comedi_close(device);

@@ -69,6 +69,23 @@ static void write_apart(void)
 	write_bytes(1, 0);
 }
 
+/* Words that are marked in parts, by a map and by writes. Word 0 is 5 + 0 * 256, and word 1 is 7. */
+static void mark_apart(void)
+{
+	unsigned written = 0;
+	unsigned char *map = mmap(NULL, 4096, PROT_READ | PROT_WRITE, MAP_SHARED, descriptor, 0);
+	report("command", give_command(device, 1, TRIG_INT, MILLISECOND, 2));
+	memcpy(map, (unsigned char[]){ 5, 0, 7, 0 }, 4);
+	report("marked", comedi_mark_buffer_written(device, 1, 3));
+	report("written", comedi_get_buffer_write_count(device, 1, &written) < 0 ? -1 : (long)written);
+	write_bytes(1, 0);
+	report("marked", comedi_mark_buffer_written(device, 1, 13));
+	report("trigger", comedi_internal_trigger(device, 1, 0));
+	usleep(20000);
+	write_bytes(1, 0);
+	munmap(map, 4096);
+}
+
 /* An underrun, which a write of no bytes reports. */
 static void write_nothing(void)
 {
@@ -129,6 +146,7 @@ int main(void)
 	set_flags();
 	read_apart();
 	write_apart();
+	mark_apart();
 	write_nothing();
 	give_commands();
 	comedi_close(device);

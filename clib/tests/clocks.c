@@ -173,6 +173,8 @@ static long nanoseconds(clockid_t clock)
 	return time.tv_sec * 1000000000 + time.tv_nsec;
 }
 
+static struct timeval *volatile nothing;
+
 static void look_at_clocks(void)
 {
 	static const clockid_t clocks[] = { CLOCK_REALTIME, CLOCK_MONOTONIC, CLOCK_MONOTONIC_RAW, CLOCK_BOOTTIME, CLOCK_TAI };
@@ -193,6 +195,9 @@ static void look_at_clocks(void)
 	gettimeofday(&now, NULL);
 	report("microseconds between two clocks", now.tv_sec * 1000000 + now.tv_usec - start);
 	report("seconds between two clocks", time(NULL) - now.tv_sec);
+	struct timezone zone = { 77, 77 };
+	report("gettimeofday of a zone alone", gettimeofday(nothing, &zone));
+	printf("the zone: %s\n", zone.tz_minuteswest == 77 ? "none" : "one");
 }
 
 int main(void)

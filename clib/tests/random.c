@@ -19,6 +19,7 @@
 #include <sys/ioctl.h>
 #include <sys/mman.h>
 #include <sys/select.h>
+#include <sys/stat.h>
 #include <sys/timerfd.h>
 #include <sys/uio.h>
 #include <sys/wait.h>
@@ -151,7 +152,7 @@ static long call_stream(int descriptor)
 	struct pollfd asked = { descriptor, number(), 0 };
 	struct timeval time = { 0, below(3000) };
 	fd_set set;
-	switch (below(6)) {
+	switch (below(7)) {
 	case 0:
 	case 1:
 		return read(descriptor, pointer(memory), bytes);
@@ -161,6 +162,8 @@ static long call_stream(int descriptor)
 		return below(2) ? readv(descriptor, pieces, 2) : writev(descriptor, pieces, 2);
 	case 4:
 		return poll(&asked, 1, below(5));
+	case 5:
+		return below(2) ? pread(descriptor, pointer(memory), bytes, (int)number()) : pwrite(descriptor, pointer(memory), bytes, (int)number());
 	}
 	FD_ZERO(&set);
 	FD_SET(descriptor, &set);
@@ -170,7 +173,8 @@ static long call_stream(int descriptor)
 static long call_memory(int descriptor)
 {
 	size_t bytes = 1 + below(below(4) ? 4096 : 200000);
-	volatile unsigned char *map = mmap(NULL, bytes, below(2) ? PROT_READ : PROT_READ | PROT_WRITE, MAP_SHARED, descriptor, below(8) ? 0 : 4096);
+	int protection = below(2) ? PROT_READ : PROT_READ | PROT_WRITE;
+	volatile unsigned char *map = mmap(NULL, bytes, protection, below(4) ? MAP_SHARED : MAP_PRIVATE, descriptor, below(8) ? 0 : (int)number());
 	if (map == MAP_FAILED)
 		return -1;
 	for (size_t i = 0; i < bytes; i++)
@@ -182,16 +186,29 @@ static long call_memory(int descriptor)
 static long call_set(int descriptor)
 {
 	static const int changes[] = { EPOLL_CTL_ADD, EPOLL_CTL_MOD, EPOLL_CTL_DEL };
-	struct epoll_event events[3] = { { .events = below(4) ? EPOLLIN | EPOLLOUT : number() & ~(unsigned)EPOLLET } };
+	struct epoll_event events[3] = { { .events = below(4) ? EPOLLIN | EPOLLOUT | (below(2) ? EPOLLET : 0) : number() } };
 	switch (below(4)) {
 	case 0:
 		return epoll_ctl(set, changes[below(3)], descriptor, events);
 	case 1:
-		return fcntl(descriptor, F_SETFL, O_NONBLOCK | (below(2) ? O_ASYNC : 0));
+		return fcntl(descriptor, F_SETFL, O_NONBLOCK | (below(40) ? 0 : O_ASYNC));
 	case 2:
 		return usleep(below(4000));
 	}
 	return epoll_wait(set, events, 1 + below(3), below(4));
+}
+
+/* A stream over the device, and what its file is. */
+static long call_library(int descriptor)
+{
+	struct stat file;
+	FILE *stream = below(2) ? fdopen(dup(descriptor), "r+") : fopen("/dev/comedi0", below(2) ? "r" : "w");
+	if (!stream)
+		return -1;
+	size_t count = below(2) ? fread(memory, 1, below(ROOM), stream) : fwrite(memory, 1, below(ROOM), stream);
+	int result = fstat(fileno(stream), &file) || !S_ISCHR(file.st_mode) || lseek(descriptor, number(), SEEK_CUR) ? -2 : 0;
+	fclose(stream);
+	return result ? result : (long)count;
 }
 
 /* Clocks, a timer, and waits for files that aren't the device's. */
@@ -248,7 +265,9 @@ static long call_any(int kind, int which)
 		return call_memory(files[which]);
 	if (kind < 16)
 		return call_set(files[which]);
-	return kind < 18 ? call_clock() : call_file(which);
+	if (kind < 18)
+		return call_clock();
+	return kind < 20 ? call_file(which) : call_library(files[which]);
 }
 
 /* Some calls on a board of their own, in a process of their own: else all would soon be at the board's horizon. */
@@ -257,10 +276,10 @@ static int run_calls(unsigned calls)
 	set = epoll_create1(0);
 	timer = timerfd_create(CLOCK_MONOTONIC, TFD_NONBLOCK);
 	for (int i = 0; i < FILES; i++)
-		if ((files[i] = open("/dev/comedi0", O_RDWR | O_NONBLOCK)) < 0)
+		if ((files[i] = open("/dev/comedi0", O_RDWR | O_NONBLOCK)) < 0 || fcntl(files[i], F_SETOWN, getpid()))
 			return report("open", -1);
 	for (unsigned i = 0; i < calls; i++) {
-		int which = below(FILES), kind = below(20);
+		int which = below(FILES), kind = below(21);
 		memset(memory + ROOM, 0xa5, GUARD);
 		long result = call_any(kind, which);
 		for (int k = 0; k < GUARD; k++)

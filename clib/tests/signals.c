@@ -4,11 +4,12 @@
  * A sleep of 10 ms that starts at 3,000 is ended by sample 1, with 9,000,000 ns left. A pause is ended by sample 2. With
  * the signal blocked a sleep lasts as long as it says; the signal stays pending, and sigsuspend's mask unblocks it.
  *
- * The second command is given at 12,007,000 ns. A read finds its first sample there, 12, and sends no signal. The next
- * read waits for 13, and a poll for 14: each is answered with what it waited for, and the signal comes with it.
+ * The second command is given at 12,007,000 ns. A read finds its first sample there, 12, and no signal is sent. The next
+ * read waits for 13: the signal that comes with it ends the read. A poll waits for 14, and finds it though the signal comes too.
+ * A read whose handler restarts it waits for 15 and gets it. If nobody owns the file, nobody gets a signal.
  *
- * The third command is given after 14 ms, so its samples are 14 to 18. Waits for other things, of 10 ms and more, are ended
- * by 15, 16 and 17; the last of them waits for the signal itself.
+ * The third command is given after 19 ms, so its samples are 19 to 23. Waits for other things, of 10 ms and more, are ended
+ * by 20, 21 and 22; the last of them waits for the signal itself.
  */
 #define _GNU_SOURCE
 #include "client.h"
@@ -55,12 +56,35 @@ static void wait_for_others(comedi_t *device, const sigset_t *io)
 	read_and_print(device, 8);
 }
 
+/* Waits for the device itself. */
+static void wait_for_samples(comedi_t *device)
+{
+	struct pollfd asked = { comedi_fileno(device), POLLIN, 0 };
+	struct sigaction action = { .sa_handler = note, .sa_flags = SA_RESTART };
+	if (report("command", give_command(device, 0, TRIG_NOW, MILLISECOND, 7)))
+		return;
+	report_wait("samples", read_and_print(device, 1));
+	report_wait("samples", read_and_print(device, 1));
+	read_and_print(device, 1);
+	report_wait("poll", poll(&asked, 1, -1));
+	read_and_print(device, 1);
+	sigaction(SIGIO, &action, NULL);
+	report_wait("samples", read_and_print(device, 1));
+	action.sa_flags = 0;
+	sigaction(SIGIO, &action, NULL);
+	fcntl(comedi_fileno(device), F_SETOWN, 0);
+	report_wait("samples", read_and_print(device, 1));
+	report_wait("usleep", usleep(3000));
+	read_and_print(device, 8);
+	read_and_print(device, 8);
+	fcntl(comedi_fileno(device), F_SETOWN, getpid());
+}
+
 int main(void)
 {
 	comedi_t *device = open_board();
 	struct sigaction action = { .sa_handler = note };
 	struct timespec time = { 0, 10000000 }, left = { 0, 0 };
-	struct pollfd asked = { .events = POLLIN };
 	sigset_t io, none;
 	sigemptyset(&none);
 	sigemptyset(&io);
@@ -82,14 +106,7 @@ int main(void)
 	read_and_print(device, 8);
 	sigprocmask(SIG_UNBLOCK, &io, NULL);
 	read_and_print(device, 8);
-	if (report("command", give_command(device, 0, TRIG_NOW, MILLISECOND, 3)))
-		return 1;
-	report_wait("samples", read_and_print(device, 1));
-	report_wait("samples", read_and_print(device, 1));
-	asked.fd = comedi_fileno(device);
-	report_wait("poll", poll(&asked, 1, -1));
-	read_and_print(device, 1);
-	read_and_print(device, 1);
+	wait_for_samples(device);
 	wait_for_others(device, &io);
 	comedi_close(device);
 	return 0;
