@@ -1,6 +1,9 @@
 /*
  * The client's memory, as the kernel treats it: a pointer that leads nowhere is answered EFAULT. The kernel itself looks at
  * the pointer: what is copied is written to the file of the device's memory, or read from it.
+ *
+ * To give a client one sample a file takes too long. There the kernel writes as many bytes of something else: it gives the set
+ * of pending signals to whoever asks for it, up to a length of which it makes no condition. Then the sample is put there.
  */
 #define _GNU_SOURCE
 #include "device.h"
@@ -8,6 +11,9 @@
 #include <string.h>
 #include <sys/syscall.h>
 #include <unistd.h>
+
+/* bytes of the kernel's set of signals */
+#define MOST_PROBED 8
 
 static size_t piece_of(size_t bytes)
 {
@@ -25,8 +31,18 @@ int copy_in(void *to, const void *from, size_t bytes)
 	return 0;
 }
 
+/* Returns whether the kernel can write so few bytes to a pointer. It may answer that it can't do so for another reason. */
+static int can_write(void *to, size_t bytes)
+{
+	return bytes <= MOST_PROBED && !syscall(SYS_rt_sigpending, to, bytes);
+}
+
 int copy_out(void *to, const void *from, size_t bytes)
 {
+	if (can_write(to, bytes)) {
+		memcpy(to, from, bytes);
+		return 0;
+	}
 	for (size_t count; bytes; to = (char *)to + count, from = (const char *)from + count, bytes -= count) {
 		count = piece_of(bytes);
 		memcpy(device->copied, from, count);
