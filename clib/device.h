@@ -94,8 +94,10 @@ struct device {
 	unsigned subdevices;
 	struct subdevice subdevice[MOST_SUBDEVICES];
 	struct file file[MOST_FILES];
-	/* board time, in nanoseconds, which ends at the horizon; and the client's, which is the same and has no end */
-	uint64_t now, horizon, client_now, call_time;
+	/* board time, in nanoseconds, which ends at the horizon; and the client's, which is the same and has no end. They are
+	 * changed within the device, and looked at by threads that wait outside it */
+	_Atomic uint64_t now, client_now;
+	uint64_t horizon, call_time;
 	double pace;
 	/* how often a call changed what others wait for: a command, a trigger, a cancel, a close, and that nothing is answered */
 	uint64_t changes;
@@ -248,6 +250,7 @@ void threads_hold(void);
 void threads_let_go(void);
 
 /* a wait for nothing but its end, in time.c */
+uint64_t time_until(uint64_t end);
 extern const struct wait time_sleep;
 
 /* clocks.c */

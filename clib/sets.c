@@ -150,7 +150,7 @@ static int poll_members(int set, struct epoll_event *events, int most, int64_t n
 		if (done || !asked[0].revents)
 			return done;
 		if (end != NEVER)
-			nanoseconds = end > device->client_now ? end - device->client_now : 0;
+			nanoseconds = time_until(end);
 	}
 }
 

@@ -252,7 +252,7 @@ static int wait_really(uint64_t end, const struct wait *wait, struct waiting *wa
 	if (end == NEVER && !wait->due && !wait->seen)
 		return wait_for_ever(wait, signals);
 	waiting->turn = join(end, wait);
-	return waiting->turn ? wait_in_pieces(waiting->turn, signals) : pause_once(wait, end - device->client_now, signals);
+	return waiting->turn ? wait_in_pieces(waiting->turn, signals) : pause_once(wait, time_until(end), signals);
 }
 
 /* A wait among several threads. It is known before the thread sleeps at all. If the thread is cancelled, it has no turn any
