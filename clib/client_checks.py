@@ -244,6 +244,13 @@ def kills(check):
         check.expect_no_process("a client ended by signal %d" % number)
 
 
+def handlers(check):
+    """Handlers of signals that are set by each name that does so, while the board is read."""
+    for name in ("sigaction", "signal", "bsd_signal", "sysv_signal", "system_call"):
+        run = check.run("wide", [check.path("tests/handled"), name], ZENDROUZ_LOG="")
+        check.expect("a handler set by " + name, run.status == 0 and run.out == text_of("handled.expected"), "status %s" % run.status, run.out, run.err)
+
+
 def stops(check):
     """The program of answers is stopped for a while, and goes on."""
     count = 5000 if check.quick else 100000

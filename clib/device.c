@@ -24,27 +24,54 @@ static int callers;
 /* one thread of this process opens a board at a time */
 static pthread_mutex_t opening = PTHREAD_MUTEX_INITIALIZER;
 
-/* Lets one thread in at a time. Nothing interrupts it up to device_leave. */
-void device_enter(void)
+static void begin_call(void)
 {
 	outside_errno = errno;
-	quiet_begin(&outside);
+	quiet_begin_call(&outside);
 	__atomic_add_fetch(&callers, 1, __ATOMIC_SEQ_CST);
-	/* a process that ended within a call leaves an answer half read: nothing can be asked any more */
-	if (pthread_mutex_lock(&device->lock) == EOWNERDEAD) {
+}
+
+static void end_call(void)
+{
+	__atomic_sub_fetch(&callers, 1, __ATOMIC_SEQ_CST);
+	quiet_end_call(&outside);
+	errno = outside_errno;
+}
+
+/* Looks at what the lock of the device was answered. A process that ended within a call leaves an answer half read: nothing
+ * can be asked any more. */
+static int has_lock(int error)
+{
+	if (error == EOWNERDEAD) {
 		pthread_mutex_consistent(&device->lock);
 		server_lose();
 		device_changed();
 	}
+	return !error || error == EOWNERDEAD;
+}
+
+/* Lets one thread in at a time. Nothing interrupts it up to device_leave. */
+void device_enter(void)
+{
+	begin_call();
+	has_lock(pthread_mutex_lock(&device->lock));
+}
+
+/* Like device_enter, unless another thread is in the device. Returns whether this one is. */
+int device_try_enter(void)
+{
+	begin_call();
+	int is_in = has_lock(pthread_mutex_trylock(&device->lock));
+	if (!is_in)
+		end_call();
+	return is_in;
 }
 
 void device_leave(void)
 {
 	record_flush();
 	pthread_mutex_unlock(&device->lock);
-	__atomic_sub_fetch(&callers, 1, __ATOMIC_SEQ_CST);
-	quiet_end(&outside);
-	errno = outside_errno;
+	end_call();
 }
 
 /* Returns how often a call has changed what others wait for. */
@@ -149,6 +176,7 @@ static int load(const char *path)
 /* The device's memory: shared with children, so that they use the same board. */
 static int make_device(void)
 {
+	handlers_look();
 	if (device)
 		return 0;
 	void *memory = mmap(NULL, sizeof *device, PROT_READ | PROT_WRITE, MAP_SHARED | MAP_ANONYMOUS, -1, 0);

@@ -118,10 +118,11 @@ struct device {
 /* The device is in memory that a client's children share. It is there once a board was opened. */
 extern struct device *device;
 
-/* quiet.c: what the thread's signals and its cancellation were before a part of a call that nothing interrupts. */
+/* quiet.c: what the thread's signals and its cancellation were before a part of a call that nothing interrupts, and whether
+ * signals are let in meanwhile, since there is no handler. */
 struct quiet {
 	sigset_t signals;
-	int cancels;
+	int cancels, lets_signals_in;
 };
 void quiet_begin(struct quiet *quiet);
 void quiet_end(const struct quiet *quiet);
@@ -146,6 +147,13 @@ int text_read(const char *path, struct text *text);
 void text_say_refusal(const char *path, const struct text *text, const char *answer);
 
 /* ioctl.c */
+void quiet_begin_call(struct quiet *quiet);
+void quiet_end_call(const struct quiet *quiet);
+void quiet_block_signals(void);
+void quiet_begin_child(void);
+
+/* handlers.c */
+void handlers_look(void);
 int device_ioctl(int file, unsigned long request, void *argument);
 
 /* stream.c */
