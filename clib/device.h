@@ -83,6 +83,26 @@ struct text {
 
 enum wake { WAKE_SAMPLE, WAKE_SCAN, WAKE_FULL };
 
+/* how many lines a round of questions has at most, and how many bytes a line has with its answer */
+#define MOST_OF_A_ROUND 16
+#define LONGEST_ASKED (1 << 15)
+
+/* folding.c: a question as it was recorded, with its answer. */
+struct asked {
+	size_t length;
+	char text[LONGEST_ASKED];
+};
+
+/* The questions since something has happened: those that were recorded last, and how many were. For each number of lines, how
+ * often in a row a line was the same as the one so many lines before. How many lines the round has that isn't recorded any
+ * more, or 0; how many lines were left out, and the time of the last one. */
+struct folding {
+	struct asked asked[MOST_OF_A_ROUND];
+	uint64_t recorded, same[MOST_OF_A_ROUND + 1];
+	unsigned round;
+	uint64_t left_out, last_time;
+};
+
 /* how many clocks the system numbers */
 #define CLOCKS 12
 /* a time that never comes */
@@ -110,6 +130,7 @@ struct device {
 	/* how many bytes of the record are written, and whether its next lines couldn't be */
 	uint64_t record_length;
 	int record_is_cut;
+	struct folding folding;
 	enum wake wake;
 	/* the start of the memory of all buffers, which is there before a client makes children: through it is copied */
 	char *copied;
@@ -126,6 +147,13 @@ struct quiet {
 };
 void quiet_begin(struct quiet *quiet);
 void quiet_end(const struct quiet *quiet);
+void quiet_begin_call(struct quiet *quiet);
+void quiet_end_call(const struct quiet *quiet);
+void quiet_block_signals(void);
+void quiet_begin_child(void);
+
+/* handlers.c */
+void handlers_look(void);
 
 /* device.c */
 int device_open(const char *path);
@@ -133,6 +161,7 @@ void device_close(int file);
 void device_close_left(void);
 int device_serves(const char *path);
 void device_enter(void);
+int device_try_enter(void);
 void device_leave(void);
 int device_callers(void);
 uint64_t device_changes(void);
@@ -147,13 +176,6 @@ int text_read(const char *path, struct text *text);
 void text_say_refusal(const char *path, const struct text *text, const char *answer);
 
 /* ioctl.c */
-void quiet_begin_call(struct quiet *quiet);
-void quiet_end_call(const struct quiet *quiet);
-void quiet_block_signals(void);
-void quiet_begin_child(void);
-
-/* handlers.c */
-void handlers_look(void);
 int device_ioctl(int file, unsigned long request, void *argument);
 
 /* stream.c */
@@ -228,6 +250,7 @@ int time_is_shown(void);
 uint64_t time_look(void);
 void time_forget_look(void);
 uint64_t time_after(int64_t nanoseconds);
+uint64_t time_until(uint64_t end);
 uint64_t time_of_wall(void);
 
 /*
@@ -258,7 +281,6 @@ void threads_hold(void);
 void threads_let_go(void);
 
 /* a wait for nothing but its end, in time.c */
-uint64_t time_until(uint64_t end);
 extern const struct wait time_sleep;
 
 /* clocks.c */

@@ -119,7 +119,8 @@ void record_flush(void)
 	length_of_held = 0;
 }
 
-void record_line(const char *text, size_t length)
+/* Puts text behind what was recorded in this call. */
+void record_put(const char *text, size_t length)
 {
 	const size_t room = sizeof held - sizeof WHOLE;
 	if (length_of_held + length > room)
@@ -130,34 +131,57 @@ void record_line(const char *text, size_t length)
 	length_of_held += length;
 }
 
-static void put_form(const char *start, const char *form, va_list values)
+/* Records a line that may have changed something. */
+void record_line(const char *text, size_t length)
+{
+	if (record < 0)
+		return;
+	folding_end();
+	record_put(text, length);
+}
+
+/* Records a question that changes nothing, unless the lines before it have it already. */
+void record_question(const char *text, size_t length, const char *answer)
+{
+	const char *words = record < 0 ? NULL : memchr(text, ' ', length);
+	if (words && !folding_leaves_out(device->now, words, text + length - words, answer))
+		record_put(text, length);
+}
+
+/* Records that the client sleeps for so long from now on. That is a comment. */
+void record_sleep(uint64_t nanoseconds)
+{
+	char text[64];
+	if (record < 0)
+		return;
+	int start = snprintf(text, sizeof text, "# %llu", (unsigned long long)device->now);
+	int length = start + snprintf(text + start, sizeof text - start, " sleep %llu\n", (unsigned long long)nanoseconds);
+	if (!folding_leaves_out(device->now, text + start, length - start, ""))
+		record_put(text, length);
+}
+
+/* Records a comment on what has happened. */
+void record_note(const char *form, ...)
 {
 	static char text[1024];
-	int place = sprintf(text, "%s", start);
-	int length = place + vsnprintf(text + place, sizeof text - place - 1, form, values);
-	if (length < place || length > (int)sizeof text - 2)
+	va_list values;
+	if (record < 0)
+		return;
+	memcpy(text, "# ", 2);
+	va_start(values, form);
+	int length = 2 + vsnprintf(text + 2, sizeof text - 3, form, values);
+	va_end(values);
+	if (length < 2 || length > (int)sizeof text - 2)
 		return;
 	text[length] = '\n';
 	record_line(text, length + 1);
 }
 
-/* A line, and a comment. */
-void record_form(const char *form, ...)
+/* Says at the end of this process how many questions were left out last, unless another thread or process has the device. */
+__attribute__((destructor)) static void end_record(void)
 {
-	va_list values;
-	if (record < 0)
+	if (record < 0 || !device_try_enter())
 		return;
-	va_start(values, form);
-	put_form("", form, values);
-	va_end(values);
-}
-
-void record_note(const char *form, ...)
-{
-	va_list values;
-	if (record < 0)
-		return;
-	va_start(values, form);
-	put_form("# ", form, values);
-	va_end(values);
+	folding_end();
+	device_leave();
 }

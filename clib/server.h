@@ -51,8 +51,14 @@ void messages_let_go(void);
 int record_open(void);
 void record_begin_child(void);
 void record_line(const char *text, size_t length);
+void record_question(const char *text, size_t length, const char *answer);
+void record_put(const char *text, size_t length);
 void record_flush(void);
-void record_form(const char *form, ...) __attribute__((format(printf, 1, 2)));
 void record_note(const char *form, ...) __attribute__((format(printf, 1, 2)));
+void record_sleep(uint64_t nanoseconds);
+
+/* folding.c: which questions a record leaves out. */
+int folding_leaves_out(uint64_t time, const char *words, size_t length, const char *answer);
+void folding_end(void);
 
 #endif

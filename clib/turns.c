@@ -166,7 +166,7 @@ static void go_on(uint64_t end)
 	device_enter();
 	uint64_t now = device->client_now;
 	if (end > now)
-		record_note("%llu sleep %llu", (unsigned long long)device->now, (unsigned long long)(end - now));
+		record_sleep(end - now);
 	time_to(end);
 	device_leave();
 }
