@@ -25,7 +25,7 @@ void server_lose(void);
 int server_start(const char *program, const char *head, size_t length);
 int server_ask(const char *line, size_t length, void (*each)(char *line));
 int server_hear(void (*each)(char *line));
-char *server_answer(void);
+const char *server_answer(void);
 
 /* lines.c: a line is answered 0 for `ok`, the negative number of `err`, and -EIO where there is no answer. */
 int line_of_session(const char *form, ...) __attribute__((format(printf, 1, 2)));
