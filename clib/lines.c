@@ -38,13 +38,13 @@ const char *answer_words(void)
 	return text + (*text == ' ');
 }
 
-/* Whether a count and this word are all that is answered. */
-int answer_is(const char *word)
+/* Returns what stands behind the count of the answer: how a command ended, or nothing. */
+const char *answer_end(void)
 {
 	const char *text = answer_words();
 	while (*text >= '0' && *text <= '9')
 		text++;
-	return !strcmp(text + (*text == ' '), word);
+	return text + (*text == ' ');
 }
 
 int answer_says(const char *word)
@@ -57,22 +57,29 @@ int answer_numbers(uint64_t *numbers, int most)
 	const char *at = answer_words();
 	int count = 0;
 	for (; count < most && *at >= '0' && *at <= '9'; count++) {
-		for (numbers[count] = 0; *at >= '0' && *at <= '9'; at++)
-			numbers[count] = numbers[count] * 10 + (*at - '0');
+		uint64_t number = 0;
+		for (; *at >= '0' && *at <= '9'; at++)
+			number = number * 10 + (*at - '0');
+		numbers[count] = number;
 		at += *at == ' ';
 	}
 	return count;
+}
+
+static int is_refused(const char *answer)
+{
+	return *answer == 'r' && !strncmp(answer, "refused", 7);
 }
 
 /* 0, or the negative error number of the answer. */
 static int answer_error(void)
 {
 	const char *answer = server_answer();
-	if (!strncmp(answer, "err ", 4)) {
+	if (*answer == 'e' && !strncmp(answer, "err ", 4)) {
 		int number = atoi(answer + 4);
 		return number > 0 ? -number : -EIO;
 	}
-	return strncmp(answer, "refused", 7) ? 0 : -EIO;
+	return is_refused(answer) ? -EIO : 0;
 }
 
 /* Asks what `line` holds, and answers 0 or a negative error number. */
@@ -88,7 +95,7 @@ static int ask(int length, void (*each)(char *line))
 static int ask_loudly(int length)
 {
 	int result = ask(length, note_output);
-	if (result == -EIO && !strncmp(server_answer(), "refused", 7))
+	if (result == -EIO && is_refused(server_answer()))
 		message("%s: %.*s", server_answer(), length, line);
 	return result;
 }
@@ -96,8 +103,7 @@ static int ask_loudly(int length)
 /* Returns whether a line was answered. One that was refused as no line, or not answered, isn't recorded. */
 static int was_answered(void)
 {
-	const char *answer = server_answer();
-	return *answer && strncmp(answer, "refused", 7);
+	return *server_answer() && !is_refused(server_answer());
 }
 
 /* Returns what stands behind so many words of a line. */
@@ -121,7 +127,7 @@ static int has_changed_nothing(void)
 /* Records the line, if it was answered. */
 static void record_answered(int length)
 {
-	if (!was_answered())
+	if (!record_is_there() || !was_answered())
 		return;
 	if (has_changed_nothing())
 		record_question(line, length + 1, server_answer());
@@ -150,14 +156,28 @@ int line_of_session(const char *form, ...)
 /* These are made for every sample that a client reads or writes, so they are put together by hand. */
 static char *put_number(char *at, uint64_t number)
 {
-	char digits[20];
-	int count = 0;
-	do
-		digits[count++] = '0' + number % 10;
-	while (number /= 10);
-	while (count)
-		*at++ = digits[--count];
-	return at;
+	char digits[20], *end = digits + sizeof digits, *first = end;
+	for (; number >= 10; number /= 10)
+		*--first = '0' + number % 10;
+	*at++ = '0' + number;
+	if (first == end)
+		return at;
+	memcpy(at, first, end - first);
+	return at + (end - first);
+}
+
+/* Puts the board's time, which several lines in a row have. */
+static char *put_time(char *at)
+{
+	static char text[20];
+	static size_t length;
+	static uint64_t time;
+	if (!length || time != device->now) {
+		time = device->now;
+		length = put_number(text, time) - text;
+	}
+	memcpy(at, text, sizeof text);
+	return at + length;
 }
 
 /* Puts ` NUMBER` into the line. */
@@ -181,7 +201,7 @@ int line_of_values(const char *start, const uint32_t *values, unsigned count)
 static char *put_start(char *at, const char *key, int file, int subdevice)
 {
 	size_t length = strlen(key);
-	at = put_number(at, device->now);
+	at = put_time(at);
 	*at++ = ' ';
 	at = memcpy(at, key, length);
 	return put_word(put_word(at + length, file), subdevice);
@@ -207,7 +227,7 @@ static int ask_state(int length, int file, int subdevice)
 {
 	char text[SHORT_LINE];
 	int result = ask_loudly(length);
-	if (was_answered())
+	if (record_is_there() && was_answered())
 		record_question(text, put_contents(text, file, subdevice), server_answer());
 	return result;
 }
@@ -234,7 +254,7 @@ int question_peek(int file, int subdevice, unsigned from, unsigned most)
 	if (!was_answered() || result)
 		return result;
 	answer_numbers(&count, 1);
-	for (uint64_t i = from; i < from + count; i++) {
+	for (uint64_t i = from; record_is_there() && i < from + count; i++) {
 		char *end = put_word(put_start(text, "look", file, subdevice), i);
 		*end++ = '\n';
 		record_line(text, end - text);
@@ -253,13 +273,13 @@ static int note_codes(int file, int subdevice, int result)
 {
 	char text[SHORT_LINE];
 	uint64_t taken = 0;
-	if (!was_answered())
+	if (!record_is_there() || !was_answered())
 		return result;
 	if (!result)
 		answer_numbers(&taken, 1);
 	char *end = put_word(put_start(text, "read", file, subdevice), taken);
 	*end++ = '\n';
-	if (says_nothing_new(server_answer()))
+	if (!taken && says_nothing_new(server_answer()))
 		record_question(text, end - text, server_answer());
 	else
 		record_line(text, end - text);
@@ -282,7 +302,8 @@ int question_fetch(int file, int subdevice, unsigned wanted, unsigned most)
 	int result = ask_loudly(put_word(line + length, most) - line);
 	if (!was_answered())
 		return result;
-	record_line(text, put_contents(text, file, subdevice));
+	if (record_is_there())
+		record_line(text, put_contents(text, file, subdevice));
 	if (!result && answer_numbers(&time, 1) == 1)
 		time_to(time);
 	return server_hear(note_output) ? -EIO : note_codes(file, subdevice, answer_error());

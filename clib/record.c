@@ -156,6 +156,11 @@ void record_sleep(uint64_t nanoseconds)
 		return;
 	int start = snprintf(text, sizeof text, "# %llu", (unsigned long long)device->now);
 	int length = start + snprintf(text + start, sizeof text - start, " sleep %llu\n", (unsigned long long)nanoseconds);
+int record_is_there(void)
+{
+	return record >= 0;
+}
+
 	if (!folding_leaves_out(device->now, text + start, length - start, ""))
 		record_put(text, length);
 }

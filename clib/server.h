@@ -39,7 +39,7 @@ int question_untimed(const char *key, const char *words, void (*each)(char *line
 const char *entry_text(unsigned entry);
 const char *answer_words(void);
 int answer_numbers(uint64_t *numbers, int most);
-int answer_is(const char *word);
+const char *answer_end(void);
 int answer_says(const char *word);
 
 /* messages.c: lines on standard error */
@@ -49,6 +49,7 @@ void messages_let_go(void);
 
 /* record.c */
 int record_open(void);
+int record_is_there(void);
 void record_begin_child(void);
 void record_line(const char *text, size_t length);
 void record_question(const char *text, size_t length, const char *answer);
