@@ -24,6 +24,11 @@ static comedi_t *device;
 static handler_t (*set_again)(int, handler_t);
 static volatile sig_atomic_t signals, failures, is_done;
 
+static void send_soon(void)
+{
+	setitimer(ITIMER_REAL, &(struct itimerval){ .it_value = { 0, MICROSECONDS } }, NULL);
+}
+
 static void ask(int number)
 {
 	unsigned bits = 0;
@@ -31,6 +36,7 @@ static void ask(int number)
 	failures += comedi_dio_bitfield2(device, 2, 0, &bits, 0) < 0 || bits;
 	if (set_again)
 		set_again(number, ask);
+	send_soon();
 }
 
 static handler_t by_sigaction(int number, handler_t handler)
@@ -91,13 +97,12 @@ static long read_on(void)
 /* Reads samples while signals come, and then values beside another thread. */
 static void run(size_t setter)
 {
-	const struct itimerval often = { { 0, MICROSECONDS }, { 0, MICROSECONDS } };
 	pthread_t thread;
 	lsampl_t code;
 	set_again = setters[setter].is_once ? setters[setter].set : NULL;
 	if (!setters[setter].is_before)
 		setters[setter].set(SIGALRM, ask);
-	setitimer(ITIMER_REAL, &often, NULL);
+	send_soon();
 	report("wrong samples", read_on());
 	comedi_cancel(device, 0);
 	signals = 0;
