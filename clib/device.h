@@ -127,8 +127,9 @@ struct device {
 	uint64_t clock_start[CLOCKS], start_date;
 	/* whether the time has begun: the first file was opened */
 	int has_begun;
-	/* how many bytes of the record are written, and whether its next lines couldn't be */
-	uint64_t record_length;
+	/* how many bytes the lines of the record have, where the room behind them ends, if there is any, and whether its next
+	 * lines couldn't be written */
+	uint64_t record_length, record_end;
 	int record_is_cut;
 	struct folding folding;
 	enum wake wake;

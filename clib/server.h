@@ -58,6 +58,11 @@ void record_flush(void);
 void record_note(const char *form, ...) __attribute__((format(printf, 1, 2)));
 void record_sleep(uint64_t nanoseconds);
 
+/* tail.c: the end of a record, in memory. */
+int tail_can_map(int descriptor);
+int tail_put(int descriptor, const char *lines, size_t length);
+int tail_end(int descriptor);
+
 /* folding.c: which questions a record leaves out. */
 int folding_leaves_out(uint64_t time, const char *words, size_t length, const char *answer);
 void folding_end(void);
