@@ -39,13 +39,13 @@ static void memory_put(struct subdevice *s, uint64_t place, uint32_t code)
 		((sampl_t *)s->memory)[place] = code;
 }
 
-/* The counts of a command. */
+/* The counts of a command. A subdevice without a buffer has none, whatever is answered. */
 static int ask_counts(int file, int number, struct counts *counts)
 {
 	int result = scans_count(file, number, counts);
 	if (result)
 		return kernel_result(CALL_BUFFER, result);
-	return answer_says(" idle") ? -EINVAL : 0;
+	return answer_says(" idle") || !device->subdevice[number].buffer ? -EINVAL : 0;
 }
 
 /* Fills the memory with what a read has left of a scan. */
