@@ -254,6 +254,8 @@ int question_peek(int file, int subdevice, unsigned from, unsigned most)
 	if (!was_answered() || result)
 		return result;
 	answer_numbers(&count, 1);
+	if (count > most)
+		return -EIO;
 	for (uint64_t i = from; record_is_there() && i < from + count; i++) {
 		char *end = put_word(put_start(text, "look", file, subdevice), i);
 		*end++ = '\n';
