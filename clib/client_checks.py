@@ -286,6 +286,22 @@ def kills(check):
         check.expect_no_process("a client ended by signal %d" % number)
 
 
+def killed_records(check):
+    """Clients that are killed at any moment of their reads: what they asked is there, and the record says that it is whole."""
+    for round in range(3 if check.quick else 20):
+        path = check.path("cut")
+        started = check.start([check.path("tests/many"), "2", "4000000000"], check.settings("wide", ZENDROUZ_LOG=path))
+        started.stdout.readline()
+        time.sleep(round / 1000)
+        started.kill()
+        check.finish(started)
+        lines = text_at(path).splitlines()
+        samples, _, refusal = check.replayed("wide", lines)
+        right = lines[-1:] == [WHOLE] and not refusal and samples == codes_of_many(len(samples))[0]
+        check.expect("the record of a client that is killed after %d ms" % round, right, refusal, len(samples), lines[-3:])
+        check.expect_no_process("a client that is killed")
+
+
 def stops(check):
     """The program of answers is stopped for a while, and goes on."""
     count = 5000 if check.quick else 100000
