@@ -7,7 +7,7 @@ import subprocess
 import threading
 import time
 
-from checking import LIBRARY, TESTS, WHOLE, processes_of, python_with_comedi, text_of, write_file
+from checking import HERE, LIBRARY, TESTS, WHOLE, processes_of, python_with_comedi, text_of, write_file
 
 RANDOM_CALLS = 1000000
 RANDOM_SECONDS = 200
@@ -357,6 +357,14 @@ def random_calls(check, board):
     # each of its children may come to the end of the signals
     said = re.sub(r"^zendrouz: the signals of \S*/%s.board end at 10? s of board time: from here on nothing changes\n" % board, "", run.err, flags=re.M)
     check.expect("random calls of " + board, run.status == 0 and run.out == "%d calls\n" % calls and not said, run.out, said)
+
+
+def fuzzed(check):
+    """Answers that a fuzzer has found are heard under the checks of the compiler."""
+    folder = os.path.join(HERE, "fuzz", "corpus")
+    inputs = sorted(os.path.join(folder, name) for name in os.listdir(folder))
+    run = check.run("wide", [check.path("sanitized/replay")] + inputs, LD_PRELOAD="", ZENDROUZ_LOG="")
+    check.expect("answers of a fuzzer", run.status == 0 and inputs and run.out == "%d inputs\n" % len(inputs) and not run.err, run.out, run.err)
 
 
 def build(check):
