@@ -203,7 +203,7 @@ static void look(void)
 static void map_buffers(void)
 {
 	for (unsigned i = 0; i < device->subdevices; i++)
-		if (device->subdevice[i].memory && device->subdevice[i].buffer)
+		if (device->subdevice[i].buffer)
 			buffer_map(0, i);
 }
 
@@ -299,14 +299,17 @@ void calls_make(char letter)
 	}
 }
 
-/* Gives each subdevice memory, if all of it isn't too much. */
-static void make_memory(void)
+/* Gives each subdevice memory. Returns 0, or -ENOMEM if all of it is too much: then the board can't be opened. */
+static int make_memory(void)
 {
 	size_t whole = 0;
 	for (unsigned i = 0; i < device->subdevices; i++)
 		whole += (size_t)device->subdevice[i].buffer * device->subdevice[i].sample_bytes;
-	for (unsigned i = 0; i < device->subdevices && whole <= MOST_MEMORY; i++)
+	if (whole > MOST_MEMORY)
+		return -ENOMEM;
+	for (unsigned i = 0; i < device->subdevices; i++)
 		device->subdevice[i].memory = calloc(device->subdevice[i].buffer, device->subdevice[i].sample_bytes);
+	return 0;
 }
 
 /* Asks for the board, and opens it. Returns 0, or what a client is answered that can't open it. */
@@ -325,7 +328,8 @@ int calls_begin(void)
 		text_say_refusal("board", &text, server_answer());
 		return -EINVAL;
 	}
-	make_memory();
+	if (make_memory())
+		return -ENOMEM;
 	line_of_session("open 0");
 	f->is_open = 1;
 	f->read_subdevice = f->write_subdevice = NO_SUBDEVICE;
