@@ -109,8 +109,10 @@ static int was_answered(void)
 /* Returns what stands behind so many words of a line. */
 static const char *skip_words(const char *text, int words)
 {
-	while (words-- && *text)
-		text += strcspn(text, " ") + 1;
+	for (; words && *text; words--) {
+		text += strcspn(text, " ");
+		text += *text == ' ';
+	}
 	return text;
 }
 

@@ -22,8 +22,6 @@
 #include <sys/syscall.h>
 #include <unistd.h>
 
-#define WHOLE "# the record is whole\n"
-
 static int record = -1;
 /* whether it's a file in which can be written over, whether its end is mapped (tail.c), and its name */
 static int is_file, is_mapped;

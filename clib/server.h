@@ -47,7 +47,8 @@ void message(const char *form, ...) __attribute__((format(printf, 1, 2)));
 void messages_hold(void);
 void messages_let_go(void);
 
-/* record.c */
+/* record.c, and the last line of a record of which nothing is missing */
+#define WHOLE "# the record is whole\n"
 int record_open(void);
 int record_is_there(void);
 void record_begin_child(void);

@@ -19,7 +19,6 @@
 #include <unistd.h>
 
 #define XFS_MAGIC 0x58465342
-#define WHOLE "# the record is whole\n"
 #define LENGTH_OF_WHOLE (sizeof WHOLE - 1)
 /* bytes of the room that is made, and of the comment that is left at least: its first and its last byte */
 #define ROOM 16384
