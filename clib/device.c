@@ -226,6 +226,8 @@ int device_open(const char *path)
 {
 	const char *board = strncmp(path, "/dev/comedi", 11) ? path : getenv("ZENDROUZ_BOARD");
 	struct quiet quiet;
+	if (!board)
+		return -ENOENT;
 	quiet_begin(&quiet);
 	device_hold();
 	int result = make_device();
