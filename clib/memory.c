@@ -2,8 +2,8 @@
  * The client's memory, as the kernel treats it: a pointer that leads nowhere is answered EFAULT. The kernel itself looks at
  * the pointer: what is copied is written to the file of the device's memory, or read from it.
  *
- * To give a client one sample a file takes too long. There the kernel writes as many bytes of something else: it gives the set
- * of pending signals to whoever asks for it, up to a length of which it makes no condition. Then the sample is put there.
+ * For one sample a read of that file takes too long. So the kernel is asked to write as many bytes of something else to the
+ * pointer: of the set of pending signals it writes just as many bytes as are asked for. If it can, the sample is put there.
  */
 #define _GNU_SOURCE
 #include "device.h"

@@ -1,11 +1,12 @@
 /*
- * The end of a record in memory. To write the lines of each call by a system call would take as long as a third of a read of
- * one sample. So there is room behind the lines: a comment of blanks, and behind it the last line, which says that the record is
- * whole. This part of the file is mapped, and lines are put into the comment. A line is there with its first byte, which comes
- * last; up to then the comment goes on up to its end. So the record is valid at each moment, also if the client is killed.
+ * The end of a record, in memory. A system call for the lines of each call would take a third of a read of one sample. So
+ * there is room behind the lines: a comment of blanks, and behind the comment the last line, which says that the record is
+ * whole. This part of the file is mapped, and lines are put into the comment. First all of a line is put there but its first
+ * byte, so that it's still a part of the comment, and then that byte. So the record is valid at each moment, also if the client
+ * is killed.
  *
- * A store into mapped memory can't fail as a write can. So the room is written before, which takes its place on the disk, and
- * only file systems are mapped that keep it there. All within the device.
+ * A store into mapped memory that can't be done ends the client. So the room is written first, which takes its place on the
+ * disk, and only file systems are mapped on which it keeps that place. All of this is called within the device.
  */
 #define _GNU_SOURCE
 #include "device.h"
@@ -28,7 +29,7 @@
 static char *window;
 static uint64_t window_start, window_end;
 
-/* Returns whether a file may be mapped: on its file system, what was written once has its place. */
+/* Returns whether a file may be mapped: on its file system, what was written once keeps its place. */
 int tail_can_map(int descriptor)
 {
 	struct statfs state;
