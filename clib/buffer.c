@@ -41,13 +41,13 @@ static void memory_put(struct subdevice *s, uint64_t place, uint32_t code)
 		((sampl_t *)s->memory)[place] = code;
 }
 
-/* The counts of a command. */
+/* The counts of a command. A subdevice without a buffer has none, whatever is answered. */
 static int ask_counts(int file, int number, struct counts *counts)
 {
 	int result = scans_count(file, number, counts);
 	if (result)
 		return kernel_result(CALL_BUFFER, result);
-	return answer_says(" idle") ? -EINVAL : 0;
+	return answer_says(" idle") || !device->subdevice[number].buffer ? -EINVAL : 0;
 }
 
 /* Fills the memory with what a read has left of a scan. */
@@ -191,8 +191,8 @@ static int mark_bytes(int file, int number, struct counts *counts, size_t bytes)
 {
 	struct subdevice *s = &device->subdevice[number];
 	size_t size = s->sample_bytes, before = s->part, whole = (before + bytes) / size, part = (before + bytes) % size;
-	char *memory = s->memory;
-	memcpy(memory + counts->written % s->buffer * size, s->part_bytes, before);
+	char *words = s->memory;
+	memcpy(words + counts->written % s->buffer * size, s->part_bytes, before);
 	int marked = mark_words(file, number, counts->written, whole);
 	if (marked < 0 || (!marked && whole))
 		return marked;
@@ -200,7 +200,7 @@ static int mark_bytes(int file, int number, struct counts *counts, size_t bytes)
 	/* the part of a word has room if the word has */
 	int has_room = counts->room > (uint64_t)marked || (!whole && before);
 	s->part = (size_t)marked == whole && has_room ? part : 0;
-	memcpy(s->part_bytes, memory + counts->written % s->buffer * size, s->part);
+	memcpy(s->part_bytes, words + counts->written % s->buffer * size, s->part);
 	return marked * size + s->part - before;
 }
 

@@ -208,22 +208,41 @@ class Check:
                 lines = file.read().splitlines()
             if lines[-1:] == [WHOLE]:
                 lines.pop()
+                if lines and not lines[-1].strip("# "):  # a program that was killed leaves room for more
+                    lines.pop()
             else:
                 self.expect("%s: its record is whole" % (words,), environment.get("ZENDROUZ_LOG"), lines[-5:])
         return Run(started.returncode, out.decode(errors="replace"), err.decode(errors="replace"), lines)
 
-    def replayed(self, board, record):
-        """The samples and the words put out of a record, as `comedi replay` answers it."""
+    def replay(self, board, record):
+        """The lines that `comedi replay` answers to a record, and why it is refused, if it is."""
         job = text_of(board + ".board") + "\n".join(record) + "\n"
         try:
             done = subprocess.run([self.comedi, "replay"], input=job.encode(), stdout=subprocess.PIPE, timeout=self.seconds())
         except subprocess.TimeoutExpired:
             self.is_cut = self.is_late
-            return [], [], "stopped: it took too long"
+            return [], "stopped: it took too long"
         lines = done.stdout.decode().splitlines()
         if done.returncode:
-            return [], [], lines[0] if lines else "status %d" % done.returncode
+            return [], lines[0] if lines else "status %d" % done.returncode
+        return lines, ""
+
+    def replayed(self, board, record):
+        """The samples and the words put out of a record, as `comedi replay` answers it."""
+        lines, refusal = self.replay(board, record)
+        if refusal:
+            return [], [], refusal
         return samples_of([line.split() for line in record if not line.startswith("#")], lines)
+
+    def answers(self, board, record):
+        """The answer to each line of a record that puts nothing out, without its samples."""
+        answers, found = iter(self.replay(board, record)[0]), []
+        for line, answer in zip(record, answers):
+            found.append(answer)
+            words = answer.split()
+            for _ in range(int(words[1]) if line.split()[1] == "read" and words[0] == "ok" else 0):
+                next(answers)
+        return found
 
     def compare_record(self, name, board, run, codes, level=lambda code: code):
         samples, outs, refusal = self.replayed(board, run.record)

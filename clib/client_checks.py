@@ -8,7 +8,7 @@ import subprocess
 import threading
 import time
 
-from checking import LIBRARY, TESTS, WHOLE, processes_of, python_with_comedi, text_of, write_file
+from checking import HERE, LIBRARY, TESTS, WHOLE, processes_of, python_with_comedi, text_of, write_file
 
 RANDOM_CALLS = 1000000
 RANDOM_SECONDS = 200
@@ -203,6 +203,41 @@ def records(check):
     check.expect("its lines, up to there", right and len(samples) > 1000 and not refusal, refusal, text[-200:])
 
 
+# What stands in a record for the questions that it leaves out.
+REPEATED = re.compile(r"# (\d+) repeated: (\d+) lines? like the last one$")
+
+
+def unfolded(record):
+    """A record with the questions again that a round of one line has left out, a microsecond after one another."""
+    lines = []
+    for line in record:
+        found = REPEATED.match(line)
+        if not found:
+            lines.append(line)
+            continue
+        last, count = int(found.group(1)), int(found.group(2))
+        words = lines[-1].split(" ", 1)[1]
+        lines += ["%d %s" % (last - 1000 * left, words) for left in reversed(range(count))]
+    return lines
+
+
+def busy(check):
+    """The record of a client that asks over and over stays small. With all questions again it is answered as without."""
+    run = check.client("busy", "wide")
+    asked = sum(int(count) for count in re.findall(r"^# \d+ repeated: (\d+) ", "\n".join(run.record), re.M))
+    check.expect("busy: a record that stays small", len(run.record) < 200 and asked > 20000, len(run.record), asked, "\n".join(run.record))
+    check.compare_record("busy", "wide", run, run.codes())
+    folded, whole = ([line for line in lines if not line.startswith("#")] for lines in (run.record, unfolded(run.record)))
+    kept, answers = dict(zip(folded, check.answers("wide", folded))), check.answers("wide", whole)
+    check.expect("busy: all its questions are answered", len(whole) > 10000 and len(answers) == len(whole), len(whole), answers[:5])
+    wrong, last = [], None
+    for line, answer in zip(whole, answers):
+        last = kept.get(line, last)
+        if answer != last:
+            wrong.append((line, answer, last))
+    check.expect("busy: what is left out has the answers of what is there", not wrong, len(wrong), wrong[:5])
+
+
 def records_of_two(check):
     """A client that runs on: its record is whole at any time, and no other program writes into it."""
     path = check.path("cut")
@@ -222,6 +257,13 @@ def cancellations(check):
     """Threads that are cancelled within a call, with a record, whose writing is one more place, and without."""
     for settings in ({}, {"ZENDROUZ_LOG": ""}):
         check.client("cancelled", "wide", **settings)
+
+
+def handlers(check):
+    """Handlers of signals that are set by each name that does so, while the board is read."""
+    for name in ("sigaction", "signal", "bsd_signal", "sysv_signal", "system_call"):
+        run = check.run("wide", [check.path("tests/handled"), name], ZENDROUZ_LOG="")
+        check.expect("a handler set by " + name, run.status == 0 and run.out == text_of("handled.expected"), "status %s" % run.status, run.out, run.err)
 
 
 def crowds(check):
@@ -257,6 +299,22 @@ def kills(check):
         check.finish(started)
         check.expect("a client ended by signal %d" % number, line == b"command: 0\n" and started.returncode == -number, line, started.returncode)
         check.expect_no_process("a client ended by signal %d" % number)
+
+
+def killed_records(check):
+    """Clients that are killed at any moment of their reads: what they asked is there, and the record says that it is whole."""
+    for round in range(3 if check.quick else 20):
+        path = check.path("cut")
+        started = check.start([check.path("tests/many"), "2", "4000000000"], check.settings("wide", ZENDROUZ_LOG=path))
+        started.stdout.readline()
+        time.sleep(round / 1000)
+        started.kill()
+        check.finish(started)
+        lines = text_at(path).splitlines()
+        samples, _, refusal = check.replayed("wide", lines)
+        right = lines[-1:] == [WHOLE] and not refusal and samples == codes_of_many(len(samples))[0]
+        check.expect("the record of a client that is killed after %d ms" % round, right, refusal, len(samples), lines[-3:])
+        check.expect_no_process("a client that is killed")
 
 
 def stops(check):
@@ -348,6 +406,14 @@ def random_calls(check, board):
     # each of its children may come to the end of the signals
     said = re.sub(r"^zendrouz: the signals of \S*/%s.board end at 10? s of board time: from here on nothing changes\n" % board, "", run.err, flags=re.M)
     check.expect("random calls of " + board, run.status == 0 and run.out == "%d calls\n" % calls and not said, run.out, said)
+
+
+def fuzzed(check):
+    """Answers that a fuzzer has found are heard under the checks of the compiler."""
+    folder = os.path.join(HERE, "fuzz", "corpus")
+    inputs = sorted(os.path.join(folder, name) for name in os.listdir(folder))
+    run = check.run("wide", [check.path("sanitized/replay")] + inputs, LD_PRELOAD="", ZENDROUZ_LOG="")
+    check.expect("answers of a fuzzer", run.status == 0 and inputs and run.out == "%d inputs\n" % len(inputs) and not run.err, run.out, run.err)
 
 
 def build(check):

@@ -31,27 +31,54 @@ static int calls[MOST_FILES], is_left[MOST_FILES];
 /* one thread of this process opens a board at a time */
 static pthread_mutex_t opening = PTHREAD_MUTEX_INITIALIZER;
 
-/* Lets one thread in at a time. Nothing interrupts it up to device_leave. */
-void device_enter(void)
+static void begin_call(void)
 {
 	outside_errno = errno;
-	quiet_begin(&outside);
+	quiet_begin_call(&outside);
 	__atomic_add_fetch(&callers, 1, __ATOMIC_SEQ_CST);
-	/* a process that ended within a call leaves an answer half read: nothing can be asked any more */
-	if (pthread_mutex_lock(&device->lock) == EOWNERDEAD) {
+}
+
+static void end_call(void)
+{
+	__atomic_sub_fetch(&callers, 1, __ATOMIC_SEQ_CST);
+	quiet_end_call(&outside);
+	errno = outside_errno;
+}
+
+/* Looks at what the lock of the device was answered. A process that ended within a call leaves an answer half read: nothing
+ * can be asked any more. */
+static int has_lock(int error)
+{
+	if (error == EOWNERDEAD) {
 		pthread_mutex_consistent(&device->lock);
 		server_lose();
 		device_changed();
 	}
+	return !error || error == EOWNERDEAD;
+}
+
+/* Lets one thread in at a time. Nothing interrupts it up to device_leave. */
+void device_enter(void)
+{
+	begin_call();
+	has_lock(pthread_mutex_lock(&device->lock));
+}
+
+/* Like device_enter, unless another thread is in the device. Returns whether this one is. */
+int device_try_enter(void)
+{
+	begin_call();
+	int is_in = has_lock(pthread_mutex_trylock(&device->lock));
+	if (!is_in)
+		end_call();
+	return is_in;
 }
 
 void device_leave(void)
 {
 	record_flush();
 	pthread_mutex_unlock(&device->lock);
-	__atomic_sub_fetch(&callers, 1, __ATOMIC_SEQ_CST);
-	quiet_end(&outside);
-	errno = outside_errno;
+	end_call();
 }
 
 /* Returns how often a call has changed what others wait for. */
@@ -178,6 +205,7 @@ static int load(const char *path)
 /* The device's memory: shared with children, so that they use the same board. */
 static int make_device(void)
 {
+	handlers_look();
 	if (device)
 		return 0;
 	void *memory = mmap(NULL, sizeof *device, PROT_READ | PROT_WRITE, MAP_SHARED | MAP_ANONYMOUS, -1, 0);
@@ -227,6 +255,8 @@ int device_open(const char *path)
 {
 	const char *board = device_has_name(path) ? getenv("ZENDROUZ_BOARD") : path;
 	struct quiet quiet;
+	if (!board)
+		return -ENOENT;
 	quiet_begin(&quiet);
 	device_hold();
 	int result = make_device();
@@ -312,7 +342,8 @@ int device_begin_call(int file)
 	return 1;
 }
 
-static void end_call(int file)
+/* One call of a file less, which is closed if it has no descriptor any more. */
+static void leave_file(int file)
 {
 	if (!--calls[file] && is_left[file] && device->file[file].is_open && !is_held(file))
 		close_file(file);
@@ -320,7 +351,7 @@ static void end_call(int file)
 
 void device_end_call(int file)
 {
-	end_call(file);
+	leave_file(file);
 	device_leave();
 }
 
@@ -338,6 +369,6 @@ void device_end_calls(void *files)
 	device_enter();
 	for (int i = 0; i < MOST_FILES; i++)
 		if (*(const unsigned *)files >> i & 1)
-			end_call(i);
+			leave_file(i);
 	device_leave();
 }

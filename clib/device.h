@@ -88,6 +88,26 @@ struct text {
 
 enum wake { WAKE_SAMPLE, WAKE_SCAN, WAKE_FULL };
 
+/* how many lines a round of questions has at most, and how many bytes a line has with its answer */
+#define MOST_OF_A_ROUND 16
+#define LONGEST_ASKED (1 << 15)
+
+/* folding.c: a question as it was recorded, with its answer. */
+struct asked {
+	size_t length;
+	char text[LONGEST_ASKED];
+};
+
+/* The questions since something has happened: those that were recorded last, and how many were. For each number of lines, how
+ * often in a row a line was the same as the one so many lines before. How many lines the round has that isn't recorded any
+ * more, or 0; how many lines were left out, and the time of the last one. */
+struct folding {
+	struct asked asked[MOST_OF_A_ROUND];
+	uint64_t recorded, same[MOST_OF_A_ROUND + 1];
+	unsigned round;
+	uint64_t left_out, last_time;
+};
+
 /* how many clocks the system numbers */
 #define CLOCKS 12
 /* a time that never comes */
@@ -99,8 +119,10 @@ struct device {
 	unsigned subdevices;
 	struct subdevice subdevice[MOST_SUBDEVICES];
 	struct file file[MOST_FILES];
-	/* board time, in nanoseconds, which ends at the horizon; and the client's, which is the same and has no end */
-	uint64_t now, horizon, client_now, call_time;
+	/* board time, in nanoseconds, which ends at the horizon; and the client's, which is the same and has no end. They are
+	 * changed within the device, and looked at by threads that wait outside it */
+	_Atomic uint64_t now, client_now;
+	uint64_t horizon, call_time;
 	double pace;
 	/* how often a call changed what others wait for: a command, a trigger, a cancel, a close, and that nothing is answered; and
 	 * how often waits for the board were ended, by these and by changes of sets */
@@ -113,9 +135,11 @@ struct device {
 	uint64_t clock_start[CLOCKS], start_date;
 	/* whether the time has begun: the first file was opened */
 	int has_begun;
-	/* how many bytes of the record are written, and whether its next lines couldn't be */
-	uint64_t record_length;
+	/* how many bytes the lines of the record have, where the room behind them ends, if there is any, and whether its next
+	 * lines couldn't be written */
+	uint64_t record_length, record_end;
 	int record_is_cut;
+	struct folding folding;
 	enum wake wake;
 	/* the start of the memory of all buffers, which is there before a client makes children: through it is copied */
 	char *copied;
@@ -124,13 +148,21 @@ struct device {
 /* The device is in memory that a client's children share. It is there once a board was opened. */
 extern struct device *device;
 
-/* quiet.c: what the thread's signals and its cancellation were before a part of a call that nothing interrupts. */
+/* quiet.c: what the thread's signals and its cancellation were before a part of a call that nothing interrupts, and whether
+ * signals are let in meanwhile, since there is no handler. */
 struct quiet {
 	sigset_t signals;
-	int cancels;
+	int cancels, lets_signals_in;
 };
 void quiet_begin(struct quiet *quiet);
 void quiet_end(const struct quiet *quiet);
+void quiet_begin_call(struct quiet *quiet);
+void quiet_end_call(const struct quiet *quiet);
+void quiet_block_signals(void);
+void quiet_begin_child(void);
+
+/* handlers.c */
+void handlers_look(void);
 
 /* device.c */
 int device_open(const char *path);
@@ -140,6 +172,7 @@ int device_has_name(const char *path);
 int device_minor(const char *path);
 int device_serves(const char *path, int flags);
 void device_enter(void);
+int device_try_enter(void);
 void device_leave(void);
 int device_begin_call(int file);
 void device_end_call(int file);
@@ -244,6 +277,7 @@ int time_is_shown(void);
 uint64_t time_look(void);
 void time_forget_look(void);
 uint64_t time_after(int64_t nanoseconds);
+uint64_t time_until(uint64_t end);
 uint64_t time_of_wall(void);
 
 /*

@@ -16,6 +16,7 @@ static void hold_all(void)
 {
 	struct quiet before;
 	quiet_begin(&before);
+	quiet_block_signals();
 	device_hold();
 	threads_hold();
 	turns_hold();
@@ -38,6 +39,7 @@ static void let_go_of_all(void)
 
 static void begin_child(void)
 {
+	quiet_begin_child();
 	turns_begin_child();
 	descriptors_begin_child();
 	sets_begin_child();

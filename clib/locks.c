@@ -99,8 +99,7 @@ static int pause_condition(void *what, uint64_t nanoseconds, const sigset_t *sig
  * looked at a clock for it. */
 static int wait_for_python(struct condition *c, uint64_t end)
 {
-	uint64_t now = device->client_now;
-	struct timespec time = clocks_of_wall(end > now ? end - now : 0);
+	struct timespec time = clocks_of_wall(time_until(end));
 	time_forget_look();
 	return REAL(pthread_cond_clockwait)(c->variable, c->mutex, CLOCK_MONOTONIC, &time);
 }

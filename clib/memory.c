@@ -1,6 +1,9 @@
 /*
  * The client's memory, as the kernel treats it: a pointer that leads nowhere is answered EFAULT. The kernel itself looks at
  * the pointer: what is copied is written to the file of the device's memory, or read from it.
+ *
+ * For one sample a read of that file takes too long. So the kernel is asked to write as many bytes of something else to the
+ * pointer: of the set of pending signals it writes just as many bytes as are asked for. If it can, the sample is put there.
  */
 #define _GNU_SOURCE
 #include "device.h"
@@ -10,6 +13,9 @@
 #include <sys/resource.h>
 #include <sys/syscall.h>
 #include <unistd.h>
+
+/* bytes of the kernel's set of signals */
+#define MOST_PROBED 8
 
 static size_t piece_of(size_t bytes)
 {
@@ -27,8 +33,18 @@ int copy_in(void *to, const void *from, size_t bytes)
 	return 0;
 }
 
+/* Returns whether the kernel can write so few bytes to a pointer. It may answer that it can't do so for another reason. */
+static int can_write(void *to, size_t bytes)
+{
+	return bytes <= MOST_PROBED && !syscall(SYS_rt_sigpending, to, bytes);
+}
+
 int copy_out(void *to, const void *from, size_t bytes)
 {
+	if (can_write(to, bytes)) {
+		memcpy(to, from, bytes);
+		return 0;
+	}
 	for (size_t count; bytes; to = (char *)to + count, from = (const char *)from + count, bytes -= count) {
 		count = piece_of(bytes);
 		memcpy(device->copied, from, count);

@@ -14,9 +14,12 @@
 #define REAL(name) \
 	({ \
 		static __typeof__(&name) found; \
-		if (!found) \
-			found = (__typeof__(&name))names_find(#name); \
-		found; \
+		__typeof__(&name) real = __atomic_load_n(&found, __ATOMIC_RELAXED); \
+		if (!real) { \
+			real = (__typeof__(&name))names_find(#name); \
+			__atomic_store_n(&found, real, __ATOMIC_RELAXED); \
+		} \
+		real; \
 	})
 
 /* what signals_sleep answers where a sleep isn't one of board time */

@@ -24,9 +24,9 @@ extern char **environ;
 
 static char input[1 << 17];
 static size_t from, upto;
-static char *answer = "";
+static const char *answer = "";
 
-char *server_answer(void)
+const char *server_answer(void)
 {
 	return answer;
 }
@@ -159,15 +159,14 @@ static char *next_line(void)
 	}
 }
 
+static int starts_with(const char *line, const char *word, size_t length)
+{
+	return !strncmp(line, word, length) && (line[length] == ' ' || !line[length]);
+}
+
 static int is_last(const char *line)
 {
-	static const char *const words[] = { "ok", "err", "refused" };
-	for (size_t i = 0; i < sizeof words / sizeof *words; i++) {
-		size_t length = strlen(words[i]);
-		if (!strncmp(line, words[i], length) && (line[length] == ' ' || !line[length]))
-			return 1;
-	}
-	return 0;
+	return starts_with(line, "ok", 2) || starts_with(line, "err", 3) || starts_with(line, "refused", 7);
 }
 
 /* Reads an answer. Its last line is the answer, and each line before it is given to `each`. */

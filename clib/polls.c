@@ -433,7 +433,7 @@ PUBLIC int select(int count, fd_set *reads, fd_set *writes, fd_set *others, stru
 		result = !count && time ? select_nothing(nanoseconds) : NOT_OURS;
 		return result == NOT_OURS ? REAL(select)(count, reads, writes, others, time) : result;
 	}
-	same = clocks_time(end > device->client_now ? end - device->client_now : 0);
+	same = clocks_time(time_until(end));
 	if (time)
 		*time = (struct timeval){ same.tv_sec, same.tv_nsec / 1000 };
 	return result;

@@ -27,21 +27,28 @@
 #define SIZE (1u << 15)
 /* how long memory is looked at before a sleep, in nanoseconds of the wall clock: as long as the answer of a large read takes */
 #define MOMENT 200000
+/* how often memory is looked at between two looks at the clock, which take as long as some of them */
+#define LOOKS 16
+/* bytes that move together between processors, and how many of them a message of one sample has at most */
+#define LINE 64
+#define LINES_OF_A_MESSAGE 2
 /* how many waits don't look at it, at most, after one that has looked in vain */
 #define LONGEST_PAUSE 255
 /* an answer takes microseconds: a program that keeps silent so long is taken for dead. Every second is looked for a signal that
  * ends the client */
 #define SECONDS_OF_SILENCE 60
 
-/* An end of a ring: how many bytes went by, and whether its process sleeps until the other end moves. */
+/* An end of a ring: how many bytes went by, whether its process sleeps until the other end moves, and where the other end
+ * was when this one looked last. */
 struct end {
-	_Alignas(64) uint32_t passed;
+	_Alignas(LINE) uint32_t passed;
 	int sleeps;
+	uint32_t seen;
 };
 
 struct ring {
 	struct end writer, reader;
-	_Alignas(64) char bytes[SIZE];
+	_Alignas(LINE) char bytes[SIZE];
 };
 
 struct rings {
@@ -215,7 +222,16 @@ static void keep_apart(void)
 	}
 }
 
-/* Looks for a moment whether the other end moves. Where it doesn't, as on a busy machine or on one processor, most waits
+/* Looks some times whether the other end has moved. */
+static int has_moved(const struct end *other, uint32_t seen)
+{
+	for (int i = 0; i < LOOKS; i++, __builtin_ia32_pause())
+		if (passed(other) != seen)
+			return 1;
+	return 0;
+}
+
+/* Looks for a moment whether the other end moves. If it doesn't, as on a busy machine or on one processor, most waits
  * don't look. */
 static int is_seen_moving(const struct end *other, uint32_t seen)
 {
@@ -223,11 +239,15 @@ static int is_seen_moving(const struct end *other, uint32_t seen)
 		pause_left--;
 		return 0;
 	}
-	for (uint64_t until = time_of_wall() + MOMENT; time_of_wall() < until; __builtin_ia32_pause())
-		if (passed(other) != seen) {
+	uint64_t until = 0, now = 0;
+	while (now <= until) {
+		if (has_moved(other, seen)) {
 			pause_length -= pause_length > 0;
 			return 1;
 		}
+		now = time_of_wall();
+		until = until ? until : now + MOMENT;
+	}
 	keep_apart();
 	pause_length = pause_length < LONGEST_PAUSE ? 2 * pause_length + 1 : LONGEST_PAUSE;
 	pause_left = pause_length;
@@ -268,7 +288,26 @@ ssize_t rings_read(char *to, size_t most)
 	return count;
 }
 
-/* Writes all, once there is room. Answers how many bytes, or -EPIPE where the other process has ended. */
+/* Takes the memory of the next message from the processor of the other process, while this one has to wait anyway. */
+static void prepare_message(uint32_t at)
+{
+	for (int i = 0; i < LINES_OF_A_MESSAGE; i++)
+		__asm__ volatile("prefetchw %0" : : "m"(outgoing->bytes[(at + i * LINE) % SIZE]));
+}
+
+/* Returns for how many bytes there is room, once there is any, or 0 if the other process has ended. Looks at the other end
+ * only if that may be too little, since a look takes as long as it takes to hear from another processor. */
+static size_t find_room(struct end *own, const struct end *other, size_t wanted)
+{
+	uint32_t at = own->passed;
+	if (at - own->seen + wanted > SIZE)
+		own->seen = passed(other);
+	if (at - own->seen == SIZE && wait_for(own, other, own->seen))
+		own->seen = passed(other);
+	return SIZE - (at - own->seen);
+}
+
+/* Writes all, once there is room. Returns how many bytes, or -EPIPE if the other process has ended. */
 ssize_t rings_write(const char *from, size_t length)
 {
 	size_t left = length;
@@ -277,11 +316,13 @@ ssize_t rings_write(const char *from, size_t length)
 	struct end *own = &outgoing->writer, *other = &outgoing->reader;
 	for (size_t count; left; from += count, left -= count) {
 		uint32_t at = own->passed, place = at % SIZE;
-		if (at - passed(other) == SIZE && !wait_for(own, other, at - SIZE))
+		size_t room = find_room(own, other, left);
+		if (!room)
 			return -EPIPE;
-		count = least(left, SIZE - (at - passed(other)), SIZE - place);
+		count = least(left, room, SIZE - place);
 		memcpy(outgoing->bytes + place, from, count);
 		move(own, other, at + count);
+		prepare_message(at + count);
 	}
 	return length;
 }

@@ -147,24 +147,26 @@ int scans_have_failed(int file, int number, const struct counts *counts)
 /* An answer that ends a command: what the client gets for it. */
 static int reported_end(int result)
 {
-	if (result == -EPIPE || (!result && (answer_is("done") || answer_is("dry")))) {
-		record_note("%llu end: %s", (unsigned long long)device->now, server_answer());
-		if (!result && answer_is("dry"))
-			time_say_end();
-		return result ? result : END_REPORTED;
-	}
-	return 0;
+	const char *end = result ? "" : answer_end();
+	if (result != -EPIPE && strcmp(end, "done") && strcmp(end, "dry"))
+		return 0;
+	record_note("%llu end: %s", (unsigned long long)device->now, server_answer());
+	if (!strcmp(end, "dry"))
+		time_say_end();
+	return result ? result : END_REPORTED;
 }
 
 /* What a line that moves samples was answered: 0 where there is a count, or as scans_take. */
 static int moved(enum call call, int result)
 {
+	if (!result && !*answer_end())
+		return 0;
 	int end = reported_end(result);
 	if (end)
 		return end;
 	if (result)
 		return kernel_result(call, result);
-	return answer_is("idle") ? -EINVAL : 0;
+	return strcmp(answer_end(), "idle") ? 0 : -EINVAL;
 }
 
 /* Reads what is there of so many entries, once `wanted` are. Answers the number of samples, or as scans_take. */

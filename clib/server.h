@@ -26,7 +26,7 @@ void server_lose(void);
 int server_start(const char *program, const char *head, size_t length);
 int server_ask(const char *line, size_t length, void (*each)(char *line));
 int server_hear(void (*each)(char *line));
-char *server_answer(void);
+const char *server_answer(void);
 
 /* lines.c: a line is answered 0 for `ok`, the negative number of `err`, and -EIO where there is no answer. */
 int line_of_session(const char *form, ...) __attribute__((format(printf, 1, 2)));
@@ -40,7 +40,7 @@ int question_untimed(const char *key, const char *words, void (*each)(char *line
 const char *entry_text(unsigned entry);
 const char *answer_words(void);
 int answer_numbers(uint64_t *numbers, int most);
-int answer_is(const char *word);
+const char *answer_end(void);
 int answer_says(const char *word);
 
 /* messages.c: lines on standard error */
@@ -48,12 +48,25 @@ void message(const char *form, ...) __attribute__((format(printf, 1, 2)));
 void messages_hold(void);
 void messages_let_go(void);
 
-/* record.c */
+/* record.c, and the last line of a record of which nothing is missing */
+#define WHOLE "# the record is whole\n"
 int record_open(void);
+int record_is_there(void);
 void record_begin_child(void);
 void record_line(const char *text, size_t length);
+void record_question(const char *text, size_t length, const char *answer);
+void record_put(const char *text, size_t length);
 void record_flush(void);
-void record_form(const char *form, ...) __attribute__((format(printf, 1, 2)));
 void record_note(const char *form, ...) __attribute__((format(printf, 1, 2)));
+void record_sleep(uint64_t nanoseconds);
+
+/* tail.c: the end of a record, in memory. */
+int tail_can_map(int descriptor);
+int tail_put(int descriptor, const char *lines, size_t length);
+int tail_end(int descriptor);
+
+/* folding.c: which questions a record leaves out. */
+int folding_leaves_out(uint64_t time, const char *words, size_t length, const char *answer);
+void folding_end(void);
 
 #endif

@@ -257,7 +257,7 @@ static int poll_members(int set, struct epoll_event *events, int most, int64_t n
 		int done = take_events(asked, count, events, most);
 		if (done || (end != NEVER && device->client_now >= end))
 			return done;
-		nanoseconds = end == NEVER ? -1 : (int64_t)(end - device->client_now);
+		nanoseconds = end == NEVER ? -1 : (int64_t)time_until(end);
 	}
 }
 

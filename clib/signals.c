@@ -18,7 +18,8 @@ int64_t signals_sleep_until(uint64_t end)
 {
 	if (!turns_wait(end, &time_sleep))
 		return 0;
-	return device->client_now < end ? end - device->client_now : 1;
+	uint64_t left = time_until(end);
+	return left ? left : 1;
 }
 
 /* A sleep in board time, or SLEEP_IS_REAL. */

@@ -56,9 +56,9 @@ unsigned threads_number(void)
 }
 
 /* How often a thread has been given a processor. */
-static uint64_t switches_of(const char *status)
+static uint64_t switches_of(const char *text)
 {
-	const char *waited = strstr(status, "\nvoluntary_ctxt_switches:"), *taken = strstr(status, "\nnonvoluntary_ctxt_switches:");
+	const char *waited = strstr(text, "\nvoluntary_ctxt_switches:"), *taken = strstr(text, "\nnonvoluntary_ctxt_switches:");
 	return waited && taken ? strtoull(strchr(waited, ':') + 1, NULL, 10) + strtoull(strchr(taken, ':') + 1, NULL, 10) : 0;
 }
 

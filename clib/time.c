@@ -13,6 +13,7 @@
 #include "names.h"
 #include "server.h"
 #include <errno.h>
+#include <stdatomic.h>
 #include <stdio.h>
 #include <stdlib.h>
 #include <string.h>
@@ -65,8 +66,8 @@ void time_to(uint64_t time)
 		time_say_end();
 	if (time <= device->client_now)
 		return;
-	device->client_now = time;
-	device->now = time < device->horizon ? time : device->horizon;
+	atomic_store_explicit(&device->client_now, time, memory_order_relaxed);
+	atomic_store_explicit(&device->now, time < device->horizon ? time : device->horizon, memory_order_relaxed);
 }
 
 /* With a pace, lets the board's time catch up with the wall clock. */
@@ -165,4 +166,11 @@ void time_forget_look(void)
 uint64_t time_after(int64_t nanoseconds)
 {
 	return nanoseconds < 0 ? NEVER : device->client_now + nanoseconds;
+}
+
+/* Returns how many nanoseconds of the client's time are left up to a time. Another thread may let it pass meanwhile. */
+uint64_t time_until(uint64_t end)
+{
+	uint64_t now = device->client_now;
+	return end > now ? end - now : 0;
 }

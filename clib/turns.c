@@ -235,7 +235,7 @@ static void go_on(uint64_t end)
 	device_enter();
 	uint64_t now = device->client_now;
 	if (end > now)
-		record_note("%llu sleep %llu", (unsigned long long)device->now, (unsigned long long)(end - now));
+		record_sleep(end - now);
 	time_to(end);
 	device_leave();
 }
@@ -350,7 +350,7 @@ static int wait_really(uint64_t end, const struct wait *wait, struct waiting *wa
 		return wait_for_ever(wait, signals);
 	waiting->turn = join(end, wait, signals);
 	if (!waiting->turn)
-		return pause_once(wait, end - device->client_now, signals);
+		return pause_once(wait, time_until(end), signals);
 	return device->pace > 0 ? wait_paced(waiting->turn) : wait_in_pieces(waiting->turn);
 }
 

@@ -36,6 +36,7 @@ LINK_VERSION(pthread_mutexattr_destroy, 2.2.5);
 LINK_VERSION(pthread_mutexattr_init, 2.2.5);
 LINK_VERSION(pthread_mutexattr_setpshared, 2.2.5);
 LINK_VERSION(pthread_mutexattr_setrobust, 2.12);
+LINK_VERSION(pthread_mutex_trylock, 2.2.5);
 LINK_VERSION(pthread_sigmask, 2.2.5);
 LINK_VERSION(pthread_testcancel, 2.2.5);
 #endif

@@ -126,6 +126,11 @@ class Programs(Case):
         self.assertEqual(run.status, -signal.SIGKILL)
         self.assertEqual(len(run.ends), 1)
 
+    def test_a_record_ends_with_a_line_though_the_program_was_killed_in_its_reads(self) -> None:
+        with self.assertRaises(ProgramTimedOut) as raised:
+            run_program([CLIENTS / "many", "2", "4000000000"], board=CLIB_TESTS / "wide.board", timeout=0.5)
+        self.assertRegex(str(raised.exception), r"The last line of its record: \d+ \w+ 0 0")
+
     def test_a_program_that_is_not_there(self) -> None:
         with self.assertRaises(FileNotFoundError):
             run_program(["./none"], board=SMALL)

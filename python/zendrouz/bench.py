@@ -25,6 +25,8 @@ _END = re.compile(r"^# (\d+) end: (?:ok 0|err 32) (.*)$", re.M)
 START = "2030-01-01T00:00:00Z"
 #: The last line of a record of which nothing is missing.
 _WHOLE = "# the record is whole\n"
+#: Room for more lines, which a program that was killed leaves before it.
+_ROOM = re.compile(r"^# *\n\Z", re.M)
 
 
 @dataclass(frozen=True)
@@ -144,7 +146,7 @@ def _run(words: Sequence[str], variables: Mapping[str, str], folder: Optional[Pa
 def _record(path: Path) -> Tuple[str, bool]:
     """The lines of a record, and whether it is whole. A program that opened no board has none."""
     text = _text(path)
-    return (text[:-len(_WHOLE)], True) if text.endswith(_WHOLE) else (text, not path.exists())
+    return (_ROOM.sub("", text[:-len(_WHOLE)]), True) if text.endswith(_WHOLE) else (text, not path.exists())
 
 
 def _text(path: Path) -> str:
