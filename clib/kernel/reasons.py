@@ -1,0 +1,116 @@
+"""The reasons for which a row of the model may differ from the kernel's, and where a document says so."""
+
+import os
+import re
+import tomllib
+from dataclasses import dataclass, field
+
+from probes import HERE, TOP
+
+REASONS = os.path.join(HERE, "reasons.toml")
+# a reason with this name is a fault that is known and not repaired yet, and no document says it
+OPEN = "open_"
+FIELDS = {"title", "document", "sentence", "rows"}
+FIELDS_OF_ROWS = {"sheet", "section", "call", "kernel", "model"}
+
+
+@dataclass
+class Row:
+    """A call, and how the kernel and the model answered it. `section` is the run and the heading that it stands under."""
+
+    sheet: str
+    section: str
+    call: str
+    kernel: str
+    model: str
+
+    def is_same(self):
+        """Whether both answered alike."""
+        return self.kernel == self.model
+
+
+@dataclass
+class Pattern:
+    """Which rows a reason covers: each text is a regular expression for the whole of that part of a row."""
+
+    sheet: str
+    call: str
+    kernel: str
+    model: str
+    section: str = ".*"
+    count: int = 0
+
+    def covers(self, row):
+        """Whether a row is one of these. `$1` in the model's text stands for the first group of the kernel's."""
+        if row.sheet not in self.sheet.split() or not re.fullmatch(self.section, row.section) or not re.fullmatch(self.call, row.call):
+            return False
+        kernel = re.fullmatch(self.kernel, row.kernel)
+        return bool(kernel) and bool(re.fullmatch(self.model, row.model))
+
+
+@dataclass
+class Reason:
+    """Why rows differ."""
+
+    name: str
+    title: str
+    document: str = ""
+    sentence: str = ""
+    patterns: list = field(default_factory=list)
+
+    def is_open(self):
+        """Whether it is a fault that isn't repaired."""
+        return self.name.startswith(OPEN)
+
+    def count(self):
+        """How many rows it covers."""
+        return sum(pattern.count for pattern in self.patterns)
+
+    def faults(self, top):
+        """What is wrong with the reason itself, in words."""
+        if self.is_open():
+            return [f"{self.name}: an open reason has no sentence"] if self.sentence else []
+        if not self.sentence:
+            return [f"{self.name}: has no sentence of a document"]
+        path = os.path.join(top, self.document)
+        if not os.path.isfile(path):
+            return [f"{self.name}: there is no {self.document}"]
+        with open(path, encoding="utf-8") as file:
+            return [] if self.sentence in file.read() else [f"{self.name}: {self.document} doesn't say: {self.sentence}"]
+
+
+def load(path=REASONS):
+    """The reasons of a file, in its order."""
+    with open(path, "rb") as file:
+        texts = tomllib.load(file)
+    found = []
+    for name, said in texts.items():
+        unknown = set(said) - FIELDS | {key for row in said.get("rows", []) for key in set(row) - FIELDS_OF_ROWS}
+        if unknown or "title" not in said or not said.get("rows"):
+            raise ValueError(f"{path}: {name}: {', '.join(sorted(unknown)) or 'title or rows'}: unknown, or not there")
+        patterns = [Pattern(**row) for row in said["rows"]]
+        found.append(Reason(name, said["title"], said.get("document", ""), said.get("sentence", ""), patterns))
+    return found
+
+
+def reason_of(row, reasons):
+    """The first reason that covers a row that differs, which counts it."""
+    for reason in reasons:
+        for pattern in reason.patterns:
+            if pattern.covers(row):
+                pattern.count += 1
+                return reason
+    return None
+
+
+def unused(reasons, names):
+    """The patterns that cover no row any more, of the sheets that were compared, in words."""
+    for reason in reasons:
+        for pattern in reason.patterns:
+            if not pattern.count and set(pattern.sheet.split()) & set(names):
+                yield f"{reason.name}: covers no row of {pattern.sheet} any more: call '{pattern.call}', kernel '{pattern.kernel}', model '{pattern.model}'"
+
+
+def faults(reasons, top=TOP):
+    """What is wrong with the reasons themselves."""
+    return [fault for reason in reasons for fault in reason.faults(top)]
