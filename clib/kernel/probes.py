@@ -3,6 +3,7 @@
 import lzma
 import os
 import re
+import shutil
 import subprocess
 from dataclasses import dataclass, field
 
@@ -35,6 +36,62 @@ range 0 5000000 0
 """
 
 
+# Runs of comedilib's demos and programs. Those that write without an end, and those for counters, aren't among them.
+PROGRAMS = """comedi_board_info
+comedi_board_info -v
+demo_info
+demo_inp
+demo_inp -s 0 -c 3
+demo_inp -s 1 -c 0
+demo_inp -s 7
+demo_inp -c 9
+demo_inp -r 5
+demo_inpn
+demo_insn -c 3 -N 4
+demo_tut1
+demo_tut2
+demo_outp -s 1 7
+demo_inp -s 1 -c 0
+demo_outp -s 1 70000
+demo_outp -s 0 7
+demo_outp -s 1 32767
+demo_dio -s 1 1
+demo_dio -s 0 1
+demo_cmd -n 1 -N 3
+demo_cmd -n 3 -N 6 -F 100
+demo_cmd -n 3 -N 6 -F 100 -p
+demo_cmd -c 2 -n 2 -N 10 -F 1000
+demo_cmd -n 17 -N 3
+demo_cmd -s 1 -N 3
+demo_cmd -c 7 -n 2 -N 3
+demo_cmd -r 1 -c 2 -n 1 -N 3
+demo_mmap -n 3 -N 500 -F 1000
+demo_mmap -c 2 -n 2 -N 100 -F 1000
+demo_tut3 -n 2
+demo_tut3 -c 2 -n 2
+demo_poll
+demo_poll -c 2
+demo_select
+demo_select -c 2
+demo_do_waveform -F 1000 0
+demo_antialias
+demo_apply_cal
+demo_choose_clock 0
+demo_choose_filter 0
+demo_choose_routing 0
+demo_eeprom_dump
+demo_gpct_buffered_counting
+demo_gpct_encoder
+demo_gpct_pulse_generator
+demo_gpct_simple_counting
+demo_pwm -N 1 50
+demo_receiver
+demo_sender
+demo_sv
+comedi_test -s 0
+comedi_test -s 1""".splitlines()
+
+
 @dataclass
 class Sheet:
     """The runs of one file of answers, and where they run."""
@@ -45,6 +102,8 @@ class Sheet:
     board: str = "comedi_test"
     kernel_settings: dict = field(default_factory=dict)
     model_settings: dict = field(default_factory=dict)
+    # whether its runs are programs of comedilib, whose whole output is compared
+    is_of_programs: bool = False
 
 
 def parts(program, names):
@@ -83,6 +142,7 @@ def sheets(seed):
         Sheet("closings", "doubles, children and closes in every order", parts("closings", "orders shared replaced children")),
         Sheet("cases", "signals, `exec`, streams of C and other cases", parts("cases", "other_reads locks ends signals close_while_reading started_anew handed_on many_files")),
         Sheet("sequences", f"{SEQUENCES} random sequences of {STEPS} calls by two threads", random_sequences(seed)),
+        Sheet("programs", f"{len(PROGRAMS)} runs of comedilib's own programs", PROGRAMS, is_of_programs=True),
         Sheet("port", "lines of a parallel port (`comedi_parport`)", ["lines all"], "comedi_parport", port),
         Sheet("interrupts", "its command, by interrupts", parts("interrupts", "requests tests samples mapped"), "comedi_parport", port, {"PROBE_EDGES": "1"}),
         Sheet("bond", "the same lines by `comedi_bond`", ["lines all"], "comedi_bond", {"PROBE_DEVICE": "/dev/comedi2"}),
@@ -95,6 +155,12 @@ def board_text(board):
         return BOND + "signals 1000000000000\n"
     with open(os.path.join(TOP, "boards", f"{board}.{board}.txt"), encoding="utf-8") as file:
         return file.read() + (EDGES if board == "comedi_parport" else WAVES)
+
+
+def program_path(name):
+    """The file of a probe or of a program of comedilib."""
+    built = os.path.join(OUT, name)
+    return built if os.path.exists(built) else shutil.which(name) or name
 
 
 def sheet_path(folder, name):

@@ -218,7 +218,9 @@ static void handed_on(char **words)
 		char room[CMSG_SPACE(sizeof(int))];
 	} control = { .head = { .cmsg_len = CMSG_LEN(sizeof(int)), .cmsg_level = SOL_SOCKET, .cmsg_type = SCM_RIGHTS } };
 	struct iovec piece = { bytes, 1 };
-	struct msghdr message = { .msg_iov = &piece, .msg_iovlen = 1, .msg_control = control.room, .msg_controllen = sizeof control.room };
+	struct msghdr message = {
+		.msg_iov = &piece, .msg_iovlen = 1, .msg_control = control.room, .msg_controllen = sizeof control.room
+	};
 	char name[40];
 	int file = ended(), sockets[2];
 	comedi_devinfo d;
@@ -254,8 +256,14 @@ static void many_files(char **words)
 int main(int argc, char **argv)
 {
 	static const struct part parts[] = {
-		{ "other_reads", other_reads }, { "locks", locks }, { "ends", ends }, { "signals", signals }, { "close_while_reading", close_while_reading },
-		{ "started_anew", started_anew }, { "handed_on", handed_on }, { "many_files", many_files },
+		{ "other_reads", other_reads },
+		{ "locks", locks },
+		{ "ends", ends },
+		{ "signals", signals },
+		{ "close_while_reading", close_while_reading },
+		{ "started_anew", started_anew },
+		{ "handed_on", handed_on },
+		{ "many_files", many_files },
 	};
 	(void)argc;
 	return run_part(parts, LENGTH(parts), argv, 120);

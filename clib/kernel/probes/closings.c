@@ -8,15 +8,9 @@ static unsigned list[] = { 2, 3 };
 static char bytes[BUFFER_BYTES];
 
 /* What is done with the file before its descriptors are closed. */
-static void be_idle(int file)
-{
-	(void)file;
-}
+static void be_idle(int file) { (void)file; }
 
-static void be_locked(int file)
-{
-	ioctl(file, COMEDI_LOCK, INPUT);
-}
+static void be_locked(int file) { ioctl(file, COMEDI_LOCK, INPUT); }
 
 static void be_ended(int file)
 {
@@ -30,10 +24,7 @@ static void be_armed(int file)
 	write(file, bytes, 8);
 }
 
-static void be_overrun(int file)
-{
-	overrun(file);
-}
+static void be_overrun(int file) { overrun(file); }
 
 static void be_locked_and_ended(int file)
 {
@@ -44,7 +35,8 @@ static void be_locked_and_ended(int file)
 static const struct {
 	const char *name;
 	void (*lead)(int file);
-} leads[] = { { "idle", be_idle }, { "locked", be_locked }, { "ended", be_ended }, { "armed", be_armed }, { "overrun", be_overrun }, { "locked and ended", be_locked_and_ended } };
+} leads[] = { { "idle", be_idle }, { "locked", be_locked }, { "ended", be_ended }, { "armed", be_armed },
+	{ "overrun", be_overrun }, { "locked and ended", be_locked_and_ended } };
 
 /* The ways to a second descriptor of a file. */
 static int by_dup(int file) { return dup(file); }
@@ -56,7 +48,8 @@ static int by_fcntl_cloexec(int file) { return fcntl(file, F_DUPFD_CLOEXEC, 101)
 static const struct {
 	const char *name;
 	int (*make)(int file);
-} doubles[] = { { "dup", by_dup }, { "dup2", by_dup2 }, { "dup3", by_dup3 }, { "F_DUPFD", by_fcntl }, { "F_DUPFD_CLOEXEC", by_fcntl_cloexec } };
+} doubles[] = { { "dup", by_dup }, { "dup2", by_dup2 }, { "dup3", by_dup3 }, { "F_DUPFD", by_fcntl },
+	{ "F_DUPFD_CLOEXEC", by_fcntl_cloexec } };
 
 /* A child that has all descriptors, and keeps them until a byte comes. */
 struct child {
@@ -216,7 +209,10 @@ static void child_reads(int file) { row("child reads = %s", answer(read(file, by
 static void child_locks(int file) { row("child locks = %s", answer(ioctl(file, COMEDI_LOCK, INPUT))); }
 static void child_unlocks(int file) { row("child unlocks = %s", answer(ioctl(file, COMEDI_UNLOCK, INPUT))); }
 static void child_cancels(int file) { row("child cancels = %s", answer(ioctl(file, COMEDI_CANCEL, INPUT))); }
-static void child_commands(int file) { row("child's command = %s", answer(give(file, input_command(list, LENGTH(list), SLOW, 0)))); }
+static void child_commands(int file)
+{
+	row("child's command = %s", answer(give(file, input_command(list, LENGTH(list), SLOW, 0))));
+}
 static void child_closes(int file) { row("child closes = %s", answer(close(file))); }
 
 static void child_opens(int file)
@@ -257,7 +253,8 @@ static void children(char **words)
 
 int main(int argc, char **argv)
 {
-	static const struct part parts[] = { { "orders", orders }, { "shared", shared }, { "replaced", replaced }, { "children", children } };
+	static const struct part parts[] = { { "orders", orders }, { "shared", shared }, { "replaced", replaced },
+		{ "children", children } };
 	(void)argc;
 	return run_part(parts, LENGTH(parts), argv, 300);
 }

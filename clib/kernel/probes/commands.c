@@ -2,17 +2,19 @@
  *     commands PART SUBDEVICE [SEED COUNT] */
 #include "probe.h"
 
-static const unsigned sources[] = { 0, TRIG_NONE, TRIG_NOW, TRIG_FOLLOW, TRIG_TIME, TRIG_TIMER, TRIG_COUNT, TRIG_EXT, TRIG_INT, TRIG_OTHER, TRIG_ANY, TRIG_NOW | TRIG_TIMER, TRIG_FOLLOW | TRIG_TIMER, TRIG_NONE | TRIG_COUNT, TRIG_NOW | TRIG_EXT, 0x80000000, 0x400 };
-static const unsigned arguments[] = { 0, 1, 2, 3, 4, 5, 7, 8, 9, 10, 16, 17, 499, 500, 501, 999, 1000, 1001, 1499, 1500, 1501, 2000, 100000, 999999, 1000000, 0x7fffffff, 0x80000000, 3999999999u, 4000000000u, 4000000001u, 4294966295u, 4294966796u, 4294967000u, 4294967294u, 4294967295u };
-static const unsigned flag_sets[] = { 0, CMDF_BOGUS, 2, 4, CMDF_PRIORITY, 16, CMDF_WAKE_EOS, CMDF_WRITE, CMDF_RAWDATA, 0x100, 0x8000, CMDF_ROUND_DOWN, CMDF_ROUND_UP, CMDF_ROUND_UP_NEXT, 0x40000000, 0x80000000, 0xffffffff };
+static const unsigned sources[] = { 0, TRIG_NONE, TRIG_NOW, TRIG_FOLLOW, TRIG_TIME, TRIG_TIMER, TRIG_COUNT, TRIG_EXT, TRIG_INT,
+	TRIG_OTHER, TRIG_ANY, TRIG_NOW | TRIG_TIMER, TRIG_FOLLOW | TRIG_TIMER, TRIG_NONE | TRIG_COUNT, TRIG_NOW | TRIG_EXT,
+	0x80000000, 0x400 };
+static const unsigned arguments[] = { 0, 1, 2, 3, 4, 5, 7, 8, 9, 10, 16, 17, 499, 500, 501, 999, 1000, 1001, 1499, 1500, 1501,
+	2000, 100000, 999999, 1000000, 0x7fffffff, 0x80000000, 3999999999u, 4000000000u, 4000000001u, 4294966295u, 4294966796u,
+	4294967000u, 4294967294u, 4294967295u };
+static const unsigned flag_sets[] = { 0, CMDF_BOGUS, 2, 4, CMDF_PRIORITY, 16, CMDF_WAKE_EOS, CMDF_WRITE, CMDF_RAWDATA, 0x100,
+	0x8000, CMDF_ROUND_DOWN, CMDF_ROUND_UP, CMDF_ROUND_UP_NEXT, 0x40000000, 0x80000000, 0xffffffff };
 static unsigned list[20];
 static int file;
 static unsigned subdevice;
 
-static unsigned pick(const unsigned *from, size_t count)
-{
-	return from[random_below(count)];
-}
+static unsigned pick(const unsigned *from, size_t count) { return from[random_below(count)]; }
 
 static comedi_cmd good(void)
 {
@@ -25,18 +27,20 @@ static void try(comedi_cmd command, const char *what)
 	int result = 1;
 	for (int i = 0; result > 0 && i < 3; i++) {
 		result = ioctl(file, COMEDI_CMDTEST, &command);
-		row("%s%s = %s %s", what, i == 0 ? "" : i == 1 ? ", again" : ", a third time", answer(result), command_text(&command, list));
+		row("%s%s = %s %s", what,
+			i == 0 ? "" :
+			i == 1 ? ", again" :
+				 ", a third time",
+			answer(result), command_text(&command, list));
 	}
 }
 
-static unsigned *field(comedi_cmd *command, unsigned number)
-{
-	return &command->start_src + number;
-}
+static unsigned *field(comedi_cmd *command, unsigned number) { return &command->start_src + number; }
 
 static void fields(char **words)
 {
-	static const char *const names[] = { "start", "start argument", "scan", "scan argument", "convert", "convert argument", "end", "end argument", "stop", "stop argument" };
+	static const char *const names[] = { "start", "start argument", "scan", "scan argument", "convert", "convert argument",
+		"end", "end argument", "stop", "stop argument" };
 	(void)words;
 	for (unsigned f = 0; f < LENGTH(names); f++)
 		for (size_t i = 0; i < (f % 2 ? LENGTH(arguments) : LENGTH(sources)); i++) {
@@ -65,7 +69,8 @@ static void flags(char **words)
 static void lists(char **words)
 {
 	static const unsigned lengths[] = { 0, 1, 8, 9, 16, 17, 1000, 0x7fffffff, 0x80000000, 0xffffffff };
-	static const unsigned entries[] = { 8, 255, CR_PACK(0, 1, 0), CR_PACK(0, 2, 0), CR_PACK(0, 255, 0), CR_PACK(0, 0, AREF_DIFF), CR_PACK(0, 0, AREF_OTHER), 0xffffffff };
+	static const unsigned entries[] = { 8, 255, CR_PACK(0, 1, 0), CR_PACK(0, 2, 0), CR_PACK(0, 255, 0),
+		CR_PACK(0, 0, AREF_DIFF), CR_PACK(0, 0, AREF_OTHER), 0xffffffff };
 	(void)words;
 	for (size_t i = 0; i < LENGTH(lengths); i++)
 		for (int has_list = 0; has_list < 2; has_list++) {
@@ -138,8 +143,10 @@ static void given(char **words)
 			command.chanlist_len = bad == 3 ? 0 : 2;
 			command.chanlist = bad == 4 ? NULL : list;
 			int result = ioctl(file, COMEDI_CMD, &command);
-			row("command of flags %#x, %s = %s %s", flag_sets[i], names[bad], answer(result), command_text(&command, list));
-			row("command of flags %#x, %s: busy = %d", flag_sets[i], names[bad], strstr(state_of(file), "BUSY") != NULL);
+			row("command of flags %#x, %s = %s %s", flag_sets[i], names[bad], answer(result),
+				command_text(&command, list));
+			row("command of flags %#x, %s: busy = %d", flag_sets[i], names[bad],
+				strstr(state_of(file), "BUSY") != NULL);
 			ioctl(file, COMEDI_CANCEL, subdevice);
 		}
 }
@@ -148,7 +155,9 @@ static void change(comedi_cmd *command)
 {
 	unsigned f = random_below(14);
 	if (f < 10 && f % 2)
-		*field(command, f) = random_below(3) ? pick(arguments, LENGTH(arguments)) : random_below(3) ? random_below(10000) : random_below(1 << 16) << 16 | random_below(1 << 16);
+		*field(command, f) = random_below(3) ? pick(arguments, LENGTH(arguments)) :
+				     random_below(3) ? random_below(10000) :
+						       random_below(1 << 16) << 16 | random_below(1 << 16);
 	else if (f < 10)
 		*field(command, f) = pick(sources, LENGTH(sources));
 	else if (f == 10)
@@ -178,7 +187,8 @@ static void changed(char **words)
 
 int main(int argc, char **argv)
 {
-	static const struct part parts[] = { { "fields", fields }, { "flags", flags }, { "lists", lists }, { "pointers", pointers }, { "given", given }, { "changed", changed } };
+	static const struct part parts[] = { { "fields", fields }, { "flags", flags }, { "lists", lists },
+		{ "pointers", pointers }, { "given", given }, { "changed", changed } };
 	if (argc < 3)
 		return 2;
 	subdevice = atoi(argv[2]);

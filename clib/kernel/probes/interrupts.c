@@ -43,8 +43,15 @@ static void interrupt(int count)
 static comedi_cmd port_command(void)
 {
 	return (comedi_cmd){
-		.subdev = SUBDEVICE, .start_src = TRIG_NOW, .scan_begin_src = TRIG_EXT, .convert_src = TRIG_FOLLOW, .scan_end_src = TRIG_COUNT,
-		.scan_end_arg = 1, .stop_src = TRIG_NONE, .chanlist = list, .chanlist_len = 1,
+		.subdev = SUBDEVICE,
+		.start_src = TRIG_NOW,
+		.scan_begin_src = TRIG_EXT,
+		.convert_src = TRIG_FOLLOW,
+		.scan_end_src = TRIG_COUNT,
+		.scan_end_arg = 1,
+		.stop_src = TRIG_NONE,
+		.chanlist = list,
+		.chanlist_len = 1,
 	};
 }
 
@@ -62,7 +69,8 @@ static void show_counts(int file, const char *what, unsigned taken)
 	if (result)
 		row("%s: counts, %u = %s", what, taken, answer(result));
 	else
-		row("%s: counts, %u = %u wc %u wp %u rc %u rp %u", what, taken, c.bytes_read, c.buf_write_count, c.buf_write_ptr, c.buf_read_count, c.buf_read_ptr);
+		row("%s: counts, %u = %u wc %u wp %u rc %u rp %u", what, taken, c.bytes_read, c.buf_write_count, c.buf_write_ptr,
+			c.buf_read_count, c.buf_read_ptr);
 }
 
 static void look(int file, const char *what)
@@ -173,7 +181,8 @@ static void mapped(char **words)
 
 int main(int argc, char **argv)
 {
-	static const struct part parts[] = { { "requests", requests }, { "tests", tests }, { "samples", samples }, { "mapped", mapped } };
+	static const struct part parts[] = { { "requests", requests }, { "tests", tests }, { "samples", samples },
+		{ "mapped", mapped } };
 	comedi_bufconfig size = { .subdevice = SUBDEVICE, .size = BUFFER_BYTES };
 	(void)argc;
 	device = getenv("PROBE_DEVICE") ? getenv("PROBE_DEVICE") : DEVICE;

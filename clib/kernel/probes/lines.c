@@ -64,7 +64,8 @@ static void configure_channel(unsigned subdevice, unsigned channel, unsigned cha
 {
 	static const unsigned numbers[] = { INSN_CONFIG_DIO_OUTPUT, INSN_CONFIG_DIO_INPUT, 2, 99 };
 	for (size_t i = 0; i < LENGTH(numbers); i++) {
-		row("%u.%u: configuration %u = %s", subdevice, channel, numbers[i], answer(on(INSN_CONFIG, subdevice, channel, 1, numbers[i], 0)));
+		row("%u.%u: configuration %u = %s", subdevice, channel, numbers[i],
+			answer(on(INSN_CONFIG, subdevice, channel, 1, numbers[i], 0)));
 		for (unsigned k = 0; k < channels; k++)
 			show_direction(subdevice, k);
 		set_bits(subdevice, 0, 0xff, 0x5a);

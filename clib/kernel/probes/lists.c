@@ -23,7 +23,8 @@ static void play(const char *what, unsigned count)
 {
 	comedi_insnlist whole = { .n_insns = count, .insns = list };
 	int result = ioctl(file, COMEDI_INSNLIST, &whole);
-	row("%s = %s, %x %x, %x %x, %x %x", what, answer(result), data[0][0], data[0][1], data[1][0], data[1][1], data[2][0], data[2][1]);
+	row("%s = %s, %x %x, %x %x, %x %x", what, answer(result), data[0][0], data[0][1], data[1][0], data[1][1], data[2][0],
+		data[2][1]);
 }
 
 /* Plays one instruction on channel 6 of the output: a write of a value, or a reading. */
@@ -126,7 +127,8 @@ static void pointers(char **words)
 	for (size_t p = 0; p < LENGTH(places); p++)
 		for (size_t c = 0; c < LENGTH(counts); c++) {
 			comedi_insnlist whole = { .n_insns = counts[c], .insns = places[p] };
-			row("list %zu of bad pointers, %u of them = %s", p, counts[c], answer(ioctl(file, COMEDI_INSNLIST, &whole)));
+			row("list %zu of bad pointers, %u of them = %s", p, counts[c],
+				answer(ioctl(file, COMEDI_INSNLIST, &whole)));
 		}
 	for (size_t p = 0; p < LENGTH(places); p++)
 		row("list at bad pointer %zu = %s", p, answer(ioctl(file, COMEDI_INSNLIST, places[p])));
@@ -134,7 +136,8 @@ static void pointers(char **words)
 
 int main(int argc, char **argv)
 {
-	static const struct part parts[] = { { "orders", orders }, { "failures", failures }, { "lengths", lengths }, { "pointers", pointers } };
+	static const struct part parts[] = { { "orders", orders }, { "failures", failures }, { "lengths", lengths },
+		{ "pointers", pointers } };
 	(void)argc;
 	make_pages();
 	file = open_device(O_RDWR);

@@ -6,12 +6,15 @@ static unsigned list[] = { 2, 3 };
 
 static void kinds(char **words)
 {
-	static const size_t sizes[] = { 0, 1, 2, 4095, 4096, 4097, 8192, 65536, 131071, 131072, 131073, 135168, 1 << 21, 1 << 22, 1 << 25, 0x7fffffff, 0x80000000, 0x100000000ul, -4096ul };
+	static const size_t sizes[] = { 0, 1, 2, 4095, 4096, 4097, 8192, 65536, 131071, 131072, 131073, 135168, 1 << 21, 1 << 22,
+		1 << 25, 0x7fffffff, 0x80000000, 0x100000000ul, -4096ul };
 	static const off_t offsets[] = { 0, 1, 4096, 131072, -4096 };
 	static const struct {
 		const char *name;
 		int value;
-	} protections[] = { { "r", PROT_READ }, { "w", PROT_WRITE }, { "rw", PROT_READ | PROT_WRITE }, { "none", PROT_NONE }, { "x", PROT_READ | PROT_EXEC } }, flags[] = { { "shared", MAP_SHARED }, { "private", MAP_PRIVATE } };
+	} protections[] = { { "r", PROT_READ }, { "w", PROT_WRITE }, { "rw", PROT_READ | PROT_WRITE }, { "none", PROT_NONE },
+		{ "x", PROT_READ | PROT_EXEC } },
+	  flags[] = { { "shared", MAP_SHARED }, { "private", MAP_PRIVATE } };
 	int file = open_device(O_RDWR);
 	(void)words;
 	set_buffers(file);
@@ -19,7 +22,8 @@ static void kinds(char **words)
 		for (size_t p = 0; p < LENGTH(protections); p++)
 			for (size_t s = 0; s < LENGTH(sizes); s++)
 				for (size_t o = 0; o < (sizes[s] == 4096 ? LENGTH(offsets) : 1); o++)
-					row("%s %s of %zd from %ld = %s", flags[f].name, protections[p].name, (ssize_t)sizes[s], (long)offsets[o],
+					row("%s %s of %zd from %ld = %s", flags[f].name, protections[p].name, (ssize_t)sizes[s],
+						(long)offsets[o],
 						map_answer(file, sizes[s], protections[p].value, flags[f].value, offsets[o]));
 	close(file);
 }
@@ -67,7 +71,8 @@ static void which(char **words)
 	unsigned same = 0;
 	(void)words;
 	set_buffers(file);
-	sampl_t *both = mmap(NULL, 4096, PROT_READ | PROT_WRITE, MAP_SHARED, file, 0), *input = mmap(NULL, 4096, PROT_READ, MAP_SHARED, file, 0);
+	sampl_t *both = mmap(NULL, 4096, PROT_READ | PROT_WRITE, MAP_SHARED, file, 0),
+		*input = mmap(NULL, 4096, PROT_READ, MAP_SHARED, file, 0);
 	if (both == MAP_FAILED || input == MAP_FAILED) {
 		row("maps = %s", error_name(errno));
 		return;

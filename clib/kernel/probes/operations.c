@@ -38,20 +38,16 @@ void say_counts(int file, unsigned subdevice, unsigned read, unsigned written, c
 		snprintf(said, size, "%s", answer(-1));
 		return;
 	}
-	snprintf(said, size, "0 {read %u written %u wc %u wp %u rc %u rp %u}", b.bytes_read, b.bytes_written, b.buf_write_count - written_before[subdevice],
-		(b.buf_write_ptr - written_before[subdevice] + BUFFER_BYTES) % BUFFER_BYTES, b.buf_read_count - read_before[subdevice],
+	snprintf(said, size, "0 {read %u written %u wc %u wp %u rc %u rp %u}", b.bytes_read, b.bytes_written,
+		b.buf_write_count - written_before[subdevice],
+		(b.buf_write_ptr - written_before[subdevice] + BUFFER_BYTES) % BUFFER_BYTES,
+		b.buf_read_count - read_before[subdevice],
 		(b.buf_read_ptr - read_before[subdevice] + BUFFER_BYTES) % BUFFER_BYTES);
 }
 
-static void make_nothing(const struct operation *o, char *said, size_t size)
-{
-	snprintf(said, size, "%u", o->first);
-}
+static void make_nothing(const struct operation *o, char *said, size_t size) { snprintf(said, size, "%u", o->first); }
 
-static void make_read(const struct operation *o, char *said, size_t size)
-{
-	read_bytes(files[o->by], o->first, said, size);
-}
+static void make_read(const struct operation *o, char *said, size_t size) { read_bytes(files[o->by], o->first, said, size); }
 
 static void make_read_to_nowhere(const struct operation *o, char *said, size_t size)
 {
@@ -92,7 +88,8 @@ static void make_command(const struct operation *o, char *said, size_t size)
 {
 	unsigned *list = o->third == NO_LIST ? NULL : o->third == BAD_CHANNEL ? bad_list : good_list;
 	unsigned many[17] = { 0 }, length = o->third == EMPTY_LIST ? 0 : 1, period = o->third == BAD_PERIOD ? 5 : SLOW;
-	comedi_cmd command = o->second == INPUT ? input_command(list, length, period, 0) : output_command(list, length, period, 0);
+	comedi_cmd command = o->second == INPUT ? input_command(list, length, period, 0) :
+						  output_command(list, length, period, 0);
 	if (o->third == LONG_LIST)
 		command.chanlist = many, command.chanlist_len = command.scan_end_arg = LENGTH(many);
 	snprintf(said, size, "%s", answer(ioctl(files[o->by], o->first, &command)));
@@ -126,7 +123,8 @@ static void make_close(const struct operation *o, char *said, size_t size)
 
 static void make_read_in_pieces(const struct operation *o, char *said, size_t size)
 {
-	struct iovec pieces[] = { { bytes_of_client, o->first }, { bytes_of_client + 100, 0 }, { bytes_of_client + 200, o->second } };
+	struct iovec pieces[] = { { bytes_of_client, o->first }, { bytes_of_client + 100, 0 },
+		{ bytes_of_client + 200, o->second } };
 	snprintf(said, size, "%s", answer(readv(files[o->by], pieces, 3)));
 }
 
@@ -241,10 +239,7 @@ static const struct operation operations[] = {
 	{ "write in pieces of 1, 3", make_write_in_pieces, A, 1, 3, 0 },
 };
 
-unsigned operations_count(void)
-{
-	return LENGTH(operations);
-}
+unsigned operations_count(void) { return LENGTH(operations); }
 
 void operate(unsigned number, char *name, char *said, size_t size)
 {

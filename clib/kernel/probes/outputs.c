@@ -102,7 +102,8 @@ static void mark(unsigned bytes)
 {
 	comedi_bufinfo b;
 	int result = buffer_call(file, OUTPUT, 0, bytes, &b);
-	row("mark %u = %s written %u wc %u rc %u wp %u rp %u", bytes, answer(result), b.bytes_written, b.buf_write_count, b.buf_read_count, b.buf_write_ptr, b.buf_read_ptr);
+	row("mark %u = %s written %u wc %u rc %u wp %u rp %u", bytes, answer(result), b.bytes_written, b.buf_write_count,
+		b.buf_read_count, b.buf_write_ptr, b.buf_read_ptr);
 }
 
 static void mapped(char **words)
@@ -151,7 +152,8 @@ static void flags(char **words)
 	(void)words;
 	for (size_t i = 0; i < LENGTH(sets); i++)
 		for (unsigned subdevice = 0; subdevice < 2; subdevice++) {
-			comedi_cmd command = subdevice == INPUT ? input_command(list, 2, 100000, 2) : output_command(list, 2, 100000, 2);
+			comedi_cmd command = subdevice == INPUT ? input_command(list, 2, 100000, 2) :
+								  output_command(list, 2, 100000, 2);
 			command.flags = sets[i];
 			row("command of %u, flags %#x = %s", subdevice, sets[i], answer(ioctl(file, COMEDI_CMD, &command)));
 			row("flags of %u then = %#x", subdevice, command.flags);
@@ -185,7 +187,8 @@ static void looped_back(char **words)
 	for (size_t v = 0; v < LENGTH(values); v++)
 		for (unsigned channel = 3; channel < 6; channel++) {
 			lsampl_t data[1] = { values[v] };
-			row("write %u to channel %u = %s", values[v], channel, answer(instruction(file, INSN_WRITE, OUTPUT, channel, 1, data)));
+			row("write %u to channel %u = %s", values[v], channel,
+				answer(instruction(file, INSN_WRITE, OUTPUT, channel, 1, data)));
 			row("read input %u = %s", channel, answer(instruction(file, INSN_READ, INPUT, channel, 1, data)));
 			row("input %u has %u = %d", channel, values[v], data[0] == values[v]);
 		}
@@ -201,8 +204,14 @@ static void put_back(void)
 int main(int argc, char **argv)
 {
 	static const struct part parts[] = {
-		{ "ends", ends }, { "reports", reports }, { "full", full }, { "mapped", mapped }, { "waiting", waiting }, { "flags", flags },
-		{ "numbers_of_trigger", numbers_of_trigger }, { "looped_back", looped_back },
+		{ "ends", ends },
+		{ "reports", reports },
+		{ "full", full },
+		{ "mapped", mapped },
+		{ "waiting", waiting },
+		{ "flags", flags },
+		{ "numbers_of_trigger", numbers_of_trigger },
+		{ "looped_back", looped_back },
 	};
 	(void)argc;
 	make_pages();

@@ -6,7 +6,8 @@
 
 static unsigned list[] = { 2, 3 };
 static char bytes[BUFFER_BYTES];
-static const short events[] = { POLLIN, POLLOUT, POLLPRI, POLLIN | POLLOUT | POLLPRI, POLLRDNORM, POLLWRNORM, POLLRDBAND, POLLIN | POLLOUT | POLLRDNORM | POLLWRNORM, 0, -1 };
+static const short events[] = { POLLIN, POLLOUT, POLLPRI, POLLIN | POLLOUT | POLLPRI, POLLRDNORM, POLLWRNORM, POLLRDBAND,
+	POLLIN | POLLOUT | POLLRDNORM | POLLWRNORM, 0, -1 };
 
 static const char *select_answer(int file, int seconds)
 {
@@ -20,7 +21,8 @@ static const char *select_answer(int file, int seconds)
 	FD_SET(file, &writes);
 	FD_SET(file, &exceptions);
 	int result = select(file + 1, &reads, &writes, &exceptions, &time);
-	snprintf(text, sizeof text, "%s, read %d, write %d, exception %d", answer(result), !!FD_ISSET(file, &reads), !!FD_ISSET(file, &writes), !!FD_ISSET(file, &exceptions));
+	snprintf(text, sizeof text, "%s, read %d, write %d, exception %d", answer(result), !!FD_ISSET(file, &reads),
+		!!FD_ISSET(file, &writes), !!FD_ISSET(file, &exceptions));
 	return text;
 }
 
@@ -78,7 +80,8 @@ static void with_others(char **words)
 	(void)words;
 	set_buffers(file);
 	int result = poll(set, 3, 0);
-	row("poll with one that is left out and one that is closed = %s, %x %x %x", answer(result), set[0].revents, set[1].revents, set[2].revents);
+	row("poll with one that is left out and one that is closed = %s, %x %x %x", answer(result), set[0].revents,
+		set[1].revents, set[2].revents);
 	if (pipe(pipes))
 		return;
 	set[0] = (struct pollfd){ file, POLLOUT, 0 };
@@ -177,7 +180,8 @@ static void samples(char **words)
 
 int main(int argc, char **argv)
 {
-	static const struct part parts[] = { { "states", states }, { "with_others", with_others }, { "members", members }, { "edges", edges }, { "samples", samples } };
+	static const struct part parts[] = { { "states", states }, { "with_others", with_others }, { "members", members },
+		{ "edges", edges }, { "samples", samples } };
 	(void)argc;
 	make_pages();
 	return run_part(parts, LENGTH(parts), argv, 120);

@@ -9,11 +9,39 @@ static const struct {
 	int number;
 	const char *name;
 } errors[] = {
-#define ERROR(name) { name, #name }
-	ERROR(EPERM), ERROR(ENOENT), ERROR(EINTR), ERROR(EIO), ERROR(ENXIO), ERROR(EBADF), ERROR(EAGAIN), ERROR(ENOMEM),
-	ERROR(EACCES), ERROR(EFAULT), ERROR(EBUSY), ERROR(EEXIST), ERROR(EXDEV), ERROR(ENODEV), ERROR(ENOTDIR),
-	ERROR(EINVAL), ERROR(ENFILE), ERROR(EMFILE), ERROR(ENOTTY), ERROR(ESPIPE), ERROR(EROFS), ERROR(EPIPE),
-	ERROR(ERANGE), ERROR(ENOSYS), ERROR(ELOOP), ERROR(ENODATA), ERROR(EOVERFLOW), ERROR(EOPNOTSUPP), ERROR(ETIMEDOUT),
+#define ERROR(name)                                                                                                              \
+	{                                                                                                                        \
+		name, #name                                                                                                      \
+	}
+	ERROR(EPERM),
+	ERROR(ENOENT),
+	ERROR(EINTR),
+	ERROR(EIO),
+	ERROR(ENXIO),
+	ERROR(EBADF),
+	ERROR(EAGAIN),
+	ERROR(ENOMEM),
+	ERROR(EACCES),
+	ERROR(EFAULT),
+	ERROR(EBUSY),
+	ERROR(EEXIST),
+	ERROR(EXDEV),
+	ERROR(ENODEV),
+	ERROR(ENOTDIR),
+	ERROR(EINVAL),
+	ERROR(ENFILE),
+	ERROR(EMFILE),
+	ERROR(ENOTTY),
+	ERROR(ESPIPE),
+	ERROR(EROFS),
+	ERROR(EPIPE),
+	ERROR(ERANGE),
+	ERROR(ENOSYS),
+	ERROR(ELOOP),
+	ERROR(ENODATA),
+	ERROR(EOVERFLOW),
+	ERROR(EOPNOTSUPP),
+	ERROR(ETIMEDOUT),
 };
 
 const char *error_name(int error)
@@ -124,7 +152,8 @@ const char *flags_text(unsigned flags)
 	static const struct {
 		unsigned bit;
 		const char *name;
-	} names[] = { { SDF_BUSY, "BUSY" }, { SDF_BUSY_OWNER, "BUSY_OWNER" }, { SDF_LOCKED, "LOCKED" }, { SDF_LOCK_OWNER, "LOCK_OWNER" }, { SDF_RUNNING, "RUNNING" } };
+	} names[] = { { SDF_BUSY, "BUSY" }, { SDF_BUSY_OWNER, "BUSY_OWNER" }, { SDF_LOCKED, "LOCKED" },
+		{ SDF_LOCK_OWNER, "LOCK_OWNER" }, { SDF_RUNNING, "RUNNING" } };
 	char *text = next_text(120);
 	*text = 0;
 	for (size_t i = 0; i < LENGTH(names); i++)
@@ -148,9 +177,17 @@ const char *state_of(int file)
 comedi_cmd input_command(unsigned *list, unsigned length, unsigned period, unsigned scans)
 {
 	return (comedi_cmd){
-		.subdev = INPUT, .start_src = TRIG_NOW, .scan_begin_src = TRIG_TIMER, .scan_begin_arg = period, .convert_src = TRIG_NOW,
-		.scan_end_src = TRIG_COUNT, .scan_end_arg = length, .stop_src = scans ? TRIG_COUNT : TRIG_NONE, .stop_arg = scans,
-		.chanlist = list, .chanlist_len = length,
+		.subdev = INPUT,
+		.start_src = TRIG_NOW,
+		.scan_begin_src = TRIG_TIMER,
+		.scan_begin_arg = period,
+		.convert_src = TRIG_NOW,
+		.scan_end_src = TRIG_COUNT,
+		.scan_end_arg = length,
+		.stop_src = scans ? TRIG_COUNT : TRIG_NONE,
+		.stop_arg = scans,
+		.chanlist = list,
+		.chanlist_len = length,
 	};
 }
 
@@ -165,17 +202,19 @@ comedi_cmd output_command(unsigned *list, unsigned length, unsigned period, unsi
 const char *command_text(const comedi_cmd *command, const unsigned *list)
 {
 	char *text = next_text(400);
-	snprintf(text, 400, "{sub %u flags %u start %x:%u scan %x:%u convert %x:%u end %x:%u stop %x:%u length %u list %s data %s/%u}", command->subdev,
-		command->flags, command->start_src, command->start_arg, command->scan_begin_src, command->scan_begin_arg, command->convert_src,
-		command->convert_arg, command->scan_end_src, command->scan_end_arg, command->stop_src, command->stop_arg, command->chanlist_len,
-		command->chanlist == list ? "same" : command->chanlist ? "other" : "null", command->data ? "set" : "null", command->data_len);
+	snprintf(text, 400,
+		"{sub %u flags %u start %x:%u scan %x:%u convert %x:%u end %x:%u stop %x:%u length %u list %s data %s/%u}",
+		command->subdev, command->flags, command->start_src, command->start_arg, command->scan_begin_src,
+		command->scan_begin_arg, command->convert_src, command->convert_arg, command->scan_end_src, command->scan_end_arg,
+		command->stop_src, command->stop_arg, command->chanlist_len,
+		command->chanlist == list ? "same" :
+		command->chanlist         ? "other" :
+					    "null",
+		command->data ? "set" : "null", command->data_len);
 	return text;
 }
 
-int give(int file, comedi_cmd command)
-{
-	return ioctl(file, COMEDI_CMD, &command);
-}
+int give(int file, comedi_cmd command) { return ioctl(file, COMEDI_CMD, &command); }
 
 void overrun(int file)
 {

@@ -29,7 +29,8 @@ static void device(char **words)
 	(void)words;
 	memset(&d, 0xaa, sizeof d);
 	int result = ioctl(file, COMEDI_DEVINFO, &d);
-	row("DEVINFO = %s, version %#x, %u subdevices, read %d, write %d", answer(result), d.version_code, d.n_subdevs, d.read_subdevice, d.write_subdevice);
+	row("DEVINFO = %s, version %#x, %u subdevices, read %d, write %d", answer(result), d.version_code, d.n_subdevs,
+		d.read_subdevice, d.write_subdevice);
 	row("board name = %.20s", d.board_name);
 	row("driver name = %.20s", d.driver_name);
 	row("unused words = %x", bits_of((unsigned *)d.unused, LENGTH(d.unused)));
@@ -71,7 +72,10 @@ static void channels(char **words)
 		for (int lists = 0; lists < 8; lists++) {
 			unsigned list[16];
 			memset(list, 0xaa, sizeof list);
-			comedi_chaninfo c = { .subdev = numbers[n], .maxdata_list = lists & 1 ? list : NULL, .flaglist = lists & 2 ? list : NULL, .rangelist = lists & 4 ? list : NULL };
+			comedi_chaninfo c = { .subdev = numbers[n],
+				.maxdata_list = lists & 1 ? list : NULL,
+				.flaglist = lists & 2 ? list : NULL,
+				.rangelist = lists & 4 ? list : NULL };
 			int result = ioctl(file, COMEDI_CHANINFO, &c);
 			row("CHANINFO of %u, lists %d = %s, %x %x", numbers[n], lists, answer(result), list[0], list[7]);
 		}
@@ -93,8 +97,8 @@ static void ranges(char **words)
 				memset(found, 0xaa, sizeof found);
 				comedi_rangeinfo asked = { high[h] << 24 | middle[m] << 16 | low[l], found };
 				int result = ioctl(file, COMEDI_RANGEINFO, &asked);
-				row("RANGEINFO %#010x = %s, %d to %d %x, %d to %d %x", asked.range_type, answer(result), found[0].min, found[0].max, found[0].flags, found[1].min,
-					found[1].max, found[1].flags);
+				row("RANGEINFO %#010x = %s, %d to %d %x, %d to %d %x", asked.range_type, answer(result),
+					found[0].min, found[0].max, found[0].flags, found[1].min, found[1].max, found[1].flags);
 			}
 	comedi_rangeinfo asked = { 2, NULL };
 	row("RANGEINFO to NULL = %s", answer(ioctl(file, COMEDI_RANGEINFO, &asked)));
@@ -116,7 +120,8 @@ static void ask_size(int file, unsigned subdevice, unsigned most, unsigned size)
 
 static void sizes(char **words)
 {
-	static const unsigned some[] = { 0, 131072, 131071, 126977, 126976, 4096, 1, 2, 4095, 4097, 8192, 131073, 1 << 20, 20 << 20, (20 << 20) + 1, 0x7fffffff, 0x80000000, 0xfffff000, 0xfffff001, 0xffffffff };
+	static const unsigned some[] = { 0, 131072, 131071, 126977, 126976, 4096, 1, 2, 4095, 4097, 8192, 131073, 1 << 20,
+		20 << 20, (20 << 20) + 1, 0x7fffffff, 0x80000000, 0xfffff000, 0xfffff001, 0xffffffff };
 	static const unsigned strange[] = { 2, 15, 16, 255, 256, 0x7fffffff, 0xffffffff };
 	int file = open_device(O_RDWR);
 	(void)words;
@@ -145,14 +150,16 @@ static void counts(char **words)
 	for (size_t n = 0; n < LENGTH(numbers); n++)
 		for (size_t r = 0; r < LENGTH(bytes); r++)
 			for (size_t w = 0; w < LENGTH(bytes); w++)
-				row("counts of %u, read %u, written %u = %s", numbers[n], bytes[r], bytes[w], answer(buffer_call(file, numbers[n], bytes[r], bytes[w], &b)));
+				row("counts of %u, read %u, written %u = %s", numbers[n], bytes[r], bytes[w],
+					answer(buffer_call(file, numbers[n], bytes[r], bytes[w], &b)));
 	ask_at_bad_places(file, "counts", COMEDI_BUFINFO);
 	close(file);
 }
 
 int main(int argc, char **argv)
 {
-	static const struct part parts[] = { { "device", device }, { "subdevices", subdevices }, { "channels", channels }, { "ranges", ranges }, { "sizes", sizes }, { "counts", counts } };
+	static const struct part parts[] = { { "device", device }, { "subdevices", subdevices }, { "channels", channels },
+		{ "ranges", ranges }, { "sizes", sizes }, { "counts", counts } };
 	(void)argc;
 	make_pages();
 	return run_part(parts, LENGTH(parts), argv, 120);

@@ -13,10 +13,24 @@ static void numbers(char **words)
 		const char *name;
 		unsigned long number;
 	} list[] = {
-		{ "DEVCONFIG", COMEDI_DEVCONFIG }, { "TRIG", 0x6404 }, { "16 of d", _IO('d', 16) }, { "17 of d", _IO('d', 17) }, { "18 of d", _IO('d', 18) },
-		{ "255 of d", _IO('d', 255) }, { "zero", 0 }, { "minus one", -1ul }, { "DEVINFO of another size", _IOR('d', 1, long) },
-		{ "CANCEL with a size", _IOR('d', 7, int) }, { "LOCK of e", _IO('e', 5) }, { "TCGETS", 0x5401 }, { "FIONREAD", 0x541b }, { "TIOCGWINSZ", 0x5413 },
-		{ "FIGETBSZ", 2 }, { "FIOQSIZE", 0x5460 }, { "FS_IOC_GETFLAGS", 0x80086601 }, { "DEVINFO with high bits", 0x100000000ul | COMEDI_DEVINFO },
+		{ "DEVCONFIG", COMEDI_DEVCONFIG },
+		{ "TRIG", 0x6404 },
+		{ "16 of d", _IO('d', 16) },
+		{ "17 of d", _IO('d', 17) },
+		{ "18 of d", _IO('d', 18) },
+		{ "255 of d", _IO('d', 255) },
+		{ "zero", 0 },
+		{ "minus one", -1ul },
+		{ "DEVINFO of another size", _IOR('d', 1, long) },
+		{ "CANCEL with a size", _IOR('d', 7, int) },
+		{ "LOCK of e", _IO('e', 5) },
+		{ "TCGETS", 0x5401 },
+		{ "FIONREAD", 0x541b },
+		{ "TIOCGWINSZ", 0x5413 },
+		{ "FIGETBSZ", 2 },
+		{ "FIOQSIZE", 0x5460 },
+		{ "FS_IOC_GETFLAGS", 0x80086601 },
+		{ "DEVINFO with high bits", 0x100000000ul | COMEDI_DEVINFO },
 	};
 	int file = open_device(O_RDWR);
 	(void)words;
@@ -31,11 +45,13 @@ static void numbers(char **words)
 
 static void subdevice_numbers(char **words)
 {
-	static const unsigned long some[] = { 0, 1, 2, 3, 15, 16, 127, 128, 254, 255, 256, 257, 65535, 65536, 0x7fffffff, 0x80000000, 0xffffffff, 0x100000000ul, 0x100000001ul, 0x8000000000000000ul, -1ul };
+	static const unsigned long some[] = { 0, 1, 2, 3, 15, 16, 127, 128, 254, 255, 256, 257, 65535, 65536, 0x7fffffff,
+		0x80000000, 0xffffffff, 0x100000000ul, 0x100000001ul, 0x8000000000000000ul, -1ul };
 	static const struct {
 		const char *name;
 		unsigned long number;
-	} list[] = { { "LOCK", COMEDI_LOCK }, { "UNLOCK", COMEDI_UNLOCK }, { "CANCEL", COMEDI_CANCEL }, { "POLL", COMEDI_POLL }, { "SETRSUBD", COMEDI_SETRSUBD }, { "SETWSUBD", COMEDI_SETWSUBD } };
+	} list[] = { { "LOCK", COMEDI_LOCK }, { "UNLOCK", COMEDI_UNLOCK }, { "CANCEL", COMEDI_CANCEL }, { "POLL", COMEDI_POLL },
+		{ "SETRSUBD", COMEDI_SETRSUBD }, { "SETWSUBD", COMEDI_SETWSUBD } };
 	int file = open_device(O_RDWR);
 	(void)words;
 	for (size_t i = 0; i < LENGTH(list); i++)
@@ -122,7 +138,8 @@ static void descriptor(char **words)
 
 static void move_bytes(char **words)
 {
-	static const size_t some[] = { 0, 1, 2, 3, 131072, 0x7ffff000, 0x7fffffff, 0x80000000, 0xffffffff, 0x100000000ul, 0x7fffffffffffffff, 0x8000000000000000ul, -1ul };
+	static const size_t some[] = { 0, 1, 2, 3, 131072, 0x7ffff000, 0x7fffffff, 0x80000000, 0xffffffff, 0x100000000ul,
+		0x7fffffffffffffff, 0x8000000000000000ul, -1ul };
 	static struct iovec pieces[1025] = { { bytes, 2 }, { bytes + 2, 2 } };
 	int file = open_device(O_RDWR);
 	(void)words;
@@ -230,7 +247,9 @@ static void names(char **words)
 
 int main(int argc, char **argv)
 {
-	static const struct part parts[] = { { "numbers", numbers }, { "subdevice_numbers", subdevice_numbers }, { "flags", flags }, { "descriptor", descriptor }, { "move_bytes", move_bytes }, { "modes", modes }, { "names", names } };
+	static const struct part parts[] = { { "numbers", numbers }, { "subdevice_numbers", subdevice_numbers },
+		{ "flags", flags }, { "descriptor", descriptor }, { "move_bytes", move_bytes }, { "modes", modes },
+		{ "names", names } };
 	(void)argc;
 	make_pages();
 	signal(SIGIO, SIG_IGN);

@@ -34,19 +34,13 @@ static void counts(const struct call *c, unsigned subdevice)
 	if (result)
 		row("%s f%u counts of %u, %u = %s", c->thread, c->by, subdevice, moves, answer(result));
 	else
-		row("%s f%u counts of %u, %u = %u %u wc %u wp %u rc %u rp %u", c->thread, c->by, subdevice, moves, b.bytes_read, b.bytes_written, b.buf_write_count,
-			b.buf_write_ptr, b.buf_read_count, b.buf_read_ptr);
+		row("%s f%u counts of %u, %u = %u %u wc %u wp %u rc %u rp %u", c->thread, c->by, subdevice, moves, b.bytes_read,
+			b.bytes_written, b.buf_write_count, b.buf_write_ptr, b.buf_read_count, b.buf_read_ptr);
 }
 
-static void counts_of_input(const struct call *c)
-{
-	counts(c, INPUT);
-}
+static void counts_of_input(const struct call *c) { counts(c, INPUT); }
 
-static void counts_of_output(const struct call *c)
-{
-	counts(c, OUTPUT);
-}
+static void counts_of_output(const struct call *c) { counts(c, OUTPUT); }
 
 static void command_input(const struct call *c)
 {
@@ -67,7 +61,8 @@ static void command_overrun(const struct call *c)
 static void command_output(const struct call *c)
 {
 	unsigned scans = 1 + random_below(30);
-	row("%s f%u output of %u scans = %s", c->thread, c->by, scans, answer(give(files[c->by], output_command(two, LENGTH(two), 100000, scans))));
+	row("%s f%u output of %u scans = %s", c->thread, c->by, scans,
+		answer(give(files[c->by], output_command(two, LENGTH(two), 100000, scans))));
 }
 
 static void trigger_output(const struct call *c)
@@ -84,25 +79,13 @@ static void request(const struct call *c, const char *name, unsigned long number
 	row("%s f%u %s %u = %s", c->thread, c->by, name, subdevice, answer(ioctl(files[c->by], number, subdevice)));
 }
 
-static void cancel(const struct call *c)
-{
-	request(c, "cancel", COMEDI_CANCEL);
-}
+static void cancel(const struct call *c) { request(c, "cancel", COMEDI_CANCEL); }
 
-static void lock(const struct call *c)
-{
-	request(c, "lock", COMEDI_LOCK);
-}
+static void lock(const struct call *c) { request(c, "lock", COMEDI_LOCK); }
 
-static void unlock(const struct call *c)
-{
-	request(c, "unlock", COMEDI_UNLOCK);
-}
+static void unlock(const struct call *c) { request(c, "unlock", COMEDI_UNLOCK); }
 
-static void ask_for_samples(const struct call *c)
-{
-	request(c, "ask for samples of", COMEDI_POLL);
-}
+static void ask_for_samples(const struct call *c) { request(c, "ask for samples of", COMEDI_POLL); }
 
 static void choose(const struct call *c)
 {
@@ -110,10 +93,7 @@ static void choose(const struct call *c)
 	request(c, "write to", COMEDI_SETWSUBD);
 }
 
-static void look(const struct call *c)
-{
-	row("%s f%u state = %s", c->thread, c->by, state_of(files[c->by]));
-}
+static void look(const struct call *c) { row("%s f%u state = %s", c->thread, c->by, state_of(files[c->by])); }
 
 static void poll_both(const struct call *c)
 {
@@ -124,7 +104,8 @@ static void instruct(const struct call *c)
 {
 	static const unsigned kinds[] = { INSN_READ, INSN_WRITE, INSN_BITS, INSN_CONFIG };
 	lsampl_t data[4] = { MIDDLE, MIDDLE, MIDDLE, MIDDLE };
-	unsigned kind = random_below(LENGTH(kinds)), subdevice = random_below(2), channel = CR_PACK(4 + random_below(5), random_below(3), 0), count = random_below(3);
+	unsigned kind = random_below(LENGTH(kinds)), subdevice = random_below(2),
+		 channel = CR_PACK(4 + random_below(5), random_below(3), 0), count = random_below(3);
 	int result = instruction(files[c->by], kinds[kind], subdevice, channel, count, data);
 	row("%s f%u instruction %u of %u %x, %u values = %s", c->thread, c->by, kind, subdevice, channel, count, answer(result));
 }
@@ -132,9 +113,11 @@ static void instruct(const struct call *c)
 static void test_command(const struct call *c)
 {
 	unsigned length = 1 + random_below(2), period = random_below(2) ? 100000 : 777, scans = random_below(3);
-	comedi_cmd command = random_below(2) ? input_command(two, length, period, scans) : output_command(two, length, period, scans);
+	comedi_cmd command = random_below(2) ? input_command(two, length, period, scans) :
+					       output_command(two, length, period, scans);
 	int result = ioctl(files[c->by], COMEDI_CMDTEST, &command);
-	row("%s f%u test of %u, period %u, scans %u = %s %s", c->thread, c->by, length, period, scans, answer(result), command_text(&command, two));
+	row("%s f%u test of %u, period %u, scans %u = %s %s", c->thread, c->by, length, period, scans, answer(result),
+		command_text(&command, two));
 }
 
 static void set_waiting(const struct call *c)
@@ -180,7 +163,9 @@ static const struct {
 static void make_call(const char *thread)
 {
 	static const unsigned sizes[] = { 0, 1, 2, 3, 4, 6, 7, 8, 20, 40, 100, 4096, 131072, 200000 };
-	struct call c = { .by = random_below(5) ? 0 : 1 + random_below(2), .bytes = sizes[random_below(LENGTH(sizes))], .thread = thread };
+	struct call c = {
+		.by = random_below(5) ? 0 : 1 + random_below(2), .bytes = sizes[random_below(LENGTH(sizes))], .thread = thread
+	};
 	unsigned all = 0;
 	for (size_t i = 0; i < LENGTH(calls); i++)
 		all += calls[i].weight;

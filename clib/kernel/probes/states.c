@@ -55,7 +55,7 @@ static void run_output(int file, unsigned scans)
 	await_end(file, OUTPUT);
 }
 
-static void be_idle(void) { }
+static void be_idle(void) {}
 static void be_locked(void) { must(!ioctl(files[0], COMEDI_LOCK, INPUT), "lock"); }
 static void be_locked_by_other(void) { must(!ioctl(files[1], COMEDI_LOCK, INPUT), "lock"); }
 static void be_output_locked_by_other(void) { must(!ioctl(files[1], COMEDI_LOCK, OUTPUT), "lock"); }
@@ -201,7 +201,8 @@ static void count_from_here(int subdevice)
 	comedi_bufinfo counts;
 	memset(written_before, 0, sizeof written_before);
 	memset(read_before, 0, sizeof read_before);
-	if (subdevice == COUNTS_ALL || (buffer_call(files[0], subdevice, 0, 0, &counts) && buffer_call(files[1], subdevice, 0, 0, &counts)))
+	if (subdevice == COUNTS_ALL ||
+		(buffer_call(files[0], subdevice, 0, 0, &counts) && buffer_call(files[1], subdevice, 0, 0, &counts)))
 		return;
 	read_before[subdevice] = counts.buf_read_count;
 	written_before[subdevice] = subdevice == OUTPUT ? 40 : counts.buf_read_count;

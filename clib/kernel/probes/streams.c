@@ -180,7 +180,8 @@ static void say_overrun(int file, int way)
 	int result;
 	if (way == 1) {
 		result = buffer_call(file, INPUT, 0, 0, &b);
-		row("1: counts = %s wc %u rc %u wp %u rp %u", answer(result), b.buf_write_count, b.buf_read_count, b.buf_write_ptr, b.buf_read_ptr);
+		row("1: counts = %s wc %u rc %u wp %u rp %u", answer(result), b.buf_write_count, b.buf_read_count,
+			b.buf_write_ptr, b.buf_read_ptr);
 		row("1: ask for samples = %s", answer(ioctl(file, COMEDI_POLL, INPUT)));
 	} else if (way == 2) {
 		row("2: read 0 = %s", answer(read(file, samples, 0)));
@@ -232,7 +233,8 @@ static size_t take_mapped(int file, const sampl_t *map, int by_pointer, int *end
 	size_t done = 0;
 	unsigned wrong = 0, last = 0;
 	while (!(*end = buffer_call(file, INPUT, 0, 0, &b))) {
-		unsigned count = (b.buf_write_count - b.buf_read_count) / 2, first = (by_pointer ? b.buf_read_ptr : b.buf_read_count) / 2;
+		unsigned count = (b.buf_write_count - b.buf_read_count) / 2,
+			 first = (by_pointer ? b.buf_read_ptr : b.buf_read_count) / 2;
 		wrong += b.buf_write_count < last || b.buf_write_count - b.buf_read_count > BUFFER_BYTES;
 		wrong += b.buf_write_ptr != b.buf_write_count % BUFFER_BYTES || b.buf_read_ptr != b.buf_read_count % BUFFER_BYTES;
 		last = b.buf_write_count;
@@ -280,7 +282,8 @@ static void mapped(char **words)
 
 int main(int argc, char **argv)
 {
-	static const struct part parts[] = { { "pieces", pieces }, { "waiting", waiting }, { "not_waiting", not_waiting }, { "loops", loops }, { "overruns", overruns }, { "mapped", mapped } };
+	static const struct part parts[] = { { "pieces", pieces }, { "waiting", waiting }, { "not_waiting", not_waiting },
+		{ "loops", loops }, { "overruns", overruns }, { "mapped", mapped } };
 	(void)argc;
 	return run_part(parts, LENGTH(parts), argv, 120);
 }

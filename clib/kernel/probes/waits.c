@@ -48,7 +48,7 @@ static void wait_epoll(void)
 }
 
 /* What the other thread does. */
-static void do_nothing(void) { }
+static void do_nothing(void) {}
 static void do_cancel_input(void) { row("  cancel = %s", answer(ioctl(file, COMEDI_CANCEL, INPUT))); }
 static void do_cancel_output(void) { row("  cancel = %s", answer(ioctl(file, COMEDI_CANCEL, OUTPUT))); }
 static void do_cancel_by_other(void) { row("  cancel by another file = %s", answer(ioctl(other, COMEDI_CANCEL, INPUT))); }
@@ -56,14 +56,14 @@ static void do_lock(void) { row("  lock by another file = %s", answer(ioctl(othe
 static void do_trigger(void) { row("  trigger = %s", answer(trigger(file, OUTPUT, 0))); }
 static void do_trigger_by_other(void) { row("  trigger by another file = %s", answer(trigger(other, OUTPUT, 0))); }
 static void do_read_elsewhere(void) { row("  read from output = %s", answer(ioctl(file, COMEDI_SETRSUBD, OUTPUT))); }
-static void do_command_of_other(void) { row("  command of another file = %s", answer(give(other, input_command(two, 1, 100000, 5)))); }
+static void do_command_of_other(void)
+{
+	row("  command of another file = %s", answer(give(other, input_command(two, 1, 100000, 5))));
+}
 static void do_look(void) { row("  state = %s", state_of(other)); }
 static void do_set_non_blocking(void) { row("  O_NONBLOCK = %s", answer(fcntl(file, F_SETFL, O_NONBLOCK))); }
 
-static void do_command(void)
-{
-	row("  command = %s", answer(give(file, input_command(two, 1, 10000000, 5))));
-}
+static void do_command(void) { row("  command = %s", answer(give(file, input_command(two, 1, 10000000, 5)))); }
 
 static void do_command_anew(void)
 {
@@ -84,7 +84,7 @@ static void do_counts(void)
 }
 
 /* What there is when the wait begins. Without a command there is nothing to wait for. */
-static void set_up_idle(void) { }
+static void set_up_idle(void) {}
 
 static void set_up_slow_input(void)
 {
@@ -152,18 +152,30 @@ static void run_all(void (*set_up)(void), const struct step *waits, size_t count
 }
 
 static const struct step input_waits[] = {
-	{ "read 2", wait_read_one }, { "read 1", wait_read_odd }, { "read in pieces", wait_read_pieces }, { "poll", wait_poll_input },
-	{ "select", wait_select }, { "epoll", wait_epoll },
+	{ "read 2", wait_read_one },
+	{ "read 1", wait_read_odd },
+	{ "read in pieces", wait_read_pieces },
+	{ "poll", wait_poll_input },
+	{ "select", wait_select },
+	{ "epoll", wait_epoll },
 };
 static const struct step output_waits[] = { { "write 2", wait_write_one }, { "poll", wait_poll_output } };
 
 static void inputs(char **words)
 {
 	static const struct step acts[] = {
-		{ "nothing", do_nothing }, { "cancel", do_cancel_input }, { "cancel by another file", do_cancel_by_other }, { "lock by another file", do_lock },
-		{ "a new command", do_command_anew }, { "a command of another file", do_command_of_other }, { "a look", do_look },
-		{ "an instruction", do_instruction }, { "counts by another file", do_counts }, { "read from output", do_read_elsewhere },
-		{ "O_NONBLOCK", do_set_non_blocking }, { "cancel of the output", do_cancel_output },
+		{ "nothing", do_nothing },
+		{ "cancel", do_cancel_input },
+		{ "cancel by another file", do_cancel_by_other },
+		{ "lock by another file", do_lock },
+		{ "a new command", do_command_anew },
+		{ "a command of another file", do_command_of_other },
+		{ "a look", do_look },
+		{ "an instruction", do_instruction },
+		{ "counts by another file", do_counts },
+		{ "read from output", do_read_elsewhere },
+		{ "O_NONBLOCK", do_set_non_blocking },
+		{ "cancel of the output", do_cancel_output },
 	};
 	(void)words;
 	run_all(set_up_slow_input, input_waits, LENGTH(input_waits), acts, LENGTH(acts));
@@ -172,7 +184,10 @@ static void inputs(char **words)
 static void outputs(char **words)
 {
 	static const struct step acts[] = {
-		{ "nothing", do_nothing }, { "cancel", do_cancel_output }, { "trigger", do_trigger }, { "trigger by another file", do_trigger_by_other },
+		{ "nothing", do_nothing },
+		{ "cancel", do_cancel_output },
+		{ "trigger", do_trigger },
+		{ "trigger by another file", do_trigger_by_other },
 		{ "O_NONBLOCK", do_set_non_blocking },
 	};
 	(void)words;
@@ -205,7 +220,8 @@ static void soon(char **words)
 		clock_gettime(CLOCK_MONOTONIC, &before);
 		pthread_join(waiting, NULL);
 		clock_gettime(CLOCK_MONOTONIC, &after);
-		row("%s ends within a second of the cancel = %d", input_waits[w].name, (after.tv_sec - before.tv_sec) * 1000 + (after.tv_nsec - before.tv_nsec) / 1000000 < 1000);
+		row("%s ends within a second of the cancel = %d", input_waits[w].name,
+			(after.tv_sec - before.tv_sec) * 1000 + (after.tv_nsec - before.tv_nsec) / 1000000 < 1000);
 		close(file);
 	}
 }
@@ -222,10 +238,7 @@ static void *send_signal(void *nothing)
 	return nothing;
 }
 
-static void take_signal(int number)
-{
-	(void)number;
-}
+static void take_signal(int number) { (void)number; }
 
 /* A signal comes to a thread that waits, whose handler restarts calls or doesn't. */
 static void signals(char **words)
@@ -299,7 +312,8 @@ static void children(char **words)
 
 int main(int argc, char **argv)
 {
-	static const struct part parts[] = { { "inputs", inputs }, { "outputs", outputs }, { "idle", idle }, { "soon", soon }, { "signals", signals }, { "readers", readers }, { "children", children } };
+	static const struct part parts[] = { { "inputs", inputs }, { "outputs", outputs }, { "idle", idle }, { "soon", soon },
+		{ "signals", signals }, { "readers", readers }, { "children", children } };
 	(void)argc;
 	return run_part(parts, LENGTH(parts), argv, 120);
 }
