@@ -2,7 +2,6 @@
 
 import lzma
 import os
-import re
 import shutil
 import subprocess
 from dataclasses import dataclass, field
@@ -124,8 +123,8 @@ def random_sequences(seed):
     return [f"sequences {seed} {first} {AT_ONCE} {STEPS}" for first in range(0, SEQUENCES, AT_ONCE)]
 
 
-def sheets(seed):
-    """All sheets, in the order of their runs in the kernel."""
+def sheets(seed=1):
+    """All sheets, in the order of their runs in the kernel. The seed chooses the random ones."""
     port = {"PROBE_DEVICE": "/dev/comedi1"}
     return [
         Sheet("questions", "questions: device, subdevices, channels, ranges, sizes, counts", parts("questions", "device subdevices channels ranges sizes counts")),
@@ -194,12 +193,6 @@ def runs_of(text):
         elif words:
             found[words].append(line)
     return found
-
-
-def seed_of(folder):
-    """The seed with which a folder's random runs were recorded."""
-    words = next(iter(re.findall(r"^\$ sequences (\d+)", read_sheet(folder, "sequences"), re.M)), None)
-    return int(words) if words else None
 
 
 def make(folder, *words):
