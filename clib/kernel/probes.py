@@ -134,6 +134,7 @@ def sheets(seed=1):
         Sheet("maps", "maps of the buffer", parts("maps", "kinds kept which")),
         Sheet("polls", "`poll`, `select`, `epoll`", parts("polls", "states with_others members edges samples")),
         Sheet("commands", "tests of commands, and refused commands", random_commands(seed)),
+        Sheet("limits", "numbers at the limits of 32 and 64 bits", parts("limits", "counts moves times commands")),
         Sheet("states", f"{STATES} states, and every call in each of them", [f"states {number}" for number in range(STATES)]),
         Sheet("streams", "whole inputs", parts("streams", "pieces waiting not_waiting loops overruns mapped")),
         Sheet("outputs", "outputs", parts("outputs", "ends reports full mapped waiting flags numbers_of_trigger looped_back")),
