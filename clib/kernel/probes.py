@@ -128,11 +128,11 @@ def sheets(seed=1):
     port = {"PROBE_DEVICE": "/dev/comedi1"}
     return [
         Sheet("questions", "questions: device, subdevices, channels, ranges, sizes, counts", parts("questions", "device subdevices channels ranges sizes counts")),
-        Sheet("requests", "requests, flags, modes and names of the device file", parts("requests", "numbers subdevice_numbers flags descriptor move_bytes modes names")),
+        Sheet("requests", "requests, flags, modes and names of the device file", parts("requests", "numbers subdevice_numbers flags descriptor move_bytes read_nowhere write_nowhere modes names")),
         Sheet("instructions", "instructions", parts("instructions", "kinds channels counts values pointers special configurations newer")),
         Sheet("lists", "lists of instructions", parts("lists", "orders failures lengths pointers")),
         Sheet("maps", "maps of the buffer", parts("maps", "kinds kept which")),
-        Sheet("polls", "`poll`, `select`, `epoll`", parts("polls", "states with_others members edges samples")),
+        Sheet("polls", "`poll`, `select`, `epoll`", parts("polls", "states with_others poll_nowhere select_nowhere epoll_nowhere members edges samples")),
         Sheet("commands", "tests of commands, and refused commands", random_commands(seed)),
         Sheet("limits", "numbers at the limits of 32 and 64 bits", parts("limits", "counts moves times commands")),
         Sheet("states", f"{STATES} states, and every call in each of them", [f"states {number}" for number in range(STATES)]),

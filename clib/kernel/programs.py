@@ -4,7 +4,13 @@ only what must hold of them is: how many samples there are, what they sum up to,
 import re
 
 # what is other in each run: the text before it stays
-OTHER_EACH_TIME = [(r"0x[0-9a-f]{8,}", "ADDRESS"), (r"\d+\.\d{6}", "TIME"), (r"(read time:|difference \(us\):) -?\d+", r"\1 TIME"), (r"\+\d+\.\d+", "+TIME")]
+OTHER_EACH_TIME = [
+    (r"0x[0-9a-f]{9,}", "ADDRESS"),
+    (r"\d{9,}\.\d{6}\b", "TIME"),
+    (r"(time:|difference \(us\):) -?\d+(\.\d+)?", r"\1 TIME"),
+    (r"^(\d+), \d+$", r"\1 samples, COUNT reads"),
+    (r"^\d+(comedi_get_buffer_contents: )", r"NUMBER\1"),
+]
 # the lines of a program that asks over and over, and of which the number depends on when it asks
 TURNS = re.compile(r"timeout(, polling\.\.\.)?|(select|poll) returned -?\d+|comedi file descriptor ready|read returned (\d+)")
 NUMBERS = re.compile(r"(-?\d+(\.\d+)?(e-\d+)?|-?nan)( (-?\d+(\.\d+)?(e-\d+)?|-?nan))*")
@@ -35,8 +41,8 @@ def shape_of(numbers, period):
         return "the middle"
     if len(codes) == 1:
         return "another code"
-    if all(min(abs(code - level) for level in LEVELS) < 0.6 for code in codes):
-        return "the square"
+    if len(set(codes)) == 1 or all(min(abs(code - level) for level in LEVELS) < 0.6 for code in codes):
+        return "the square, or always the same"
     return "the saw" if is_saw(codes, period) else "another shape"
 
 
@@ -71,8 +77,8 @@ def rows(lines):
             for pattern, name in OTHER_EACH_TIME:
                 line = re.sub(pattern, name, line)
             texts.append(line)
-    for number, text in enumerate(texts, 1):
-        yield f"line {number}", text
+    for text in texts:
+        yield "line", text
     if turns:
         yield "bytes read in turns", str(bytes_read)
     yield from columns(found, period_of(lines)) if found else ()

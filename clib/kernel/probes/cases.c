@@ -190,9 +190,8 @@ static void close_while_reading(char **words)
 static void started_anew(char **words)
 {
 	char number[16];
-	int status, file = ended();
+	int status, file = words[0] ? atoi(words[0]) : ended();
 	if (words[0]) {
-		file = atoi(words[0]);
 		row("after exec: state = %s", state_of(file));
 		row("after exec: read = %s", answer(read(file, bytes, 4)));
 		_exit(0);

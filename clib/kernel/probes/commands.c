@@ -21,17 +21,13 @@ static comedi_cmd good(void)
 	return subdevice == INPUT ? input_command(list, 2, 100000, 10) : output_command(list, 2, 100000, 10);
 }
 
-/* Tests a command until it passes, three times at most. */
+/* Tests a command, and twice more what the test has made of it. */
 static void try(comedi_cmd command, const char *what)
 {
-	int result = 1;
-	for (int i = 0; result > 0 && i < 3; i++) {
-		result = ioctl(file, COMEDI_CMDTEST, &command);
-		row("%s%s = %s %s", what,
-			i == 0 ? "" :
-			i == 1 ? ", again" :
-				 ", a third time",
-			answer(result), command_text(&command, list));
+	static const char *const names[] = { "", ", again", ", a third time" };
+	for (size_t i = 0; i < LENGTH(names); i++) {
+		int result = ioctl(file, COMEDI_CMDTEST, &command);
+		row("%s%s = %s %s", what, names[i], answer(result), command_text(&command, list));
 	}
 }
 

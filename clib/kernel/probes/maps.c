@@ -6,6 +6,7 @@ static unsigned list[] = { 2, 3 };
 
 static void kinds(char **words)
 {
+	/* how much may be mapped privately for writing depends on the machine's memory */
 	static const size_t sizes[] = { 0, 1, 2, 4095, 4096, 4097, 8192, 65536, 131071, 131072, 131073, 135168, 1 << 21, 1 << 22,
 		1 << 25, 0x7fffffff, 0x80000000, 0x100000000ul, -4096ul };
 	static const off_t offsets[] = { 0, 1, 4096, 131072, -4096 };
@@ -21,7 +22,8 @@ static void kinds(char **words)
 	for (size_t f = 0; f < LENGTH(flags); f++)
 		for (size_t p = 0; p < LENGTH(protections); p++)
 			for (size_t s = 0; s < LENGTH(sizes); s++)
-				for (size_t o = 0; o < (sizes[s] == 4096 ? LENGTH(offsets) : 1); o++)
+				for (size_t o = 0;
+					(f == 0 || sizes[s] <= 1 << 25) && o < (sizes[s] == 4096 ? LENGTH(offsets) : 1); o++)
 					row("%s %s of %zd from %ld = %s", flags[f].name, protections[p].name, (ssize_t)sizes[s],
 						(long)offsets[o],
 						map_answer(file, sizes[s], protections[p].value, flags[f].value, offsets[o]));

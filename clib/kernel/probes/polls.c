@@ -97,7 +97,34 @@ static void with_others(char **words)
 	result = poll(set, 2, -1);
 	row("poll with both = %s, %x %x", answer(result), set[0].revents, set[1].revents);
 	row("poll of none = %s", answer(poll(NULL, 0, 1)));
+	close(file);
+}
+
+static void poll_nowhere(char **words)
+{
+	int file = open_device(O_RDWR);
+	(void)words;
 	row("poll at no page = %s", answer(poll(no_page, 1, 0)));
+	close(file);
+}
+
+static void select_nowhere(char **words)
+{
+	int file = open_device(O_RDWR);
+	struct timeval time = { 0, 0 };
+	(void)words;
+	row("select at no page = %s", answer(select(file + 1, no_page, NULL, NULL, &time)));
+	close(file);
+}
+
+static void epoll_nowhere(char **words)
+{
+	int file = open_device(O_RDWR), set = epoll_create1(0);
+	struct epoll_event event = { .events = EPOLLIN };
+	(void)words;
+	row("add at no page = %s", answer(epoll_ctl(set, EPOLL_CTL_ADD, file, no_page)));
+	epoll_ctl(set, EPOLL_CTL_ADD, file, &event);
+	row("wait at no page = %s", answer(epoll_wait(set, no_page, 1, 0)));
 	close(file);
 }
 
@@ -180,8 +207,9 @@ static void samples(char **words)
 
 int main(int argc, char **argv)
 {
-	static const struct part parts[] = { { "states", states }, { "with_others", with_others }, { "members", members },
-		{ "edges", edges }, { "samples", samples } };
+	static const struct part parts[] = { { "states", states }, { "with_others", with_others },
+		{ "poll_nowhere", poll_nowhere }, { "select_nowhere", select_nowhere }, { "epoll_nowhere", epoll_nowhere },
+		{ "members", members }, { "edges", edges }, { "samples", samples } };
 	(void)argc;
 	make_pages();
 	return run_part(parts, LENGTH(parts), argv, 120);

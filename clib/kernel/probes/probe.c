@@ -42,6 +42,8 @@ static const struct {
 	ERROR(EOVERFLOW),
 	ERROR(EOPNOTSUPP),
 	ERROR(ETIMEDOUT),
+	ERROR(ENOTSOCK),
+	ERROR(ENOTCONN),
 };
 
 const char *error_name(int error)

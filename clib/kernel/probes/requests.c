@@ -154,10 +154,21 @@ static void move_bytes(char **words)
 		row("write in %d pieces = %s", count, answer(writev(file, pieces, count)));
 	}
 	row("read in 1025 pieces = %s", answer(readv(file, pieces, 1025)));
-	row("read in pieces at no page = %s", answer(readv(file, no_page, 1)));
 	row("pread while idle = %s", answer(pread(file, bytes, 2, 0)));
 	row("pwrite while idle = %s", answer(pwrite(file, bytes, 2, 0)));
 	close(file);
+}
+
+static void read_nowhere(char **words)
+{
+	(void)words;
+	row("read in pieces at no page = %s", answer(readv(open_device(O_RDWR), no_page, 1)));
+}
+
+static void write_nowhere(char **words)
+{
+	(void)words;
+	row("write in pieces at no page = %s", answer(writev(open_device(O_RDWR), no_page, 1)));
 }
 
 /* Calls of a file that was opened with flags of open. */
@@ -248,8 +259,8 @@ static void names(char **words)
 int main(int argc, char **argv)
 {
 	static const struct part parts[] = { { "numbers", numbers }, { "subdevice_numbers", subdevice_numbers },
-		{ "flags", flags }, { "descriptor", descriptor }, { "move_bytes", move_bytes }, { "modes", modes },
-		{ "names", names } };
+		{ "flags", flags }, { "descriptor", descriptor }, { "move_bytes", move_bytes }, { "read_nowhere", read_nowhere },
+		{ "write_nowhere", write_nowhere }, { "modes", modes }, { "names", names } };
 	(void)argc;
 	make_pages();
 	signal(SIGIO, SIG_IGN);

@@ -69,7 +69,8 @@ static void trigger_output(const struct call *c)
 {
 	unsigned number = random_below(8) ? 0 : 1;
 	int result = trigger(files[c->by], OUTPUT, number);
-	await_end(files[0], OUTPUT);
+	if (result > 0)
+		await_end(files[0], OUTPUT);
 	row("%s f%u trigger by %u = %s", c->thread, c->by, number, answer(result));
 }
 
