@@ -10,7 +10,7 @@ from probes import HERE, TOP
 REASONS = os.path.join(HERE, "reasons.toml")
 # a reason with this name is a fault that is known and not repaired yet, and no document says it
 OPEN = "open_"
-FIELDS = {"title", "document", "sentence", "rows"}
+FIELDS = {"title", "document", "sentence", "follows", "rows"}
 FIELDS_OF_ROWS = {"sheet", "section", "call", "kernel", "model"}
 
 
@@ -41,11 +41,9 @@ class Pattern:
     count: int = 0
 
     def covers(self, row):
-        """Whether a row is one of these. `$1` in the model's text stands for the first group of the kernel's."""
-        if row.sheet not in self.sheet.split() or not re.fullmatch(self.section, row.section) or not re.fullmatch(self.call, row.call):
-            return False
-        kernel = re.fullmatch(self.kernel, row.kernel)
-        return bool(kernel) and bool(re.fullmatch(self.model, row.model))
+        """Whether a row is one of these."""
+        parts = [(self.section, row.section), (self.call, row.call), (self.kernel, row.kernel), (self.model, row.model)]
+        return row.sheet in self.sheet.split() and all(re.fullmatch(pattern, text) for pattern, text in parts)
 
 
 @dataclass
@@ -56,7 +54,10 @@ class Reason:
     title: str
     document: str = ""
     sentence: str = ""
+    # whether the rows that come after one of these in its section may follow from it
+    follows: bool = False
     patterns: list = field(default_factory=list)
+    followed: int = 0
 
     def is_open(self):
         """Whether it is a fault that isn't repaired."""
@@ -64,12 +65,14 @@ class Reason:
 
     def count(self):
         """How many rows it covers."""
-        return sum(pattern.count for pattern in self.patterns)
+        return sum(pattern.count for pattern in self.patterns) + self.followed
 
     def faults(self, top):
         """What is wrong with the reason itself, in words."""
         if self.is_open():
             return [f"{self.name}: an open reason has no sentence"] if self.sentence else []
+        if self.follows:
+            return [f"{self.name}: only of an open reason other rows may follow"]
         if not self.sentence:
             return [f"{self.name}: has no sentence of a document"]
         path = os.path.join(top, self.document)
@@ -89,7 +92,7 @@ def load(path=REASONS):
         if unknown or "title" not in said or not said.get("rows"):
             raise ValueError(f"{path}: {name}: {', '.join(sorted(unknown)) or 'title or rows'}: unknown, or not there")
         patterns = [Pattern(**row) for row in said["rows"]]
-        found.append(Reason(name, said["title"], said.get("document", ""), said.get("sentence", ""), patterns))
+        found.append(Reason(name, said["title"], said.get("document", ""), said.get("sentence", ""), said.get("follows", False), patterns))
     return found
 
 
@@ -101,6 +104,17 @@ def reason_of(row, reasons):
                 pattern.count += 1
                 return reason
     return None
+
+
+def judge(row, reasons, following):
+    """The reason of a row that differs, or none. `following` has the reason from which the rows of a section may follow."""
+    reason = reason_of(row, reasons)
+    if not reason and row.section in following:
+        reason = following[row.section]
+        reason.followed += 1
+    if reason and reason.follows:
+        following.setdefault(row.section, reason)
+    return reason
 
 
 def unused(reasons, names):

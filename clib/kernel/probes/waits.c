@@ -65,12 +65,6 @@ static void do_set_non_blocking(void) { row("  O_NONBLOCK = %s", answer(fcntl(fi
 
 static void do_command(void) { row("  command = %s", answer(give(file, input_command(two, 1, 10000000, 5)))); }
 
-static void do_command_anew(void)
-{
-	do_cancel_input();
-	do_command();
-}
-
 static void do_instruction(void)
 {
 	lsampl_t data[1] = { 0 };
@@ -168,7 +162,7 @@ static void inputs(char **words)
 		{ "cancel", do_cancel_input },
 		{ "cancel by another file", do_cancel_by_other },
 		{ "lock by another file", do_lock },
-		{ "a new command", do_command_anew },
+
 		{ "a command of another file", do_command_of_other },
 		{ "a look", do_look },
 		{ "an instruction", do_instruction },
