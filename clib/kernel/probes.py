@@ -126,26 +126,35 @@ def random_sequences(seed):
 def sheets(seed=1):
     """All sheets, in the order of their runs in the kernel. The seed chooses the random ones."""
     port = {"PROBE_DEVICE": "/dev/comedi1"}
+    bond = {"PROBE_DEVICE": "/dev/comedi2"}
+    edges = {"PROBE_EDGES": "1"}
+    states = [f"states {number}" for number in range(STATES)]
     return [
-        Sheet("questions", "questions: device, subdevices, channels, ranges, sizes, counts", parts("questions", "device subdevices channels ranges sizes counts")),
-        Sheet("requests", "requests, flags, modes and names of the device file", parts("requests", "numbers subdevice_numbers flags descriptor move_bytes read_nowhere write_nowhere modes names")),
-        Sheet("instructions", "instructions", parts("instructions", "kinds channels counts values pointers special configurations newer")),
+        Sheet("questions", "questions: device, subdevices, channels, ranges, sizes, counts",
+              parts("questions", "device subdevices channels ranges sizes counts")),
+        Sheet("requests", "requests, flags, modes and names of the device file",
+              parts("requests", "numbers subdevice_numbers flags descriptor move_bytes read_nowhere write_nowhere modes names")),
+        Sheet("instructions", "instructions",
+              parts("instructions", "kinds channels counts values pointers special configurations newer")),
         Sheet("lists", "lists of instructions", parts("lists", "orders failures lengths pointers")),
         Sheet("maps", "maps of the buffer", parts("maps", "kinds kept which")),
-        Sheet("polls", "`poll`, `select`, `epoll`", parts("polls", "states with_others poll_nowhere select_nowhere epoll_nowhere members edges samples")),
+        Sheet("polls", "`poll`, `select`, `epoll`",
+              parts("polls", "states with_others poll_nowhere select_nowhere epoll_nowhere members edges samples")),
         Sheet("commands", "tests of commands, and refused commands", random_commands(seed)),
         Sheet("limits", "numbers at the limits of 32 and 64 bits", parts("limits", "counts moves times commands")),
-        Sheet("states", f"{STATES} states, and every call in each of them", [f"states {number}" for number in range(STATES)]),
+        Sheet("states", f"{STATES} states, and every call in each of them", states),
         Sheet("streams", "whole inputs", parts("streams", "pieces waiting not_waiting loops overruns mapped")),
         Sheet("outputs", "outputs", parts("outputs", "ends reports full mapped waiting flags numbers_of_trigger looped_back")),
         Sheet("waits", "a thread waits, another one calls", parts("waits", "inputs outputs idle soon signals readers children")),
         Sheet("closings", "doubles, children and closes in every order", parts("closings", "orders shared replaced children")),
-        Sheet("cases", "signals, `exec`, streams of C and other cases", parts("cases", "other_reads locks ends signals close_while_reading started_anew handed_on many_files")),
-        Sheet("sequences", f"{SEQUENCES} random sequences of {STEPS} calls by two threads", random_sequences(seed)),
+        Sheet("cases", "signals, `exec`, streams of C and other cases",
+              parts("cases", "other_reads locks ends signals close_while_reading started_anew handed_on many_files")),
+        Sheet("sequences", f"{SEQUENCES:,} random sequences of {STEPS} calls by two threads", random_sequences(seed)),
         Sheet("programs", f"{len(PROGRAMS)} runs of comedilib's own programs", PROGRAMS, is_of_programs=True),
         Sheet("port", "lines of a parallel port (`comedi_parport`)", ["lines all"], "comedi_parport", port),
-        Sheet("interrupts", "its command, by interrupts", parts("interrupts", "requests tests samples mapped"), "comedi_parport", port, {"PROBE_EDGES": "1"}),
-        Sheet("bond", "the same lines by `comedi_bond`", ["lines all"], "comedi_bond", {"PROBE_DEVICE": "/dev/comedi2"}),
+        Sheet("interrupts", "its command, by interrupts", parts("interrupts", "requests tests samples mapped"),
+              "comedi_parport", port, edges),
+        Sheet("bond", "the same lines by `comedi_bond`", ["lines all"], "comedi_bond", bond),
     ]
 
 

@@ -122,7 +122,8 @@ def unused(reasons, names):
     for reason in reasons:
         for pattern in reason.patterns:
             if not pattern.count and set(pattern.sheet.split()) & set(names):
-                yield f"{reason.name}: covers no row of {pattern.sheet} any more: call '{pattern.call}', kernel '{pattern.kernel}', model '{pattern.model}'"
+                shown = f"call '{pattern.call}', kernel '{pattern.kernel}', model '{pattern.model}'"
+                yield f"{reason.name}: covers no row of {pattern.sheet} any more: {shown}"
 
 
 def faults(reasons, top=TOP):
