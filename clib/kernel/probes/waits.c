@@ -282,24 +282,27 @@ static void readers(char **words)
 	close(file);
 }
 
-/* A child waits, and its parent cancels. */
+/* A child waits, and its parent cancels. On a modelled board time goes on for the child at once, so its wait may be over before
+ * that: how it was answered isn't printed, but that it ends. */
 static void children(char **words)
 {
 	(void)words;
 	for (size_t w = 0; w < LENGTH(input_waits); w++) {
+		int status;
 		file = open_device(O_RDWR);
 		set_buffers(file);
 		set_up_slow_input();
 		pid_t child = fork();
 		if (!child) {
 			input_waits[w].run();
-			row("%s of a child = %s", input_waits[w].name, said);
 			_exit(0);
 		}
 		sleep_milliseconds(100);
 		int result = ioctl(file, COMEDI_CANCEL, INPUT);
-		waitpid(child, NULL, 0);
-		row("cancel by the parent = %s", answer(result));
+		waitpid(child, &status, 0);
+		row("%s of a child: cancel = %s", input_waits[w].name, answer(result));
+		row("%s of a child: status = %d", input_waits[w].name, status);
+		row("%s of a child: state = %s", input_waits[w].name, state_of(file));
 		close(file);
 	}
 }
