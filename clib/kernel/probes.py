@@ -10,6 +10,8 @@ HERE = os.path.dirname(os.path.abspath(__file__))
 TOP = os.path.dirname(os.path.dirname(HERE))
 OUT = os.path.join(HERE, "out")
 RECORDED = os.path.join(HERE, "recorded")
+# comedilib's demos, which Debian's package brings as sources
+DEMOS = "/usr/share/doc/libcomedi-dev/demo"
 
 # A sheet is a file of answers: those of the runs of one program, each between its heading and its status.
 HEADING = "$ "

@@ -16,7 +16,7 @@ FIELDS_OF_ROWS = {"sheet", "section", "call", "kernel", "model"}
 
 @dataclass
 class Row:
-    """A call, and how the kernel and the model answered it. `section` is the run and the heading that it stands under."""
+    """A call, and how the kernel and the model answered it. `section` is the run and the heading above it."""
 
     sheet: str
     section: str

@@ -81,9 +81,9 @@ static void ends(char **words)
 	lsampl_t data[1] = { 0 };
 	(void)words;
 	int file = ended();
-	row("command before the end is told = %s", answer(give(file, input_command(list, 2, 100000, 5))));
-	row("instruction before the end is told = %s", answer(instruction(file, INSN_READ, INPUT, 2, 1, data)));
-	row("unlock before the end is told = %s", answer(ioctl(file, COMEDI_UNLOCK, INPUT)));
+	row("command before the end is reported = %s", answer(give(file, input_command(list, 2, 100000, 5))));
+	row("instruction before the end is reported = %s", answer(instruction(file, INSN_READ, INPUT, 2, 1, data)));
+	row("unlock before the end is reported = %s", answer(ioctl(file, COMEDI_UNLOCK, INPUT)));
 	row("counts that take all = %s", answer(buffer_call(file, INPUT, 20, 0, &counts)));
 	row("state = %s", state_of(file));
 	close(file);

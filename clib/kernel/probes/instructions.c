@@ -161,7 +161,7 @@ static void try_configurations(char **words)
 			}
 }
 
-/* What the kernel has and comedilib 0.11 hasn't: the constraints of timing, and instructions for the device. */
+/* What the kernel has and comedilib 0.11 doesn't have: the constraints of timing, and instructions for the device. */
 static void try_newer(char **words)
 {
 	static const unsigned sources[][2] = { { TRIG_FOLLOW, TRIG_TIMER }, { TRIG_TIMER, TRIG_TIMER }, { TRIG_TIMER, TRIG_NOW },

@@ -55,7 +55,7 @@ static void states(char **words)
 	read(file, bytes, 1);
 	look(file, "input ended and read out");
 	read(file, bytes, 1);
-	look(file, "input told");
+	look(file, "input reported");
 	overrun(file);
 	look(file, "input overrun");
 	ioctl(file, COMEDI_CANCEL, INPUT);

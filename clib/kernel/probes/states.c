@@ -75,7 +75,7 @@ static void be_read_out(void)
 	take(files[0], 20);
 }
 
-static void be_told(void)
+static void be_reported(void)
 {
 	be_read_out();
 	must(read(files[0], room, 2) == 0, "end");
@@ -93,7 +93,7 @@ static void be_overrun_read_out(void)
 	take(files[0], BUFFER_BYTES);
 }
 
-static void be_overrun_told(void)
+static void be_overrun_reported(void)
 {
 	be_overrun_read_out();
 	must(read(files[0], room, 2) < 0, "end");
@@ -134,13 +134,13 @@ static void be_putting_out(void)
 	sleep_milliseconds(2);
 }
 
-static void be_underrun_told(void)
+static void be_underrun_reported(void)
 {
 	be_underrun();
 	must(write(files[0], room, 2) < 0, "end");
 }
 
-static void be_done_told(void)
+static void be_done_reported(void)
 {
 	be_done();
 	must(write(files[0], room, 2) == 0, "end");
@@ -178,10 +178,10 @@ static const struct {
 	{ "ai ended, 13 bytes are left", be_half_read, COUNTS_ALL },
 	{ "ai of B ended, 20 bytes are left", be_ended_of_other, COUNTS_ALL },
 	{ "ai ended and read out", be_read_out, COUNTS_ALL },
-	{ "ai ended, read out and told", be_told, COUNTS_ALL },
+	{ "ai ended, read out and reported", be_reported, COUNTS_ALL },
 	{ "ai overrun, all is left", be_overrun, COUNTS_ALL },
 	{ "ai overrun and read out", be_overrun_read_out, COUNTS_ALL },
-	{ "ai overrun, read out and told", be_overrun_told, COUNTS_ALL },
+	{ "ai overrun, read out and reported", be_overrun_reported, COUNTS_ALL },
 	{ "ai cancelled", be_cancelled, COUNTS_ALL },
 	{ "ao armed, nothing is written", be_armed, COUNTS_ALL },
 	{ "ao of B armed", be_armed_of_other, COUNTS_ALL },
@@ -189,9 +189,9 @@ static const struct {
 	{ "ao armed, full", be_full, COUNTS_ALL },
 	{ "ao runs", be_putting_out, OUTPUT },
 	{ "ao underrun", be_underrun, COUNTS_ALL },
-	{ "ao underrun and told", be_underrun_told, COUNTS_ALL },
+	{ "ao underrun and reported", be_underrun_reported, COUNTS_ALL },
 	{ "ao done", be_done, COUNTS_ALL },
-	{ "ao done and told", be_done_told, COUNTS_ALL },
+	{ "ao done and reported", be_done_reported, COUNTS_ALL },
 	{ "ai runs and ao armed", be_both, INPUT },
 };
 
