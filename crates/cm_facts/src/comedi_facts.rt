@@ -7,10 +7,10 @@ ghost use Rattle.cm_facts.specs.Answers.{Answers, IsTold, said};
 ghost use Rattle.cm_facts.specs.Inquiries as spec;
 
 use crate::describing::describe;
-use crate::flow::{conclude, read_input, report};
 use crate::inquiry::{Inquiry, inquiry_of};
 use cm_base::faults::ReadStop;
 use cm_base::outside::{Sink, Source};
+use cm_cli::flow::{conclude, read_input, report};
 use cm_cli::status::Status;
 use cm_cli::stop::Stop;
 use std::alloc::Global;
@@ -34,7 +34,7 @@ pub fn comedi_facts<S: Source, K: Sink>(
         None => conclude(sink, b"usage\n", Status::Usage),
         Some(inquiry) => match tell(alloc, inquiry, source) {
             Ok(text) => conclude(sink, &text, Status::Done),
-            Err(stop) => report(alloc, stop, sink),
+            Err(stop) => report(alloc, Err(stop), sink),
         },
     }
 }

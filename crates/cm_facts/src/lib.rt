@@ -7,7 +7,6 @@ pub mod comedi_facts;
 mod command_facts;
 pub mod describing;
 pub mod fact;
-mod flow;
 pub mod inquiry;
 pub mod law;
 mod names;
