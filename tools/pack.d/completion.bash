@@ -1,5 +1,5 @@
 # shellcheck shell=bash
-# Completion for comedi, comedi_serve and with_board in bash: source this file, or let bash-completion find it.
+# Completion for comedi, comedi_serve, comedi_facts and with_board in bash: source this file, or let bash-completion find it.
 
 # The files that the current word begins.
 _zendrouz_files() {
@@ -37,6 +37,16 @@ _zendrouz_serve() {
     fi
 }
 
+_zendrouz_facts() {
+    local current=${COMP_WORDS[COMP_CWORD]}
+    COMPREPLY=()
+    if _zendrouz_redirects; then
+        _zendrouz_files "$current"
+    elif [[ $COMP_CWORD == 1 ]]; then
+        mapfile -t COMPREPLY < <(compgen -W 'describe --build --help --version' -- "$current")
+    fi
+}
+
 # A board's file, a program, and then what the program's own completion says, where bash-completion is there to ask it.
 _zendrouz_with_board() {
     local current=${COMP_WORDS[COMP_CWORD]}
@@ -54,4 +64,5 @@ _zendrouz_with_board() {
 
 complete -o filenames -F _zendrouz_comedi comedi
 complete -o filenames -F _zendrouz_serve comedi_serve
+complete -o filenames -F _zendrouz_facts comedi_facts
 complete -o filenames -F _zendrouz_with_board with_board
