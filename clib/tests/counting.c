@@ -18,7 +18,14 @@
 #include <unistd.h>
 
 #define DESCRIPTORS 1024
-#define NEXT(name) ((__typeof__(&name))dlsym(RTLD_NEXT, #name))
+/* The function of the library after this one. It's looked for once, since a handler of a signal that comes meanwhile would wait
+ * for the lock of that search. */
+#define NEXT(name) ({ \
+	static __typeof__(&name) next; \
+	if (!__atomic_load_n(&next, __ATOMIC_ACQUIRE)) \
+		__atomic_store_n(&next, (__typeof__(&name))dlsym(RTLD_NEXT, #name), __ATOMIC_RELEASE); \
+	next; \
+})
 
 /* the requests in the order of their numbers, the calls of the file, and kinds of instructions */
 static const char *const names[] = {
@@ -141,7 +148,7 @@ int ioctl(int descriptor, unsigned long request, ...)
 	void *argument = va_arg(values, void *);
 	va_end(values);
 	unsigned number = request & 0xff;
-	int result = ((int (*)(int, unsigned long, ...))dlsym(RTLD_NEXT, "ioctl"))(descriptor, request, argument);
+	int result = NEXT(ioctl)(descriptor, request, argument);
 	if (!is_ours(descriptor) || (request >> 8 & 0xff) != CIO || number >= REQUESTS)
 		return result;
 	count(names[number]);
