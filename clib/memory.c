@@ -33,10 +33,10 @@ int copy_in(void *to, const void *from, size_t bytes)
 	return 0;
 }
 
-/* Returns whether the kernel can write so few bytes to a pointer. It may answer that it can't do so for another reason. */
+/* Returns whether the kernel can write some few bytes to a pointer. It may answer that it can't do so for another reason. */
 static int can_write(void *to, size_t bytes)
 {
-	return bytes <= MOST_PROBED && !syscall(SYS_rt_sigpending, to, bytes);
+	return bytes && bytes <= MOST_PROBED && !syscall(SYS_rt_sigpending, to, bytes);
 }
 
 int copy_out(void *to, const void *from, size_t bytes)
