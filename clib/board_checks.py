@@ -212,7 +212,7 @@ def document(check, top):
     settings = {name: value for name, value in os.environ.items() if name != "LD_PRELOAD" and not name.startswith("ZENDROUZ_")}
     before = sorted(os.listdir(top))
     for block, wanted in blocks:
-        if re.search("apt-get|clib/check|xoscope", block):
+        if re.search("apt-get|clib/check|clib/kernel|clib/sanitize|clib/fuzz|clib/on_debian|xoscope", block):
             continue
         done = subprocess.run(["sh", "-c", block], cwd=top, env=dict(settings, BUILDS=top + "crates/comedi_serve"), stdin=subprocess.DEVNULL,
                               stdout=subprocess.PIPE, stderr=subprocess.PIPE, timeout=120)
