@@ -60,11 +60,12 @@ static int do_read(int file, const comedi_insn *instruction, unsigned *data)
 static int do_write(int file, const comedi_insn *instruction, const unsigned *data)
 {
 	unsigned unused;
-	/* an input takes no values, and an empty list of them neither */
-	if (!instruction->n && instruction->subdev < device->subdevices && board_is_input(&device->subdevice[instruction->subdev]))
-		return -EINVAL;
-	if (!instruction->n)
-		return read_line(file, number_of(instruction), instruction->chanspec, 1, &unused);
+	/* an input takes no values, and an empty list of them neither: but first it is asked who is busy or has the lock */
+	if (!instruction->n) {
+		int result = read_line(file, number_of(instruction), instruction->chanspec, 1, &unused);
+		int takes_none = instruction->subdev < device->subdevices && board_is_input(&device->subdevice[instruction->subdev]);
+		return !result && takes_none ? -EINVAL : result;
+	}
 	for (unsigned done = 0; done < instruction->n; done += READINGS_OF_A_LINE) {
 		unsigned count = instruction->n - done < READINGS_OF_A_LINE ? instruction->n - done : READINGS_OF_A_LINE;
 		int result = write_line(file, number_of(instruction), instruction->chanspec, count, data + done);

@@ -76,9 +76,10 @@ static ssize_t move(int file, int writes, void *bytes, size_t count)
 	unsigned files = 1u << file;
 	ssize_t result;
 	pthread_testcancel();
-	if (device->file[file].mode == (writes ? O_RDONLY : O_WRONLY))
+	int mode = device->file[file].mode;
+	if (mode != O_RDWR && mode != (writes ? O_WRONLY : O_RDONLY))
 		return -EBADF;
-	if ((ssize_t)count < 0)
+	if (count >= MOST_MAPPED)
 		return -EFAULT;
 	if (!device_begin_call(file))
 		return -EBADF;
@@ -226,7 +227,7 @@ static int map_buffer(int file, size_t bytes, int protection, int flags, off_t o
 	int result = check_map(bytes, whole, offset, page);
 	if (result)
 		return result;
-	if (mode == O_WRONLY || (mode == O_RDONLY && writes && !is_copy))
+	if (mode == O_WRONLY || mode == O_ACCMODE || (mode == O_RDONLY && writes && !is_copy))
 		return -EACCES;
 	int number = writes ? device->file[file].write_subdevice : device->file[file].read_subdevice;
 	if (number == NO_SUBDEVICE || offset)

@@ -228,6 +228,9 @@ static int read_scans(int file, int number, unsigned most, uint32_t *samples)
 static int take_scans(int file, int number, unsigned most, uint32_t *samples)
 {
 	struct counts counts;
+	/* what is kept belongs to the file that runs the command: another one gets its own answer */
+	if (device->subdevice[number].rests && scans_count(file, number, &counts))
+		return read_entries(file, number, most, samples);
 	unsigned first = take_rest(&device->subdevice[number], most, samples);
 	if (device->subdevice[number].rests || (first && first == most))
 		return first;
