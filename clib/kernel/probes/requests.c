@@ -175,10 +175,11 @@ static void write_nowhere(char **words)
 static void use_mode(const char *name, int mode)
 {
 	static unsigned list[] = { 2, 3 };
-	int file = open(DEVICE, mode | O_NONBLOCK), other = open_device(O_RDWR | O_NONBLOCK);
+	int file = open(DEVICE, mode | O_NONBLOCK);
+	row("%s: open = %s", name, file < 0 ? error_name(errno) : "opened");
+	int other = open_device(O_RDWR | O_NONBLOCK);
 	comedi_devinfo d;
 	lsampl_t data[2] = { MIDDLE, 0 };
-	row("%s: open = %s", name, file < 0 ? error_name(errno) : "opened");
 	set_buffers(other);
 	row("%s: mode = %d", name, file < 0 ? -1 : fcntl(file, F_GETFL) & O_ACCMODE);
 	row("%s: DEVINFO = %s", name, answer(ioctl(file, COMEDI_DEVINFO, &d)));
