@@ -34,6 +34,7 @@ static size_t length_of_held;
 void record_begin_child(void)
 {
 	length_of_held = 0;
+	tail_begin_child();
 }
 
 /* Writes the lines at the record's end, and behind them that it's whole. Returns 0, or an error number. */

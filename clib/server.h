@@ -61,6 +61,7 @@ void record_note(const char *form, ...) __attribute__((format(printf, 1, 2)));
 void record_sleep(uint64_t nanoseconds);
 
 /* tail.c: the end of a record, in memory. */
+void tail_begin_child(void);
 int tail_can_map(int descriptor);
 int tail_put(int descriptor, const char *lines, size_t length);
 int tail_end(int descriptor);

@@ -29,6 +29,12 @@
 static char *window;
 static uint64_t window_start, window_end;
 
+/* Called in a child made by fork. Another thread may have been about to map the next room, so what was mapped isn't known. */
+void tail_begin_child(void)
+{
+	window = NULL;
+}
+
 /* Returns whether a file may be mapped: on its file system, what was written once keeps its place. */
 int tail_can_map(int descriptor)
 {

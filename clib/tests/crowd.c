@@ -71,6 +71,7 @@ int main(void)
 		}
 	for (int i = 0; i < THREADS; i++)
 		pthread_join(threads[i], NULL);
+	close(ends[1]);
 	report_all(ends[0], children);
 	comedi_close(device);
 	return 0;
