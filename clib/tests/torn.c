@@ -2,12 +2,13 @@
  * Children that are made while another thread maps the next part of the record: they have what that thread had done by then,
  * and record their own reads all the same.
  *
- * The thread stays within munmap until its child is there. That name stands here before the C library's. The first child is
+ * The thread stays within mmap until its child is there. That name stands here before the C library's. The first child is
  * made before that, since the device waits then for the end of calls that let signals in.
  */
 #include "client.h"
 #include <pthread.h>
 #include <semaphore.h>
+#include <sys/mman.h>
 #include <sys/syscall.h>
 #include <sys/wait.h>
 
@@ -20,15 +21,14 @@ static long samples_of_thread;
 static sem_t is_within, is_made;
 static __thread int left;
 
-int munmap(void *place, size_t bytes)
+void *mmap(void *place, size_t bytes, int protection, int flags, int file, off_t offset)
 {
-	int result = syscall(SYS_munmap, place, bytes);
 	if (left) {
 		left--;
 		sem_post(&is_within);
 		sem_wait(&is_made);
 	}
-	return result;
+	return (void *)syscall(SYS_mmap, place, bytes, protection, flags, file, offset);
 }
 
 static int read_samples(int most)
@@ -70,6 +70,7 @@ int main(void)
 {
 	comedi_t *device = open_board();
 	pthread_t thread;
+	pid_t children[CHILDREN];
 	long samples = 0;
 	descriptor = comedi_fileno(device);
 	if (sem_init(&is_within, 0, 0) || sem_init(&is_made, 0, 0) || report("command", give_command(device, 0, TRIG_NOW, 10000, SAMPLES)))
@@ -78,10 +79,11 @@ int main(void)
 	pthread_create(&thread, NULL, run_thread, NULL);
 	for (int i = 0; i < CHILDREN; i++) {
 		sem_wait(&is_within);
-		pid_t child = make_child(SAMPLES_OF_A_CHILD);
+		children[i] = make_child(SAMPLES_OF_A_CHILD);
 		sem_post(&is_made);
-		samples += end_of_child(child);
 	}
+	for (int i = 0; i < CHILDREN; i++)
+		samples += end_of_child(children[i]);
 	pthread_join(thread, NULL);
 	printf("%ld samples of children, %ld of all\n", samples, samples + samples_of_thread);
 	comedi_close(device);
