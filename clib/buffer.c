@@ -47,7 +47,7 @@ static int ask_counts(int file, int number, struct counts *counts)
 	int result = scans_count(file, number, counts);
 	if (result)
 		return kernel_result(CALL_BUFFER, result);
-	return answer_says(" idle") || !device->subdevice[number].buffer ? -EINVAL : 0;
+	return counts->state == STATE_IDLE || !device->subdevice[number].buffer ? -EINVAL : 0;
 }
 
 /* Fills the memory with what a read has left of a scan. */
@@ -228,8 +228,8 @@ static int input_info(int file, int number, comedi_bufinfo *info, struct counts 
 		if (result)
 			return result;
 	}
-	int failed = answer_says("overrun") || answer_says("fifo");
-	int ended = (failed || answer_says(" done") || answer_says(" dry")) && counts->written == counts->read;
+	int failed = counts->state == STATE_OVERRUN || counts->state == STATE_FIFO;
+	int ended = (failed || counts->state == STATE_DONE || counts->state == STATE_DRY) && counts->written == counts->read;
 	info->bytes_read = released;
 	info->bytes_written = 0;
 	put_counts(s, counts, info);
@@ -248,7 +248,7 @@ static int output_info(int file, int number, comedi_bufinfo *info, struct counts
 	uint32_t last = 0;
 	info->bytes_read = 0;
 	put_counts(s, counts, info);
-	if (!answer_says(" runs")) {
+	if (counts->state != STATE_RUNS) {
 		info->bytes_written = 0;
 		int result = scans_put(file, number, 1, &last);
 		return result == END_REPORTED ? 0 : result;

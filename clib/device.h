@@ -212,9 +212,15 @@ struct happened {
 };
 void stream_happened(int file, struct happened *happened);
 
-/* scans.c: the client's samples. How many were read and written, and for an output how many more have room. */
+/* lines.c: the state of a command, as an answer to `info` has it. */
+enum state { STATE_IDLE, STATE_RUNS, STATE_DONE, STATE_DRY, STATE_OVERRUN, STATE_UNDERRUN, STATE_FIFO };
+#define STATES 7
+
+/* scans.c: the client's samples. How many were read and written, for an output how many more have room, and the state of their
+ * command. */
 struct counts {
 	uint64_t read, written, room;
+	enum state state;
 };
 void scans_begin(struct subdevice *s, unsigned entries, int each_wakes, uint64_t stops_after);
 unsigned scans_capacity(const struct subdevice *s);

@@ -38,18 +38,34 @@ const char *answer_words(void)
 	return text + (*text == ' ');
 }
 
+/* Returns what stands behind the first word of the answer and so many numbers. */
+static const char *behind(int numbers)
+{
+	const char *text = answer_words();
+	for (; numbers; numbers--) {
+		while (*text >= '0' && *text <= '9')
+			text++;
+		text += *text == ' ';
+	}
+	return text;
+}
+
 /* Returns what stands behind the count of the answer: how a command ended, or nothing. */
 const char *answer_end(void)
 {
-	const char *text = answer_words();
-	while (*text >= '0' && *text <= '9')
-		text++;
-	return text + (*text == ' ');
+	return behind(1);
 }
 
-int answer_says(const char *word)
+/* Returns the state of a command that an answer to `info` has behind its two counts, or -1 if it has none. */
+int answer_state(void)
 {
-	return strstr(server_answer(), word) != NULL;
+	static const char *const names[STATES] = { "idle", "runs", "done", "dry", "overrun", "underrun", "fifo" };
+	const char *word = behind(2);
+	size_t length = strcspn(word, " ");
+	for (int state = 0; state < STATES; state++)
+		if (strlen(names[state]) == length && !memcmp(names[state], word, length))
+			return state;
+	return -1;
 }
 
 int answer_numbers(uint64_t *numbers, int most)

@@ -75,12 +75,13 @@ static void unpack_scan(const struct subdevice *s, const uint32_t *samples, uint
 		values[bit] = samples[bit / BITS_OF(s)] >> bit % BITS_OF(s) & 1;
 }
 
-/* How many entries were read, and how many written. */
-static int ask_entries(int file, int number, uint64_t entries[2])
+/* Asks how many entries were read, how many were written, and for the state of the command. */
+static int ask_entries(int file, int number, uint64_t entries[2], enum state *state)
 {
-	int result = question_info(file, number);
-	if (!result && answer_numbers(entries, 2) != 2)
+	int result = question_info(file, number), found = result ? 0 : answer_state();
+	if (!result && (answer_numbers(entries, 2) != 2 || found < 0))
 		return -EIO;
+	*state = found;
 	return result;
 }
 
@@ -94,30 +95,30 @@ static int await_entries(int file, int number, uint64_t entries, uint64_t *time)
 
 /* Lets go of a scan that broke off in the middle, so that the end of its command is reported. One that is only not whole
  * yet stays. */
-static int leave_part(int file, int number, uint64_t entries[2])
+static int leave_part(int file, int number, uint64_t entries[2], enum state *state)
 {
 	uint64_t time;
 	int result = await_entries(file, number, device->subdevice[number].unit_entries, &time);
 	if (!result && time <= device->now)
 		result = question_codes(file, number, entries[1] - entries[0]);
-	return result ? result : ask_entries(file, number, entries);
+	return result ? result : ask_entries(file, number, entries, state);
 }
 
-/* How many samples of a command were read, and how many written; of an output, for how many there is room. The answer says
- * its state, which is that of the client where it has taken all. */
+/* How many samples of a command were read, and how many written; of an output, for how many there is room. Its state is that
+ * of the client where it has taken all. */
 int scans_count(int file, int number, struct counts *counts)
 {
 	uint64_t entries[2];
-	int result = ask_entries(file, number, entries);
+	int result = ask_entries(file, number, entries, &counts->state);
 	if (result)
 		return result;
 	struct subdevice *s = &device->subdevice[number];
 	int is_input = board_is_input(s);
 	if (is_input && entries[1] > entries[0] && entries[1] - entries[0] < s->unit_entries)
-		result = leave_part(file, number, entries);
+		result = leave_part(file, number, entries, &counts->state);
 	if (result)
 		return result;
-	if (answer_says(" idle"))
+	if (counts->state == STATE_IDLE)
 		s->rests = s->part = 0;
 	counts->read = samples_of(s, entries[0]) - (is_input ? s->rests : 0);
 	counts->written = samples_of(s, entries[1]) + (is_input ? 0 : s->rests);
@@ -316,7 +317,7 @@ int scans_put(int file, int number, unsigned count, const uint32_t *samples)
 		int result = scans_count(file, number, &counts);
 		if (result)
 			return kernel_result(CALL_WRITE, result);
-		if (!answer_says(" runs"))
+		if (counts.state != STATE_RUNS)
 			return scans_end(file, number);
 		stored = write_scans(file, number, counts.room < count ? counts.room : count, samples);
 	}

@@ -41,7 +41,7 @@ const char *entry_text(unsigned entry);
 const char *answer_words(void);
 int answer_numbers(uint64_t *numbers, int most);
 const char *answer_end(void);
-int answer_says(const char *word);
+int answer_state(void);
 
 /* messages.c: lines on standard error */
 void message(const char *form, ...) __attribute__((format(printf, 1, 2)));

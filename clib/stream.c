@@ -166,9 +166,9 @@ static int move_nothing(int file, int number)
 	int result = scans_count(file, number, &counts);
 	if (result)
 		return kernel_result(CALL_READ, result);
-	if (answer_says(" idle"))
+	if (counts.state == STATE_IDLE)
 		return -EINVAL;
-	if (!answer_says("overrun") && !answer_says("fifo") && !answer_says("underrun"))
+	if (counts.state != STATE_OVERRUN && counts.state != STATE_FIFO && counts.state != STATE_UNDERRUN)
 		return scans_have_failed(file, number, &counts) ? -EPIPE : 0;
 	return board_is_input(&device->subdevice[number]) ? take_samples(file, number, 0, &none) : scans_end(file, number);
 }
@@ -222,7 +222,7 @@ static ssize_t keep_part(int file, int number, const char *from, size_t bytes)
 	int result = scans_count(file, number, &counts);
 	if (result)
 		return kernel_result(CALL_WRITE, result);
-	if (!answer_says(" runs"))
+	if (counts.state != STATE_RUNS)
 		return scans_end(file, number);
 	if (!s->part && !counts.room)
 		return -EAGAIN;
@@ -239,7 +239,7 @@ static int refuse_pointer(int file, int number)
 	int result = scans_count(file, number, &counts);
 	if (result)
 		return kernel_result(CALL_WRITE, result);
-	if (!answer_says(" runs"))
+	if (counts.state != STATE_RUNS)
 		return scans_end(file, number);
 	return counts.room ? -EFAULT : -EAGAIN;
 }
@@ -296,7 +296,7 @@ ssize_t device_write(int file, const void *from, size_t bytes, int waits)
 /* Counts and state of a file's command. Answers 1 where it runs, 0 where it doesn't, or isn't this file's. */
 static int running_counts(int file, int number, struct counts *counts)
 {
-	return !scans_count(file, number, counts) && answer_says(" runs");
+	return !scans_count(file, number, counts) && counts->state == STATE_RUNS;
 }
 
 int stream_ready_to_read(int file)
@@ -357,7 +357,7 @@ int stream_next_change(int file, int reads, int writes, uint64_t *time)
 /* Counts what has come to an input or was put out since the command's start, with whether it runs. */
 static uint64_t count_events(int file, int number)
 {
-	struct counts counts = { 0, 0, 0 };
+	struct counts counts = { 0 };
 	if (number == NO_SUBDEVICE)
 		return 0;
 	int runs = running_counts(file, number, &counts);
