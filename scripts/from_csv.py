@@ -93,7 +93,7 @@ class Table:
 
 def main(arguments):
     words, options = usage.words_of(arguments, 4, 4, "-r!", "-p", "-u", "-f", "-n", "-e")
-    sub, channel = usage.number(words[2], 0, 15), usage.number(words[3], 0, 63)
+    sub, channel = usage.number(words[2], 0, 15), usage.number(words[3], 0, 255)
     period, first, count, each = [
         usage.number(options[name], 1, jobs.PERIOD) if name in options else none
         for name, none in (("-p", None), ("-f", 1), ("-n", None), ("-e", 1))]

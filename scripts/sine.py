@@ -38,7 +38,7 @@ def steps_of(period, wanted):
 
 def main(arguments):
     words, options = usage.words_of(arguments, 4, 5, "-n")
-    sub, channel = usage.number(words[0], 0, 15), usage.number(words[1], 0, 63)
+    sub, channel = usage.number(words[0], 0, 15), usage.number(words[1], 0, 255)
     amplitude, offset = micro(words[2]), micro(words[4]) if len(words) > 4 else 0
     period = usage.number(words[3], 1, jobs.TABLE * jobs.PERIOD)
     wanted = usage.number(options["-n"], 4, jobs.TABLE) if "-n" in options else None
