@@ -76,7 +76,7 @@ Demo =
     ++ codes "samearef 0 no\n"
     ++ codes "samepolarity 0 no\n"
     ++ codes "horizon 100000\n"
-    ++ codes "wave 0 0 const\n")
+    ++ codes "wave 0 0 const 2500000 2500000\n")
 
 -- a board of version 2, alone
 abbrev pub Bench : Type 0
@@ -220,8 +220,8 @@ Wider =
     ++ codes "samearef 1 yes\n"
     ++ codes "samepolarity 1 yes\n"
     ++ codes "horizon 5000\n"
-    ++ codes "wave 1 0 saw\n"
-    ++ codes "wave 1 3 record\n"
+    ++ codes "wave 1 0 saw 0 4000000\n"
+    ++ codes "wave 1 3 record 1 3\n"
     ++ codes "edges 0 0 2\n"
     ++ codes "edges 1 5 0\n")
 

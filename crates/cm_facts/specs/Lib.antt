@@ -1,5 +1,6 @@
 pub mod Answers
 pub mod Asked
+pub mod Bounds
 pub mod ChannelFacts
 pub mod CommandFacts
 pub mod Described

@@ -1,14 +1,21 @@
 -- What is known of the signals at a board's inputs.
-use Rattle.std.specs.Prelude.{ℕ, ◌+◌, ◌==◌, List, [], ◌∷◌, ◌++◌, length, map, codes, decimal, flat_map, if◌then◌else◌}
+use Rattle.std.specs.Prelude.{ℕ, ◌+◌, ◌==◌, ℤ, List, [], ◌∷◌, ◌++◌, length, map, codes, decimal, flat_map, if◌then◌else◌}
+use Rattle.std.specs.Fmt.{signed_decimal}
 use Rattle.std.specs.List.{concat, range_with_len}
 use Rattle.cm_signal.specs.Signals.{SignalsText, edges_at, falls_at}
+use Rattle.cm_signal.specs.declared.wave.Wave.{Wave}
 use Rattle.cm_signal.specs.declared.wave.WaveAt.{WaveAt}
+use Rattle.cm_facts.specs.Bounds.{wave_bounds}
 use Rattle.cm_facts.specs.FactLine.{fact_line}
 use Rattle.cm_facts.specs.Names.{wave_name}
 
--- the wave of a channel: its kind
+-- the words of a wave: its kind, and between which levels it stays
+abbrev pub wave_words : Wave → ℤ × ℤ → List (List ℕ)
+wave_words wave bounds = wave_name wave ∷ signed_decimal bounds.0 ∷ signed_decimal bounds.1 ∷ []
+
+-- the wave of a channel
 abbrev pub wave_fact : WaveAt → List ℕ
-wave_fact w = fact_line (codes "wave") (w.sub ∷ w.chan ∷ []) (wave_name w.wave ∷ [])
+wave_fact w = fact_line (codes "wave") (w.sub ∷ w.chan ∷ []) (wave_words w.wave (wave_bounds w.wave))
 
 -- how often an external line rises and falls, if it does
 abbrev pub edge_fact : SignalsText → ℕ → List ℕ

@@ -2,6 +2,7 @@
 #![tactic(auto)]
 
 pub mod asked;
+mod bounds;
 mod channel_facts;
 pub mod comedi_facts;
 mod command_facts;

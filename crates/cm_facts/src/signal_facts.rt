@@ -2,6 +2,7 @@
 ghost use Rattle.std.specs.Prelude.{◌≡◌, ◌<◌, ◌≤◌, ◌++◌, flat_map, OnOk};
 ghost use Rattle.cm_facts.specs.SignalFacts as spec;
 
+use crate::bounds::wave_bounds;
 use crate::fact::{FactWord, put_fact};
 use crate::names::wave_name;
 use cm_base::transfer::NoMemory;
@@ -30,13 +31,13 @@ fn put_waves(text: &mut Vec<u8>, waves: &[WaveAt]) -> Result<(), NoMemory>
 fn put_wave(text: &mut Vec<u8>, wave: &WaveAt) -> Result<(), NoMemory>
     ensures { OnOk result (text.new.items ≡ text.old.items ++ spec.wave_fact wave.now) }
 {
-    let kind = wave_name(&wave.wave);
-    put_fact(
-        text,
-        b"wave",
-        &[wave.sub, wave.chan],
-        &[FactWord::Fixed(kind)],
-    )
+    let (least, greatest) = wave_bounds(&wave.wave);
+    let words = [
+        FactWord::Fixed(wave_name(&wave.wave)),
+        FactWord::Signed(least),
+        FactWord::Signed(greatest),
+    ];
+    put_fact(text, b"wave", &[wave.sub, wave.chan], &words)
 }
 
 // Appends the edges of so many external lines.
