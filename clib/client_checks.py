@@ -271,8 +271,8 @@ def crowds(check):
     for _ in range(1 if check.quick else 3):
         check.client("left", "wide")
         check.client("storm", "wide")
-        for name in ("torn", "crowd"):
-            check.compare_record(name, "wide", check.client(name, "wide"), [k // 100 % 255 for k in range(25500)])
+        for name, samples in ("torn", 5100), ("crowd", 25500):
+            check.compare_record(name, "wide", check.client(name, "wide"), [k // 100 % 255 for k in range(samples)])
     started = [check.start([check.path("tests/late")], check.settings("small", ZENDROUZ_LOG="")) for _ in range(CLIENTS_AT_ONCE)]
     ended = [None] * len(started)
 

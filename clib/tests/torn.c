@@ -13,7 +13,7 @@
 #include <sys/wait.h>
 
 #define CHILDREN 4
-#define SAMPLES 25500
+#define SAMPLES 5100
 #define SAMPLES_OF_A_CHILD 100
 
 static int descriptor;
