@@ -28,7 +28,7 @@ part : (height phase period : ℕ) → phase < period → height * phase / perio
 part height phase period lt =
     let more : height * phase ≤ height * period = mul-le-mul_left height (omega arith) in
     let below = (div-lt_iff_lt-mul {k = period} {x = height * phase} {y = suc height} (omega arith)).1
-        (omega (arith, more)) in
+    (omega (arith, more)) in
     omega (arith, below)
 
 -- a level that isn't raised by more than a height stays below its end
