@@ -9,7 +9,7 @@ import tempfile
 import time
 import unittest
 from pathlib import Path
-from typing import Any, Callable, Dict, List, Mapping
+from typing import Any, Callable, Dict, List, Mapping, Optional
 from unittest import mock
 
 from needed import SECONDS, TOP, Case, finish, needs, run_python, start, wanted
@@ -83,6 +83,20 @@ class AtOnce(concurrent.futures.Executor):
     def submit(self, work: Callable[..., Any], /, *words: Any, **named: Any) -> "concurrent.futures.Future[Any]":
         future: "concurrent.futures.Future[Any]" = concurrent.futures.Future()
         future.set_result(work(*words, **named))
+        return future
+
+
+class Interrupted(concurrent.futures.Executor):
+    """An executor of programs that an interrupt of the terminal ends, before it is noted."""
+
+    class Future(concurrent.futures.Future):  # type: ignore[type-arg]
+        def result(self, timeout: Optional[float] = None) -> Any:
+            signal.raise_signal(signal.SIGINT)
+            raise OSError("ended by signal 2")
+
+    def submit(self, work: Callable[..., Any], /, *words: Any, **named: Any) -> "concurrent.futures.Future[Any]":
+        future = self.Future()
+        future.set_result(None)
         return future
 
 
@@ -201,6 +215,10 @@ class Tables(Case):
         self.assertEqual(self.csv.read_text()[:len(kept)], kept)
         self.assertEqual(len(self.csv.read_text().splitlines()), 10)
         self.assertEqual(sweep(make_job, GRID, csv=self.csv, measure=levels), rows)
+
+    def test_an_interrupt_isn_t_a_job_that_fails(self) -> None:
+        with self.assertRaises(KeyboardInterrupt), mock.patch.object(signal, "getsignal", return_value=signal.default_int_handler):
+            sweep(make_job, GRID, executor=Interrupted(), csv=self.csv)
 
     def test_an_interrupt_keeps_what_is_done(self) -> None:
         script = INTERRUPTED.format(tests=str(Path(__file__).parent), csv=str(self.csv))

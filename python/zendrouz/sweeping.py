@@ -94,6 +94,7 @@ class _Sweep:
         self.given: Dict[Future[Any], Tuple[int, str, str]] = {}
         # with None for an interrupt
         self.finished: SimpleQueue[Optional[Future[Any]]] = SimpleQueue()
+        self.is_interrupted = False
 
     def run(self, executor: Executor, make_job: MakeJob, command: str, measure: Optional[Measure]) -> None:
         program = find("comedi")
@@ -130,6 +131,8 @@ class _Sweep:
         try:
             columns = future.result()
         except Exception as error:
+            if self.is_interrupted:  # a terminal interrupts the programs, too
+                raise KeyboardInterrupt from error
             raise SweepFailed(self.points[at], _reason(error), self.table.leave(job)) from error
         self.add(at, columns, digest)
 
@@ -151,7 +154,7 @@ class _Sweep:
 
 
 @contextlib.contextmanager
-def _interrupts(finished: SimpleQueue[Optional[Future[Any]]]) -> Iterator[None]:
+def _interrupts(state: _Sweep) -> Iterator[None]:
     """Lets the first interrupt end the sweep between two calls of the executor, as None among the finished jobs. Raised
     within such a call, it could leave a lock of the executor held, and the sweep would never end. The second interrupt is
     raised where it comes. A program's own handler stays."""
@@ -160,7 +163,8 @@ def _interrupts(finished: SimpleQueue[Optional[Future[Any]]]) -> Iterator[None]:
 
     def note(*_: Any) -> None:
         signal.signal(signal.SIGINT, signal.default_int_handler)
-        finished.put(None)
+        state.is_interrupted = True
+        state.finished.put(None)
     if ours:
         signal.signal(signal.SIGINT, note)
     try:
@@ -212,7 +216,7 @@ def sweep(make_job: MakeJob, grid: Grid, command: str = "replay", executor: Opti
     state = _Sweep(points, table, _bar(progress, len(points)), timeout)
     used = ThreadPoolExecutor(len(os.sched_getaffinity(0))) if executor is None else executor
     try:
-        with _interrupts(state.finished):
+        with _interrupts(state):
             state.run(used, make_job, command, measure)
     except BaseException:
         for future in state.given:
