@@ -203,7 +203,7 @@ def records(check):
     check.expect("its lines, up to there", right and len(samples) > 1000 and not refusal, refusal, text[-200:])
 
 
-# What stands in a record for the questions that it leaves out.
+# What a record has for the questions that it leaves out.
 REPEATED = re.compile(r"# (\d+) repeated: (\d+) lines? like the last one$")
 
 

@@ -233,7 +233,7 @@ static int form_question(const char *key, int file, int subdevice, uint64_t numb
 	return end - line;
 }
 
-/* Puts the line that stands in the record for a question that changes nothing: it has its checks. Returns its length. */
+/* Puts the line that is recorded for a question that changes nothing: it has its checks. Returns its length. */
 static size_t put_contents(char *text, int file, int subdevice)
 {
 	char *end = put_start(text, "contents", file, subdevice);

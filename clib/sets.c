@@ -157,7 +157,7 @@ int sets_have_edges(int set, int descriptor)
 	return have;
 }
 
-/* Returns whether a member that is ready is told so. Within the device. */
+/* Returns whether a member that is ready is reported. Within the device. */
 int sets_have_news(int set, int descriptor, int file)
 {
 	struct quiet quiet;

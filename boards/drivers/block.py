@@ -8,6 +8,8 @@ SUBDEVICES, CHANNELS, RANGES, LIST, LINES, PAIRS, BITS = 16, 256, 32, 1024, 64, 
 # The command lines in the order in which they are printed.
 ORDER = ("sources", "tick", "scan", "convert", "list", "scans", "lines", "buffer", "samerange", "forbid", "invert", "clock",
          "rounds", "halfdown", "perchan", "scanfits", "channels", "samearef", "samepolarity")
+# The flags of a subdevice that a line names (SDF_READABLE, SDF_GROUND and so on).
+FLAGS = {"readable": 1 << 16, "ground": 1 << 20, "common": 1 << 21, "diff": 1 << 22, "other": 1 << 23, "mmap": 1 << 26}
 # The words that a munge is tried on: each bit alone, none and all.
 MUNGED = [1 << bit for bit in range(14)] + [0]
 
@@ -48,6 +50,11 @@ def form_lines(part):
     return lines + ["range " + range_text(limits) for limits in (part.ranges or [(0, 1000000, 2)])[:RANGES]]
 
 
+def flag_lines(part):
+    """A line for each flag that the driver gives the subdevice, of those that a text can name."""
+    return ["flag " + name for name, bit in FLAGS.items() if part.flags & bit]
+
+
 def own_lines(part):
     lines = []
     for channel, (maxdata, ranges) in sorted(part.own.items()):
@@ -78,7 +85,7 @@ def block_lines(part, values=None):
     if part is None or part.kind not in KINDS or part.channels < 1:
         return ["subdevice unused 0"]
     commands = command_lines(values) if values and part.kind != "dio" else []
-    return form_lines(part) + commands + own_lines(part)
+    return form_lines(part) + commands + flag_lines(part) + own_lines(part)
 
 
 def board_lines(name, parts, values):

@@ -28,7 +28,7 @@ class Part:
 
     def __init__(self, words):
         self.kind, self.channels, self.maxdata, self.longest = words[2], int(words[4]), int(words[6]), int(words[8])
-        self.commands, self.munges = words[12] == "1", words[13] == "m"
+        self.flags, self.commands, self.munges = int(words[10], 16), words[12] == "1", words[13] == "m"
         self.ranges = ranges_of(words[words.index("ranges") + 2:])
         # what its munge makes of some words, by the range; and the greatest code and the ranges of each channel
         self.munged, self.own = {}, {}

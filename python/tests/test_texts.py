@@ -84,7 +84,7 @@ chan 3 munge left 4
         board = Board("wide", [Subdevice(
             "ai", 4, bits=16, ranges=[(-10e6, 10e6, 0)], sources="now timer now count count", tick=100, scan=(1050, 1e6),
             convert=(200, 1e5), list=4, buffer=64, rounds="down", halfdown=True, perchan=250, scanfits=True,
-            order="rising repeat", samearef=True, samepolarity=True)], version=3)
+            order="rising repeat", samearef=True, samepolarity=True, flags=["readable", "diff"])], version=3)
         wanted = """zendrouz 1
 board wide
 subdevice ai 4
@@ -103,6 +103,8 @@ halfdown
 scanfits
 samearef
 samepolarity
+flag readable
+flag diff
 """
         self.assertEqual(str(board), wanted)
         read = Board.parse(wanted)

@@ -26,6 +26,8 @@ PathLike = Union[str, os.PathLike[str]]
 _VALUES = ("bits", "munge", "sources", "tick", "scan", "convert", "list", "scans", "lines", "buffer", "fifo",
            "clock", "rounds", "perchan", "order")
 _FLAGS = ("samerange", "invert", "halfdown", "scanfits", "samearef", "samepolarity")
+# The lines of a block that can come more often, by their fields.
+_REPEATED = {"flags": "flag", "forbid": "forbid"}
 # How many values the table of a wave holds, and the greatest horizon, in nanoseconds.
 TABLE, GREATEST_HORIZON = 64, 1_000_000_000_000
 
@@ -89,8 +91,8 @@ class Subdevice:
 
     `ranges` are (least, greatest, unit). `sources` are the five words of that line, `forbid` has lines without their
     first word. `tick`, `scan` and `convert` are in nanoseconds, and `buffer` in samples. `fifo` is (depth, latency),
-    and `chans` has the forms of channels that have their own. What stands from `clock` on needs a board of version 3;
-    `order` is what follows the word `channels` in its line.
+    and `chans` has the forms of channels that have their own. The fields from `clock` to `flags` need a board of
+    version 3; `order` is what follows the word `channels` in its line, and `flags` has what follows each `flag`.
     """
 
     kind: str
@@ -118,6 +120,7 @@ class Subdevice:
     order: Optional[str] = None
     samearef: bool = False
     samepolarity: bool = False
+    flags: Sequence[str] = ()
     chans: Mapping[int, ChannelForm] = dataclasses.field(default_factory=dict)
 
     @property
@@ -140,7 +143,7 @@ class Subdevice:
                 made.append("%s %s" % ("channels" if name == "order" else name, text))
         made += ["range " + _numbers(values) for values in self.ranges]
         made += [name for name in _FLAGS if getattr(self, name)]
-        made += ["forbid " + words for words in self.forbid]
+        made += [line + " " + words for name, line in _REPEATED.items() for words in getattr(self, name)]
         for chan, form in self.chans.items():
             made += form.lines(chan)
         return "\n".join(made) + "\n"
@@ -159,8 +162,9 @@ class _Block:
             forms[int(rest[0])] = self.changed(forms.get(int(rest[0]), ChannelForm()), rest[1:])
         elif name == "range":
             self.fields["ranges"] = (*self.fields.get("ranges", ()), _range(rest))
-        elif name == "forbid":
-            self.fields["forbid"] = (*self.fields.get("forbid", ()), " ".join(rest))
+        elif name in _REPEATED.values():
+            field = next(other for other, line in _REPEATED.items() if line == name)
+            self.fields[field] = (*self.fields.get(field, ()), " ".join(rest))
         elif name in _FLAGS:
             self.fields[name] = True
         elif name in ("munge", "sources", "clock", "rounds"):

@@ -30,6 +30,11 @@ abbrev pub following : WordText
 following =
     Name (codes "consecutive" ∷ codes "straight" ∷ codes "first" ∷ codes "rising" ∷ codes "distinct" ∷ [])
 
+-- what a subdevice can offer
+abbrev pub offered : WordText
+offered =
+    Name (codes "readable" ∷ codes "ground" ∷ codes "common" ∷ codes "diff" ∷ codes "other" ∷ codes "mmap" ∷ [])
+
 -- the sources that a trigger may have, by the version
 abbrev pub by_version : ℕ → ℕ → ℕ → Sets
 by_version first second wide = record { first = first; second = second; wide = wide }
@@ -136,6 +141,7 @@ board_rows =
     ∷ of_each 1 1
     ∷ of_each 1 1
     ∷ of_each 16 32
+    ∷ of_all 6 3 places.Any absents.Nothing
     ∷ []
 
 -- their forms
@@ -171,6 +177,7 @@ board_forms =
     ∷ munge_forms rows.chan_munge (Fixed (codes "chan") ∷ Channel ∷ [])
     ++ form rows.chan_range
     (Fixed (codes "chan") ∷ Channel ∷ Fixed (codes "range") ∷ Signed ∷ Signed ∷ from_to 0 2 ∷ []) rules_of.Below
+    ∷ form rows.flag (Fixed (codes "flag") ∷ offered ∷ []) rules_of.Free
     ∷ []
 
 -- the table

@@ -1,6 +1,6 @@
 -- What holds of the definitions alone.
 use Rattle.std.specs.Prelude.{◌≡◌, ◌≤◌, ◌+◌, ◌-◌, ◌*◌, ◌/◌, ◌^◌, ℕ, min, List, [], ◌∷◌, codes, take, length}
-use Rattle.cm_board.specs.BoardTable.{board_forms, following}
+use Rattle.cm_board.specs.BoardTable.{board_forms, following, offered}
 use Rattle.cm_board.specs.Rows as rows
 use Rattle.cm_board.specs.Table.{WordText, Channel, Fixed, Name, form_at}
 use Rattle.cm_board.specs.Times.{IsGreatest, IsLeast, TimersText, can_make, down, up}
@@ -30,6 +30,7 @@ pub record FormsAreAsNamed : Type 0 where
   pub chan_munge :
       IsForm rows.chan_munge_form rows.chan_munge
       (Fixed (codes "chan") ∷ Channel ∷ Fixed (codes "munge") ∷ Fixed (codes "none") ∷ [])
+  pub flag : IsForm rows.flag_form rows.flag (Fixed (codes "flag") ∷ offered ∷ [])
 
 -- down is the greatest time that timers can make not above another
 abbrev pub DownIsGreatest : Type 0

@@ -2,6 +2,7 @@ pub mod Board
 pub mod BoardTable
 pub mod BoardView
 pub mod ChanView
+pub mod Flags
 pub mod ItemView
 pub mod Items
 pub mod Kept

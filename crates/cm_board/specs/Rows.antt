@@ -105,6 +105,10 @@ chan_munge = 24
 abbrev pub chan_range : ℕ
 chan_range = 25
 
+-- `flag NAME`: something that the subdevice offers
+abbrev pub flag : ℕ
+flag = 26
+
 -- the form of `bits`
 abbrev pub bits_form : ℕ
 bits_form = 0
@@ -160,3 +164,7 @@ repeated_form = 25
 -- the first form of `chan C munge`, `chan C munge none`
 abbrev pub chan_munge_form : ℕ
 chan_munge_form = 29
+
+-- the form of `flag`
+abbrev pub flag_form : ℕ
+flag_form = 34

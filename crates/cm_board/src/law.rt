@@ -17,6 +17,7 @@ pub fn constants_are_rows()
     ensures order { lines.ORDER ≡ rows.order }
     ensures lists { (lines.SAME_REFERENCE ≡ rows.same_reference) × (lines.SAME_POLARITY ≡ rows.same_polarity) }
     ensures channels { (lines.CHAN_BITS ≡ rows.chan_bits) × (lines.CHAN_MUNGE ≡ rows.chan_munge) × (lines.CHAN_RANGE ≡ rows.chan_range) }
+    ensures flags { (lines.FLAG ≡ rows.flag) × (lines.FLAG_FORM ≡ rows.flag_form) }
     ensures code_forms { (lines.BITS_FORM ≡ rows.bits_form) × (lines.RANGE_FORM ≡ rows.range_form) }
     ensures source_forms { lines.SOURCES_FORM ≡ rows.sources_form }
     ensures munge_forms { (lines.MUNGE_NONE ≡ rows.munge_form) × (lines.MUNGE_OFFSET ≡ rows.offset_form) }

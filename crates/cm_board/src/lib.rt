@@ -5,6 +5,7 @@ pub mod board;
 mod channel_lines;
 pub mod channels;
 mod clock;
+pub mod flags;
 pub mod items;
 pub mod kind;
 pub mod law;

@@ -85,8 +85,11 @@ pub const CHAN_MUNGE: usize = 24;
 /// A range of one channel.
 pub const CHAN_RANGE: usize = 25;
 
+/// Something that the subdevice offers.
+pub const FLAG: usize = 26;
+
 /// How many rows there are.
-pub const ROW_COUNT: usize = 26;
+pub const ROW_COUNT: usize = 27;
 
 /// The form of `bits`.
 pub const BITS_FORM: usize = 0;
@@ -154,7 +157,10 @@ pub const CHAN_MUNGE_NONE: usize = CHAN_BITS_FORM + 1;
 /// The form of `chan C range`.
 pub const CHAN_RANGE_FORM: usize = CHAN_MUNGE_NONE + munge::COUNT;
 
-const FORM_COUNT: usize = CHAN_RANGE_FORM + 1;
+/// The form of `flag`.
+pub const FLAG_FORM: usize = CHAN_RANGE_FORM + 1;
+
+const FORM_COUNT: usize = FLAG_FORM + 1;
 
 // In the order in which the lines are printed.
 static ROWS: [Row; ROW_COUNT] = [
@@ -184,6 +190,7 @@ static ROWS: [Row; ROW_COUNT] = [
     channel_lines::ONE,
     channel_lines::ONE,
     channel_lines::RANGES,
+    rows::FLAGS,
 ];
 
 static FORMS: [Form; FORM_COUNT] = [
@@ -400,6 +407,21 @@ static FORMS: [Form; FORM_COUNT] = [
     munge::CHAN_SWAPPED,
     munge::CHAN_LEFT,
     channel_lines::RANGE,
+    Form {
+        row: FLAG,
+        words: &[
+            Word::Fixed(b"flag"),
+            Word::Name(&[
+                b"readable",
+                b"ground",
+                b"common",
+                b"diff",
+                b"other",
+                b"mmap",
+            ]),
+        ],
+        rule: Rule::Free,
+    },
 ];
 
 /// The lines of a block.

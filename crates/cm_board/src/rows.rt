@@ -112,3 +112,13 @@ pub(crate) const WIDE: Row = Row {
     absent: Absent::Nothing,
     of_channel: false,
 };
+
+/// A line of the wider texts that a block may have six times, once for each name that it can say.
+pub(crate) const FLAGS: Row = Row {
+    most: 6,
+    wide: 6,
+    since: 3,
+    place: Place::Any,
+    absent: Absent::Nothing,
+    of_channel: false,
+};

@@ -1,5 +1,5 @@
 -- Before the wider texts no line is about counters or rounding.
-use Rattle.std.proofs.Common.{◌≡◌, ℕ, ◌<◌, ◌≤◌, Bool, true, false, ◌&&◌, List, [], ◌∷◌, map, not, refl, sym, ap, ◌∙◌, nat_le, arith}
+use Rattle.std.proofs.Common.{◌≡◌, ℕ, ◌<◌, ◌≤◌, Bool, true, false, ◌&&◌, List, [], ◌∷◌, map, length, not, refl, sym, ap, ◌∙◌, nat_le, arith}
 use Rattle.std.specs.List.{list_all}
 use Rattle.std.proofs.lemmas.Bool.Decides.{nat_tests}
 use Rattle.cm_base.proofs.Bools.{both}
@@ -26,7 +26,7 @@ none_stand b [] e h = refl
 none_stand b (x ∷ xs) e h = let yes = (both b (list_all (λ (item : ItemText). b) xs) h).0 in cc
 
 -- a row of the wider texts has no line before them
-none_narrow : (head : Head) (items : List ItemText) (n : ℕ) → AreGood head items → head.version ≤ 2 → n < 26 → (row_at n board_rows).since ≡ 3 → of_row n items ≡ []
+none_narrow : (head : Head) (items : List ItemText) (n : ℕ) → AreGood head items → head.version ≤ 2 → n < length board_rows → (row_at n board_rows).since ≡ 3 → of_row n items ≡ []
 none_narrow head items n good narrow below since =
     none_stand (may_stand head (row_at n board_rows)) (of_row n items) never (row_stands head n n (own_lands n below) items good)
   where

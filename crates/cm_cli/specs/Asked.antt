@@ -1,5 +1,5 @@
 -- A call by the words that the process was given.
-use Rattle.std.specs.Prelude.{◌≡◌, ◌≢◌, ◌⊎◌, [], drop, None, Result, Ok, Err, String, Vec}
+use Rattle.std.specs.Prelude.{◌≡◌, ◌≢◌, ◌⊎◌, List, [], drop, Result, Ok, Err, String, Vec}
 use Rattle.std.specs.IoError.{error_kind}
 use Rattle.std.specs.Vec.Iter.{into_iter_items}
 use Rattle.std.specs.declared.alloc.AllocError.{AllocError}
@@ -27,10 +27,18 @@ AreAfterName (Err error) (Err lack) = error_kind error ≡ OutOfMemory
 abbrev pub Lacks : Status → End → End → End → End → Type 0
 Lacks result left rest taken text = (result ≡ NoMemory) × (rest ≡ left) × (text ≡ taken)
 
--- a call by such words is answered. Where they can't be read it has none, or lacks them if memory kept them from it
-abbrev pub AnswersAsked : Given → Status → End → End → End → End → Type 0
-AnswersAsked (Ok all) result left rest taken text =
-    Answers (call_of (drop 1 (into_iter_items all))) result left rest taken text ⊎ Lacks result left rest taken text
-AnswersAsked (Err error) result left rest taken text =
-    ((error_kind error ≢ OutOfMemory) × Answers None result left rest taken text)
+-- what a call by some words does with its source and its sink
+abbrev pub Calls : Type 1
+Calls = List (String Global) → Status → End → End → End → End → Type 0
+
+-- a call by such words is answered. If they can't be read it has none, or lacks them if memory kept them from it
+abbrev pub DoesAsAsked : Calls → Given → Status → End → End → End → End → Type 0
+DoesAsAsked does (Ok all) result left rest taken text =
+    does (drop 1 (into_iter_items all)) result left rest taken text ⊎ Lacks result left rest taken text
+DoesAsAsked does (Err error) result left rest taken text =
+    ((error_kind error ≢ OutOfMemory) × does [] result left rest taken text)
     ⊎ ((error_kind error ≡ OutOfMemory) × Lacks result left rest taken text)
+
+-- a call of `comedi`
+abbrev pub AnswersAsked : Given → Status → End → End → End → End → Type 0
+AnswersAsked = DoesAsAsked (λ words. Answers (call_of words))

@@ -219,146 +219,186 @@ pub row_40_44 : said.Row_40_44
 unfolding computes
 row_40_44 = refl
 
-pub row_86_1 : said.Row_86_1
+pub row_40_45 : said.Row_40_45
 unfolding computes
-row_86_1 = refl
+row_40_45 = refl
 
-pub row_86_2 : said.Row_86_2
+pub row_40_46 : said.Row_40_46
 unfolding computes
-row_86_2 = refl
+row_40_46 = refl
 
-pub row_86_3 : said.Row_86_3
+pub row_40_47 : said.Row_40_47
 unfolding computes
-row_86_3 = refl
+row_40_47 = refl
 
-pub row_86_4 : said.Row_86_4
+pub row_40_48 : said.Row_40_48
 unfolding computes
-row_86_4 = refl
+row_40_48 = refl
 
-pub row_86_5 : said.Row_86_5
+pub row_40_49 : said.Row_40_49
 unfolding computes
-row_86_5 = refl
+row_40_49 = refl
 
-pub row_86_6 : said.Row_86_6
+pub row_40_50 : said.Row_40_50
 unfolding computes
-row_86_6 = refl
+row_40_50 = refl
 
-pub row_86_7 : said.Row_86_7
+pub row_40_51 : said.Row_40_51
 unfolding computes
-row_86_7 = refl
+row_40_51 = refl
 
-pub row_86_8 : said.Row_86_8
+pub row_40_52 : said.Row_40_52
 unfolding computes
-row_86_8 = refl
+row_40_52 = refl
 
-pub row_86_9 : said.Row_86_9
+pub row_94_1 : said.Row_94_1
 unfolding computes
-row_86_9 = refl
+row_94_1 = refl
 
-pub row_86_10 : said.Row_86_10
+pub row_94_2 : said.Row_94_2
 unfolding computes
-row_86_10 = refl
+row_94_2 = refl
 
-pub row_99_1 : said.Row_99_1
+pub row_94_3 : said.Row_94_3
 unfolding computes
-row_99_1 = refl
+row_94_3 = refl
 
-pub row_99_2 : said.Row_99_2
+pub row_94_4 : said.Row_94_4
 unfolding computes
-row_99_2 = refl
+row_94_4 = refl
 
-pub row_99_3 : said.Row_99_3
+pub row_94_5 : said.Row_94_5
 unfolding computes
-row_99_3 = refl
+row_94_5 = refl
 
-pub row_99_4 : said.Row_99_4
+pub row_94_6 : said.Row_94_6
 unfolding computes
-row_99_4 = refl
+row_94_6 = refl
 
-pub row_99_5 : said.Row_99_5
+pub row_94_7 : said.Row_94_7
 unfolding computes
-row_99_5 = refl
+row_94_7 = refl
 
-pub row_99_6 : said.Row_99_6
+pub row_94_8 : said.Row_94_8
 unfolding computes
-row_99_6 = refl
+row_94_8 = refl
 
-pub row_99_7 : said.Row_99_7
+pub row_94_9 : said.Row_94_9
 unfolding computes
-row_99_7 = refl
+row_94_9 = refl
 
-pub row_99_8 : said.Row_99_8
+pub row_94_10 : said.Row_94_10
 unfolding computes
-row_99_8 = refl
+row_94_10 = refl
 
-pub row_99_9 : said.Row_99_9
+pub row_94_11 : said.Row_94_11
 unfolding computes
-row_99_9 = refl
+row_94_11 = refl
 
-pub row_99_10 : said.Row_99_10
+pub row_94_12 : said.Row_94_12
 unfolding computes
-row_99_10 = refl
+row_94_12 = refl
 
-pub row_99_11 : said.Row_99_11
+pub row_109_1 : said.Row_109_1
 unfolding computes
-row_99_11 = refl
+row_109_1 = refl
 
-pub row_112 : said.Row_112
+pub row_109_2 : said.Row_109_2
 unfolding computes
-row_112 = refl
+row_109_2 = refl
 
-pub row_140 : said.Row_140
+pub row_109_3 : said.Row_109_3
 unfolding computes
-row_140 = refl
+row_109_3 = refl
 
-pub row_160 : said.Row_160
+pub row_109_4 : said.Row_109_4
 unfolding computes
-row_160 = refl
+row_109_4 = refl
 
-pub row_169 : said.Row_169
+pub row_109_5 : said.Row_109_5
 unfolding computes
-row_169 = refl
+row_109_5 = refl
 
-pub row_184 : said.Row_184
+pub row_109_6 : said.Row_109_6
 unfolding computes
-row_184 = refl
+row_109_6 = refl
 
-pub row_206 : said.Row_206
+pub row_109_7 : said.Row_109_7
 unfolding computes
-row_206 = refl
+row_109_7 = refl
 
-pub row_228 : said.Row_228
+pub row_109_8 : said.Row_109_8
 unfolding computes
-row_228 = refl
+row_109_8 = refl
 
-pub row_250 : said.Row_250
+pub row_109_9 : said.Row_109_9
 unfolding computes
-row_250 = refl
+row_109_9 = refl
 
-pub row_272 : said.Row_272
+pub row_109_10 : said.Row_109_10
 unfolding computes
-row_272 = refl
+row_109_10 = refl
 
-pub row_287 : said.Row_287
+pub row_109_11 : said.Row_109_11
 unfolding computes
-row_287 = refl
+row_109_11 = refl
 
-pub row_327 : said.Row_327
+pub row_122 : said.Row_122
 unfolding computes
-row_327 = refl
+row_122 = refl
 
-pub row_348 : said.Row_348
+pub row_150 : said.Row_150
 unfolding computes
-row_348 = refl
+row_150 = refl
 
-pub row_383 : said.Row_383
+pub row_170 : said.Row_170
 unfolding computes
-row_383 = refl
+row_170 = refl
 
-pub row_403 : said.Row_403
+pub row_179 : said.Row_179
 unfolding computes
-row_403 = refl
+row_179 = refl
 
-pub row_434_1 : said.Row_434_1
+pub row_194 : said.Row_194
 unfolding computes
-row_434_1 = refl
+row_194 = refl
+
+pub row_216 : said.Row_216
+unfolding computes
+row_216 = refl
+
+pub row_238 : said.Row_238
+unfolding computes
+row_238 = refl
+
+pub row_260 : said.Row_260
+unfolding computes
+row_260 = refl
+
+pub row_282 : said.Row_282
+unfolding computes
+row_282 = refl
+
+pub row_297 : said.Row_297
+unfolding computes
+row_297 = refl
+
+pub row_337 : said.Row_337
+unfolding computes
+row_337 = refl
+
+pub row_358 : said.Row_358
+unfolding computes
+row_358 = refl
+
+pub row_393 : said.Row_393
+unfolding computes
+row_393 = refl
+
+pub row_413 : said.Row_413
+unfolding computes
+row_413 = refl
+
+pub row_444_1 : said.Row_444_1
+unfolding computes
+row_444_1 = refl

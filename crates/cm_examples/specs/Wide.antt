@@ -404,9 +404,96 @@ Row_40_43 =
     (text_head ++ text_needed ++ codes "samepolarities\n" ++ text_end ++ codes "\n")
     (codes "refused 14 Unknown\n")
 
--- the lines of a wider text: {head}{needed}fifo 16 0\nchan 1 bits 8\ninvert\nsamerange\n{
+-- the lines of a wider text: {head}{needed}flag readable\n{end}
 abbrev pub Row_40_44 : Type 0
 Row_40_44 =
+    Accepts commands.Test
+    (text_head ++ text_needed ++ codes "flag readable\n" ++ text_end ++ codes "\n")
+
+-- the lines of a wider text: {head}{needed}flag ground\nflag common\nflag diff\nflag othe
+abbrev pub Row_40_45 : Type 0
+Row_40_45 =
+    Accepts commands.Test
+    (text_head
+    ++ text_needed
+    ++ codes "flag ground\n"
+    ++ codes "flag common\n"
+    ++ codes "flag diff\n"
+    ++ codes "flag other\n"
+    ++ codes "flag mmap\n"
+    ++ codes "flag readable\n"
+    ++ text_end
+    ++ codes "\n")
+
+-- the lines of a wider text: {head}{needed}flag\n{end}
+abbrev pub Row_40_46 : Type 0
+Row_40_46 =
+    Refuses commands.Test
+    (text_head ++ text_needed ++ codes "flag\n" ++ text_end ++ codes "\n")
+    (codes "refused 14 BadLine\n")
+
+-- the lines of a wider text: {head}{needed}flag ground diff\n{end}
+abbrev pub Row_40_47 : Type 0
+Row_40_47 =
+    Refuses commands.Test
+    (text_head ++ text_needed ++ codes "flag ground diff\n" ++ text_end ++ codes "\n")
+    (codes "refused 14 BadLine\n")
+
+-- the lines of a wider text: {head}{needed}flag plus\n{end}
+abbrev pub Row_40_48 : Type 0
+Row_40_48 =
+    Refuses commands.Test
+    (text_head ++ text_needed ++ codes "flag plus\n" ++ text_end ++ codes "\n")
+    (codes "refused 14 Unknown\n")
+
+-- the lines of a wider text: {head}{needed}flag diff\nflag diff\nflag diff\nflag diff\nfl
+abbrev pub Row_40_49 : Type 0
+Row_40_49 =
+    Accepts commands.Test
+    (text_head
+    ++ text_needed
+    ++ codes "flag diff\n"
+    ++ codes "flag diff\n"
+    ++ codes "flag diff\n"
+    ++ codes "flag diff\n"
+    ++ codes "flag diff\n"
+    ++ codes "flag diff\n"
+    ++ text_end
+    ++ codes "\n")
+
+-- the lines of a wider text: {head}{needed}flag diff\nflag diff\nflag diff\nflag diff\nfl
+abbrev pub Row_40_50 : Type 0
+Row_40_50 =
+    Refuses commands.Test
+    (text_head
+    ++ text_needed
+    ++ codes "flag diff\n"
+    ++ codes "flag diff\n"
+    ++ codes "flag diff\n"
+    ++ codes "flag diff\n"
+    ++ codes "flag diff\n"
+    ++ codes "flag diff\n"
+    ++ codes "flag mmap\n"
+    ++ text_end
+    ++ codes "\n")
+    (codes "refused 20 Limit\n")
+
+-- the lines of a wider text: zendrouz 1\nboard x\nsubdevice dio 4\nbits 1\nrange 0 1 0\nf
+abbrev pub Row_40_51 : Type 0
+Row_40_51 =
+    Accepts commands.Test
+    (codes "zendrouz 1\n"
+    ++ codes "board x\n"
+    ++ codes "subdevice dio 4\n"
+    ++ codes "bits 1\n"
+    ++ codes "range 0 1 0\n"
+    ++ codes "flag readable\n"
+    ++ text_end
+    ++ codes "\n")
+
+-- the lines of a wider text: {head}{needed}fifo 16 0\nchan 1 bits 8\ninvert\nsamerange\n{
+abbrev pub Row_40_52 : Type 0
+Row_40_52 =
     Accepts commands.Test
     (text_head
     ++ text_needed
@@ -418,8 +505,8 @@ Row_40_44 =
     ++ codes "\n")
 
 -- where they may not stand: comedi 2\nboard x\nsubdevice ai 4\nrounds up\n
-abbrev pub Row_86_1 : Type 0
-Row_86_1 =
+abbrev pub Row_94_1 : Type 0
+Row_94_1 =
     Refuses commands.Test
     (codes "comedi 2\n"
     ++ codes "board x\n"
@@ -429,8 +516,8 @@ Row_86_1 =
     (codes "refused 4 Unknown\n")
 
 -- where they may not stand: comedi 2\nboard x\nsubdevice ai 4\nhalfdown\n
-abbrev pub Row_86_2 : Type 0
-Row_86_2 =
+abbrev pub Row_94_2 : Type 0
+Row_94_2 =
     Refuses commands.Test
     (codes "comedi 2\n"
     ++ codes "board x\n"
@@ -440,8 +527,8 @@ Row_86_2 =
     (codes "refused 4 Unknown\n")
 
 -- where they may not stand: comedi 2\nboard x\nsubdevice ai 4\nperchan 1\n
-abbrev pub Row_86_3 : Type 0
-Row_86_3 =
+abbrev pub Row_94_3 : Type 0
+Row_94_3 =
     Refuses commands.Test
     (codes "comedi 2\n"
     ++ codes "board x\n"
@@ -451,8 +538,8 @@ Row_86_3 =
     (codes "refused 4 Unknown\n")
 
 -- where they may not stand: comedi 2\nboard x\nsubdevice ai 4\nscanfits\n
-abbrev pub Row_86_4 : Type 0
-Row_86_4 =
+abbrev pub Row_94_4 : Type 0
+Row_94_4 =
     Refuses commands.Test
     (codes "comedi 2\n"
     ++ codes "board x\n"
@@ -462,8 +549,8 @@ Row_86_4 =
     (codes "refused 4 Unknown\n")
 
 -- where they may not stand: comedi 1\nboard x\nsubdevice ai 4\nchannels rising\n
-abbrev pub Row_86_5 : Type 0
-Row_86_5 =
+abbrev pub Row_94_5 : Type 0
+Row_94_5 =
     Refuses commands.Test
     (codes "comedi 1\n"
     ++ codes "board x\n"
@@ -473,8 +560,8 @@ Row_86_5 =
     (codes "refused 4 Unknown\n")
 
 -- where they may not stand: comedi 2\nboard x\nsubdevice ai 4\nsamearef\n
-abbrev pub Row_86_6 : Type 0
-Row_86_6 =
+abbrev pub Row_94_6 : Type 0
+Row_94_6 =
     Refuses commands.Test
     (codes "comedi 2\n"
     ++ codes "board x\n"
@@ -484,8 +571,8 @@ Row_86_6 =
     (codes "refused 4 Unknown\n")
 
 -- where they may not stand: comedi 2\nboard x\nsubdevice ai 4\nsamepolarity\n
-abbrev pub Row_86_7 : Type 0
-Row_86_7 =
+abbrev pub Row_94_7 : Type 0
+Row_94_7 =
     Refuses commands.Test
     (codes "comedi 2\n"
     ++ codes "board x\n"
@@ -494,9 +581,31 @@ Row_86_7 =
     ++ codes "\n")
     (codes "refused 4 Unknown\n")
 
+-- where they may not stand: comedi 2\nboard x\nsubdevice ai 4\nflag ground\n
+abbrev pub Row_94_8 : Type 0
+Row_94_8 =
+    Refuses commands.Test
+    (codes "comedi 2\n"
+    ++ codes "board x\n"
+    ++ codes "subdevice ai 4\n"
+    ++ codes "flag ground\n"
+    ++ codes "\n")
+    (codes "refused 4 Unknown\n")
+
+-- where they may not stand: zendrouz 1\nboard x\nsubdevice unused 0\nflag mmap\n
+abbrev pub Row_94_9 : Type 0
+Row_94_9 =
+    Refuses commands.Test
+    (codes "zendrouz 1\n"
+    ++ codes "board x\n"
+    ++ codes "subdevice unused 0\n"
+    ++ codes "flag mmap\n"
+    ++ codes "\n")
+    (codes "refused 4 Unknown\n")
+
 -- where they may not stand: zendrouz 1\nboard x\nsubdevice dio 4\nbits 1\nrange 0 1 0\ns
-abbrev pub Row_86_8 : Type 0
-Row_86_8 =
+abbrev pub Row_94_10 : Type 0
+Row_94_10 =
     Refuses commands.Test
     (codes "zendrouz 1\n"
     ++ codes "board x\n"
@@ -508,8 +617,8 @@ Row_86_8 =
     (codes "refused 6 Unknown\n")
 
 -- where they may not stand: zendrouz 1\nboard x\nsubdevice ai 4\nbits 1\nrange 0 1 0\nsc
-abbrev pub Row_86_9 : Type 0
-Row_86_9 =
+abbrev pub Row_94_11 : Type 0
+Row_94_11 =
     Refuses commands.Test
     (codes "zendrouz 1\n"
     ++ codes "board x\n"
@@ -522,8 +631,8 @@ Row_86_9 =
     (codes "refused 7 Missing\n")
 
 -- where they may not stand: zendrouz 1\nboard x\nsubdevice unused 0\nsamearef\n
-abbrev pub Row_86_10 : Type 0
-Row_86_10 =
+abbrev pub Row_94_12 : Type 0
+Row_94_12 =
     Refuses commands.Test
     (codes "zendrouz 1\n"
     ++ codes "board x\n"
@@ -533,8 +642,8 @@ Row_86_10 =
     (codes "refused 4 Unknown\n")
 
 -- limits off the tick: {head}tick 100\nscan 1050 99999\nconvert 250 20050\nlist 8\n
-abbrev pub Row_99_1 : Type 0
-Row_99_1 =
+abbrev pub Row_109_1 : Type 0
+Row_109_1 =
     Accepts commands.Test
     (text_head
     ++ codes "tick 100\n"
@@ -547,8 +656,8 @@ Row_99_1 =
     ++ codes "\n")
 
 -- limits off the tick: {head}tick 100\nscan 1050 1099\nconvert 1 100\nlist 8\nlines
-abbrev pub Row_99_2 : Type 0
-Row_99_2 =
+abbrev pub Row_109_2 : Type 0
+Row_109_2 =
     Refuses commands.Test
     (text_head
     ++ codes "tick 100\n"
@@ -562,8 +671,8 @@ Row_99_2 =
     (codes "refused 14 Bad\n")
 
 -- limits off the tick: {head}tick 100\nscan 1050 1100\nconvert 1 100\nlist 8\nlines
-abbrev pub Row_99_3 : Type 0
-Row_99_3 =
+abbrev pub Row_109_3 : Type 0
+Row_109_3 =
     Accepts commands.Test
     (text_head
     ++ codes "tick 100\n"
@@ -576,8 +685,8 @@ Row_99_3 =
     ++ codes "\n")
 
 -- limits off the tick: {head}tick 100\nscan 1050 99999\nconvert 101 199\nlist 8\nli
-abbrev pub Row_99_4 : Type 0
-Row_99_4 =
+abbrev pub Row_109_4 : Type 0
+Row_109_4 =
     Refuses commands.Test
     (text_head
     ++ codes "tick 100\n"
@@ -591,8 +700,8 @@ Row_99_4 =
     (codes "refused 14 Bad\n")
 
 -- limits off the tick: {head}tick 100\nscan 1050 99999\nconvert 101 200\nlist 8\nli
-abbrev pub Row_99_5 : Type 0
-Row_99_5 =
+abbrev pub Row_109_5 : Type 0
+Row_109_5 =
     Accepts commands.Test
     (text_head
     ++ codes "tick 100\n"
@@ -605,8 +714,8 @@ Row_99_5 =
     ++ codes "\n")
 
 -- limits off the tick: {head}tick 100\nscan 1050 1650\nconvert 201 300\nlist 8\nlin
-abbrev pub Row_99_6 : Type 0
-Row_99_6 =
+abbrev pub Row_109_6 : Type 0
+Row_109_6 =
     Refuses commands.Test
     (text_head
     ++ codes "tick 100\n"
@@ -620,8 +729,8 @@ Row_99_6 =
     (codes "refused 14 Bad\n")
 
 -- limits off the tick: {head}tick 100\nscan 1050 2399\nconvert 201 300\nlist 8\nlin
-abbrev pub Row_99_7 : Type 0
-Row_99_7 =
+abbrev pub Row_109_7 : Type 0
+Row_109_7 =
     Refuses commands.Test
     (text_head
     ++ codes "tick 100\n"
@@ -635,8 +744,8 @@ Row_99_7 =
     (codes "refused 14 Bad\n")
 
 -- limits off the tick: {head}tick 100\nscan 1050 2400\nconvert 201 300\nlist 8\nlin
-abbrev pub Row_99_8 : Type 0
-Row_99_8 =
+abbrev pub Row_109_8 : Type 0
+Row_109_8 =
     Accepts commands.Test
     (text_head
     ++ codes "tick 100\n"
@@ -649,8 +758,8 @@ Row_99_8 =
     ++ codes "\n")
 
 -- limits off the tick: {head}tick 100\nscan 1050 2450\nconvert 200 300\nlist 8\nlin
-abbrev pub Row_99_9 : Type 0
-Row_99_9 =
+abbrev pub Row_109_9 : Type 0
+Row_109_9 =
     Accepts commands.Test
     (text_head
     ++ codes "tick 100\n"
@@ -664,8 +773,8 @@ Row_99_9 =
     ++ codes "\n")
 
 -- limits off the tick: {head}tick 100\nscan 1050 2450\nconvert 200 300\nlist 8\nlin
-abbrev pub Row_99_10 : Type 0
-Row_99_10 =
+abbrev pub Row_109_10 : Type 0
+Row_109_10 =
     Refuses commands.Test
     (text_head
     ++ codes "tick 100\n"
@@ -680,8 +789,8 @@ Row_99_10 =
     (codes "refused 15 Bad\n")
 
 -- limits off the tick: comedi 2\nboard x\nsubdevice ai 4\nbits 8\nrange 0 1 0\nsour
-abbrev pub Row_99_11 : Type 0
-Row_99_11 =
+abbrev pub Row_109_11 : Type 0
+Row_109_11 =
     Refuses commands.Test
     (codes "comedi 2\n"
     ++ codes "board x\n"
@@ -699,8 +808,8 @@ Row_99_11 =
     (codes "refused 12 Bad\n")
 
 -- a scan grows with its list
-abbrev pub Row_112 : Type 0
-Row_112 =
+abbrev pub Row_122 : Type 0
+Row_122 =
     Answers commands.Test
     (text_head
     ++ text_needed
@@ -735,8 +844,8 @@ Row_112 =
     ++ codes "step 3 0 0 now:0 timer:100000 now:0 count:3 none:0 0/0/ground,1/0/ground,2/0/ground\n")
 
 -- a scan that is shorter than its conversions is outside its limits
-abbrev pub Row_140 : Type 0
-Row_140 =
+abbrev pub Row_150 : Type 0
+Row_150 =
     Answers commands.Test
     (text_head
     ++ text_needed
@@ -767,8 +876,8 @@ Row_140 =
     ++ codes "round\n")
 
 -- without that line it is made longer in step 4
-abbrev pub Row_160 : Type 0
-Row_160 =
+abbrev pub Row_170 : Type 0
+Row_170 =
     Answers commands.Test
     (text_head
     ++ text_needed
@@ -781,8 +890,8 @@ Row_160 =
     ++ codes "d\n")
 
 -- rounding: next is nearest
-abbrev pub Row_169 : Type 0
-Row_169 =
+abbrev pub Row_179 : Type 0
+Row_179 =
     Answers commands.Test
     (text_head
     ++ text_needed
@@ -799,8 +908,8 @@ Row_169 =
     ++ codes "step 4 0 65536 now:0 timer:1100 now:0 count:1 none:0 0/0/ground\n")
 
 -- rounds nearest
-abbrev pub Row_184 : Type 0
-Row_184 =
+abbrev pub Row_194 : Type 0
+Row_194 =
     Answers commands.Test
     (text_head
     ++ text_needed
@@ -824,8 +933,8 @@ Row_184 =
     ++ codes "step 4 0 131072 now:0 timer:1200 now:0 count:1 none:0 0/0/ground\n")
 
 -- rounds down
-abbrev pub Row_206 : Type 0
-Row_206 =
+abbrev pub Row_216 : Type 0
+Row_216 =
     Answers commands.Test
     (text_head
     ++ text_needed
@@ -849,8 +958,8 @@ Row_206 =
     ++ codes "step 4 0 131072 now:0 timer:1100 now:0 count:1 none:0 0/0/ground\n")
 
 -- rounds up
-abbrev pub Row_228 : Type 0
-Row_228 =
+abbrev pub Row_238 : Type 0
+Row_238 =
     Answers commands.Test
     (text_head
     ++ text_needed
@@ -874,8 +983,8 @@ Row_228 =
     ++ codes "step 4 0 131072 now:0 timer:1200 now:0 count:1 none:0 0/0/ground\n")
 
 -- of two times that are as near the lower
-abbrev pub Row_250 : Type 0
-Row_250 =
+abbrev pub Row_260 : Type 0
+Row_260 =
     Answers commands.Test
     (text_head
     ++ text_needed
@@ -901,8 +1010,8 @@ Row_250 =
     ++ codes "d\n")
 
 -- of two times that are as near the lower, where the board rounds so
-abbrev pub Row_272 : Type 0
-Row_272 =
+abbrev pub Row_282 : Type 0
+Row_282 =
     Answers commands.Test
     (text_head
     ++ text_needed
@@ -919,8 +1028,8 @@ Row_272 =
     ++ codes "step 4 0 196608 now:0 timer:1100 now:0 count:1 none:0 0/0/ground\n")
 
 -- limits off the tick
-abbrev pub Row_287 : Type 0
-Row_287 =
+abbrev pub Row_297 : Type 0
+Row_297 =
     Answers commands.Test
     (text_head
     ++ codes "tick 100\n"
@@ -972,8 +1081,8 @@ Row_287 =
     ++ codes "step 4 0 65536 now:0 ext:0 timer:300 count:1 none:0 0/0/ground\n")
 
 -- an odd tick
-abbrev pub Row_327 : Type 0
-Row_327 =
+abbrev pub Row_337 : Type 0
+Row_337 =
     Answers commands.Test
     (text_head
     ++ codes "tick 333\n"
@@ -998,8 +1107,8 @@ Row_327 =
     ++ codes "d\n")
 
 -- all rules of a list together
-abbrev pub Row_348 : Type 0
-Row_348 =
+abbrev pub Row_358 : Type 0
+Row_358 =
     Answers commands.Test
     (text_head
     ++ text_needed
@@ -1020,8 +1129,8 @@ Row_348 =
     ++ codes "step 5 0 0 now:0 timer:10000 now:0 count:2 none:0 2/1/diff,0/1/diff\n")
 
 -- conversions that follow each other
-abbrev pub Row_383 : Type 0
-Row_383 =
+abbrev pub Row_393 : Type 0
+Row_393 =
     Answers commands.Test
     (text_follows
     ++ text_end
@@ -1043,8 +1152,8 @@ Row_383 =
     ++ codes "step 4 0 0 now:0 timer:1000 follow:0 count:1 none:0 0/0/ground\n")
 
 -- conversions that follow each other come at the scan's start
-abbrev pub Row_403 : Type 0
-Row_403 =
+abbrev pub Row_413 : Type 0
+Row_413 =
     Answers commands.Expand
     (text_follows
     ++ codes "signals 100000\n"
@@ -1078,8 +1187,8 @@ Row_403 =
     ++ codes "dry\n")
 
 -- they need a wider text: comedi 2\nboard x\nsubdevice di 4\nbits 1\nrange 0 1 2\nsour
-abbrev pub Row_434_1 : Type 0
-Row_434_1 =
+abbrev pub Row_444_1 : Type 0
+Row_444_1 =
     Refuses commands.Test
     (codes "comedi 2\n"
     ++ codes "board x\n"
@@ -1146,39 +1255,49 @@ pub record AreWide : Type 0 where
   pub row_40_42 : Row_40_42
   pub row_40_43 : Row_40_43
   pub row_40_44 : Row_40_44
-  pub row_86_1 : Row_86_1
-  pub row_86_2 : Row_86_2
-  pub row_86_3 : Row_86_3
-  pub row_86_4 : Row_86_4
-  pub row_86_5 : Row_86_5
-  pub row_86_6 : Row_86_6
-  pub row_86_7 : Row_86_7
-  pub row_86_8 : Row_86_8
-  pub row_86_9 : Row_86_9
-  pub row_86_10 : Row_86_10
-  pub row_99_1 : Row_99_1
-  pub row_99_2 : Row_99_2
-  pub row_99_3 : Row_99_3
-  pub row_99_4 : Row_99_4
-  pub row_99_5 : Row_99_5
-  pub row_99_6 : Row_99_6
-  pub row_99_7 : Row_99_7
-  pub row_99_8 : Row_99_8
-  pub row_99_9 : Row_99_9
-  pub row_99_10 : Row_99_10
-  pub row_99_11 : Row_99_11
-  pub row_112 : Row_112
-  pub row_140 : Row_140
-  pub row_160 : Row_160
-  pub row_169 : Row_169
-  pub row_184 : Row_184
-  pub row_206 : Row_206
-  pub row_228 : Row_228
-  pub row_250 : Row_250
-  pub row_272 : Row_272
-  pub row_287 : Row_287
-  pub row_327 : Row_327
-  pub row_348 : Row_348
-  pub row_383 : Row_383
-  pub row_403 : Row_403
-  pub row_434_1 : Row_434_1
+  pub row_40_45 : Row_40_45
+  pub row_40_46 : Row_40_46
+  pub row_40_47 : Row_40_47
+  pub row_40_48 : Row_40_48
+  pub row_40_49 : Row_40_49
+  pub row_40_50 : Row_40_50
+  pub row_40_51 : Row_40_51
+  pub row_40_52 : Row_40_52
+  pub row_94_1 : Row_94_1
+  pub row_94_2 : Row_94_2
+  pub row_94_3 : Row_94_3
+  pub row_94_4 : Row_94_4
+  pub row_94_5 : Row_94_5
+  pub row_94_6 : Row_94_6
+  pub row_94_7 : Row_94_7
+  pub row_94_8 : Row_94_8
+  pub row_94_9 : Row_94_9
+  pub row_94_10 : Row_94_10
+  pub row_94_11 : Row_94_11
+  pub row_94_12 : Row_94_12
+  pub row_109_1 : Row_109_1
+  pub row_109_2 : Row_109_2
+  pub row_109_3 : Row_109_3
+  pub row_109_4 : Row_109_4
+  pub row_109_5 : Row_109_5
+  pub row_109_6 : Row_109_6
+  pub row_109_7 : Row_109_7
+  pub row_109_8 : Row_109_8
+  pub row_109_9 : Row_109_9
+  pub row_109_10 : Row_109_10
+  pub row_109_11 : Row_109_11
+  pub row_122 : Row_122
+  pub row_150 : Row_150
+  pub row_170 : Row_170
+  pub row_179 : Row_179
+  pub row_194 : Row_194
+  pub row_216 : Row_216
+  pub row_238 : Row_238
+  pub row_260 : Row_260
+  pub row_282 : Row_282
+  pub row_297 : Row_297
+  pub row_337 : Row_337
+  pub row_358 : Row_358
+  pub row_393 : Row_393
+  pub row_413 : Row_413
+  pub row_444_1 : Row_444_1

@@ -79,7 +79,7 @@ pub fn the_threads_compute()
     ensures { AreThreads }
 {}
 
-/// The 90 examples of `tests/wide.rows` have the stored answers.
+/// The 100 examples of `tests/wide.rows` have the stored answers.
 pub fn the_wide_compute()
     ensures { AreWide }
 {}

@@ -1,10 +1,6 @@
 -- Texts that are written piece by piece.
 use Rattle.std.proofs.Common.{◌≡◌, ℕ, ◌+◌, List, [], ◌∷◌, ◌++◌, map, Result, Ok, Err, OnOk, sym, ap, ◌∙◌, arith, append_assoc, append-nil}
 use Rattle.std.specs.Prelude.{codes, flat_map}
-use Rattle.std.specs.List.{concat, range_with_len}
-use Rattle.std.proofs.lemmas.List.{flat_map_more}
-use Rattle.std.proofs.lemmas.List.Concat.{concat_is}
-use Rattle.std.proofs.lemmas.List.FromFn.{map-range_with_len_more}
 use Rattle.cm_facts.specs.FactLine.{spaced}
 
 -- nothing is written after others
@@ -18,14 +14,6 @@ word_more old word words = append_assoc old (codes " " ++ word) (spaced words)
 -- a fact, and then those after it
 pub facts_more : (old one more : List ℕ) → (old ++ one) ++ more ≡ old ++ (one ++ more)
 facts_more old one more = append_assoc old one more
-
--- the facts of one number more
-pub number_more : (f : ℕ → List ℕ) (old : List ℕ) (n : ℕ) → (old ++ concat (map f (range_with_len 0 n))) ++ f n ≡ old ++ concat (map f (range_with_len 0 (n + 1)))
-number_more f old n =
-    ap (λ (t : List ℕ). (old ++ t) ++ f n) (concat_is (map f (range_with_len 0 n)))
-    ∙ flat_map_more (λ (x : List ℕ). x) old (map f (range_with_len 0 n)) (f n)
-    ∙ ap (λ (xss : List (List ℕ)). old ++ flat_map (λ (x : List ℕ). x) xss) (sym (map-range_with_len_more f 0 n n (omega arith)))
-    ∙ ap (λ (t : List ℕ). old ++ t) (sym (concat_is (map f (range_with_len 0 (n + 1)))))
 
 -- three texts, one after another
 pub three_more : (old one two three a b c : List ℕ) → a ≡ old ++ one → b ≡ a ++ two → c ≡ b ++ three → c ≡ old ++ (one ++ two ++ three)

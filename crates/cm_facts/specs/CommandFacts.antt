@@ -21,15 +21,16 @@ abbrev pub flag_fact : List ℕ → ℕ → Bool → List ℕ
 flag_fact key index holds = fact_line key (index ∷ []) (yes_or_no holds ∷ [])
 
 -- the sources that each of the five triggers may have
-abbrev pub source_words : Masks → List (List ℕ)
-source_words m =
-    source_text m.start ∷ source_text m.scan_begin ∷ source_text m.convert ∷ source_text m.scan_end
-    ∷ source_text m.stop ∷ []
+abbrev pub sources_fact : ℕ → Masks → List ℕ
+sources_fact index m =
+    fact_line (codes "sources") (index ∷ [])
+    (source_text m.start ∷ source_text m.scan_begin ∷ source_text m.convert ∷ source_text m.scan_end
+    ∷ source_text m.stop ∷ [])
 
 -- the sources, the tick, and the times of scans and of conversions
 unfoldable pub time_facts : ℕ → SubText → List ℕ
 time_facts index s =
-    fact_line (codes "sources") (index ∷ []) (source_words s.masks)
+    sources_fact index s.masks
     ++ number_fact (codes "tick") (index ∷ s.timers.tick ∷ [])
     ++ number_fact (codes "scan") (index ∷ s.scan_min ∷ s.scan_max ∷ [])
     ++ number_fact (codes "convert") (index ∷ s.conv_min ∷ s.conv_max ∷ [])

@@ -1,6 +1,8 @@
 -- What is known of a board.
 use Rattle.std.specs.Prelude.{ℕ, ◌+◌, List, [], ◌∷◌, ◌++◌, length, codes, decimal, if◌then◌else◌}
-use Rattle.cm_board.specs.Board.{BoardText, SubText, takes_commands}
+use Rattle.cm_board.specs.Board.{BoardText, SubText, is_unused, takes_commands}
+use Rattle.cm_board.specs.Flags.{has_flag}
+use Rattle.cm_board.specs.declared.flags.Flag.TheVariants as flags
 use Rattle.cm_board_text.specs.Printed.{kind_text, version_line}
 use Rattle.cm_facts.specs.ChannelFacts.{channels_facts, code_facts}
 use Rattle.cm_facts.specs.CommandFacts.{command_facts, flag_fact, number_fact}
@@ -13,14 +15,27 @@ head_facts index s =
     ++ number_fact (codes "channels") (index ∷ s.channels ∷ [])
     ++ flag_fact (codes "commands") index (takes_commands s)
 
+-- what a subdevice that isn't unused offers: whether its channels can be read, the references that they have, and
+-- whether its buffer can be mapped
+unfoldable pub offer_facts : ℕ → SubText → List ℕ
+offer_facts index s =
+    if is_unused s.kind then [] else
+    (flag_fact (codes "readable") index (has_flag s flags.Readable)
+    ++ flag_fact (codes "ground") index (has_flag s flags.Ground)
+    ++ flag_fact (codes "common") index (has_flag s flags.Common)
+    ++ flag_fact (codes "diff") index (has_flag s flags.Diff)
+    ++ flag_fact (codes "other") index (has_flag s flags.Other)
+    ++ flag_fact (codes "mmap") index (has_flag s flags.Mapped))
+
 -- the commands of a subdevice, if it takes any
 unfoldable pub own_command_facts : ℕ → SubText → List ℕ
 own_command_facts index s = if takes_commands s then command_facts index s else []
 
--- a subdevice: what it is, its codes, its commands, and its channels that have something of their own
+-- a subdevice: what it is, its codes, what it offers, its commands, and the channels with something of their own
 unfoldable pub sub_facts : ℕ → SubText → List ℕ
 sub_facts index s =
-    head_facts index s ++ code_facts index s ++ own_command_facts index s ++ channels_facts index s
+    head_facts index s ++ code_facts index s ++ offer_facts index s ++ own_command_facts index s
+    ++ channels_facts index s
 
 -- subdevices, numbered from a number on
 abbrev pub subs_facts : ℕ → List SubText → List ℕ

@@ -62,7 +62,7 @@ fn tick_of(sub: &Sub) -> u32
 
 // Appends the sources that each of the five triggers may have.
 fn put_trigger_sources(text: &mut Vec<u8>, index: u32, sub: &Sub) -> Result<(), NoMemory>
-    ensures { OnOk result (text.new.items ≡ text.old.items ++ fact_line (codes "sources") (index ∷ []) (spec.source_words sub.now.masks)) }
+    ensures { OnOk result (text.new.items ≡ text.old.items ++ spec.sources_fact index sub.now.masks) }
 {
     let masks = sub.sources;
     let words = [

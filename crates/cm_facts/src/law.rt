@@ -2,7 +2,7 @@
 ghost use Rattle.cm_facts.specs.Bounds.{WavesStayWithin};
 ghost use Rattle.cm_facts.specs.Examples.{AreExamples};
 
-/// The worked examples have the facts that stand beside them.
+/// The worked examples have the facts that are given with them.
 pub fn the_examples_are_described()
     ensures { AreExamples }
 {}

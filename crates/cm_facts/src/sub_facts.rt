@@ -10,6 +10,7 @@ use crate::fact::{FactWord, put_count, put_fact};
 use crate::names::kind_name;
 use cm_base::transfer::NoMemory;
 use cm_board::board::{BoardDesc, Sub};
+use cm_board::flags::Flag;
 use cm_board::versions::is_wide;
 
 /// Appends the facts of a board.
@@ -53,13 +54,14 @@ fn put_subs(text: &mut Vec<u8>, index: u32, subs: &[Sub]) -> Result<(), NoMemory
     }
 }
 
-// Appends a subdevice: what it is, its codes, its commands, and its channels that have something of their own.
+// Appends a subdevice: what it is, its codes, what it offers, its commands, and the channels with something of their own.
 #[tactic(auto, unfolding(crate::specs::SubFacts::sub_facts))]
 fn put_sub(text: &mut Vec<u8>, index: u32, sub: &Sub) -> Result<(), NoMemory>
     ensures { OnOk result (text.new.items ≡ text.old.items ++ spec.sub_facts index sub.now) }
 {
     put_head(text, index, sub)?;
     put_codes(text, index, sub)?;
+    put_offers(text, index, sub)?;
     put_own_commands(text, index, sub)?;
     put_channels(text, index, sub, &sub.chans)
 }
@@ -77,6 +79,23 @@ fn put_head(text: &mut Vec<u8>, index: u32, sub: &Sub) -> Result<(), NoMemory>
     )?;
     put_number(text, b"channels", &[index, sub.channels])?;
     put_flag(text, b"commands", index, sub.takes_commands())
+}
+
+// Appends what a subdevice that isn't unused offers: whether its channels can be read, the references that they have,
+// and whether its buffer can be mapped.
+#[tactic(auto, unfolding(crate::specs::SubFacts::offer_facts))]
+fn put_offers(text: &mut Vec<u8>, index: u32, sub: &Sub) -> Result<(), NoMemory>
+    ensures { OnOk result (text.new.items ≡ text.old.items ++ spec.offer_facts index sub.now) }
+{
+    if sub.kind.is_unused() {
+        return Ok(());
+    }
+    put_flag(text, b"readable", index, sub.has_flag(Flag::Readable))?;
+    put_flag(text, b"ground", index, sub.has_flag(Flag::Ground))?;
+    put_flag(text, b"common", index, sub.has_flag(Flag::Common))?;
+    put_flag(text, b"diff", index, sub.has_flag(Flag::Diff))?;
+    put_flag(text, b"other", index, sub.has_flag(Flag::Other))?;
+    put_flag(text, b"mmap", index, sub.has_flag(Flag::Mapped))
 }
 
 // Appends what is known of its commands, if it takes any.

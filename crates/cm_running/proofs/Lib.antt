@@ -13,5 +13,6 @@ pub mod Samples
 pub mod Sizes
 pub mod Storings
 pub mod Takings
+pub mod Texts
 pub mod Triggering
 pub mod Wordings

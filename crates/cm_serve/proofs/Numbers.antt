@@ -1,19 +1,9 @@
--- Texts and tests of the numbers below another, one number after another.
+-- Tests of the numbers below another, one number after another.
 use Rattle.std.proofs.Common.{◌≡◌, ℕ, ◌+◌, ◌<◌, true, false, Bool, List, [], ◌∷◌, ◌++◌, map, ap, sym, ◌∙◌, arith}
 use Rattle.std.specs.Prelude.{◌||◌}
-use Rattle.std.specs.List.{concat, flat_map, list_any, range_with_len}
-use Rattle.std.proofs.lemmas.List.{flat_map_more}
-use Rattle.std.proofs.lemmas.List.Concat.{concat_is}
+use Rattle.std.specs.List.{list_any, range_with_len}
 use Rattle.std.proofs.lemmas.List.Folds.{list_any-append, list_any_at}
 use Rattle.std.proofs.lemmas.List.FromFn.{get_or-map-range_with_len, length-map-range_with_len, map-range_with_len_more}
-
--- one text more
-pub text_more : (f : ℕ → List ℕ) (old : List ℕ) (n : ℕ) → (old ++ concat (map f (range_with_len 0 n))) ++ f n ≡ old ++ concat (map f (range_with_len 0 (n + 1)))
-text_more f old n =
-    ap (λ (t : List ℕ). (old ++ t) ++ f n) (concat_is (map f (range_with_len 0 n)))
-    ∙ flat_map_more (λ (x : List ℕ). x) old (map f (range_with_len 0 n)) (f n)
-    ∙ ap (λ (xss : List (List ℕ)). old ++ flat_map (λ (x : List ℕ). x) xss) (sym (map-range_with_len_more f 0 n n (omega arith)))
-    ∙ ap (λ (t : List ℕ). old ++ t) (sym (concat_is (map f (range_with_len 0 (n + 1)))))
 
 -- a test that no number passed so far, and the next one doesn't
 pub none_more : (p : ℕ → Bool) (f : ℕ → ℕ) (n : ℕ) → list_any p (map f (range_with_len 0 n)) ≡ false → p (f n) ≡ false → list_any p (map f (range_with_len 0 (n + 1))) ≡ false

@@ -1,14 +1,16 @@
 -- The board's subdevices in numbers, as Comedi has them (comedi_subdinfo, comedi_chaninfo and comedi_krange).
-use Rattle.std.specs.Prelude.{ℕ, ℤ, pos, ◌+◌, ◌*◌, ◌^◌, ◌==◌, Bool, not, nat_lt, List, [], ◌∷◌, ◌++◌, flat_map}
+use Rattle.std.specs.Prelude.{ℕ, ℤ, pos, ◌+◌, ◌^◌, ◌==◌, Bool, ◌||◌, not, nat_lt, List, [], ◌∷◌, ◌++◌, flat_map}
 use Rattle.std.specs.Prelude.{length, map, codes, if◌then◌else◌}
 use Rattle.std.specs.Fmt.{decimal, signed_decimal}
 use Rattle.std.specs.List.{concat, list_any, range_with_len}
 use Rattle.std.specs.Option.{is_some}
-use Rattle.cm_board.specs.Board.{BoardText, ChanText, SubText, is_output, is_unused, maxdata_of, range_count, range_of}
-use Rattle.cm_board.specs.Board.{takes_commands}
+use Rattle.cm_board.specs.Board.{BoardText, ChanText, SubText, is_dio, is_output, is_unused, maxdata_of, range_count}
+use Rattle.cm_board.specs.Board.{range_of, takes_commands}
+use Rattle.cm_board.specs.Flags.{has_flag}
 use Rattle.cm_board.specs.declared.board.Kind.{Kind}
 use Rattle.cm_board.specs.declared.board.Kind.TheVariants as kinds
 use Rattle.cm_board.specs.declared.board.Range.{Range}
+use Rattle.cm_board.specs.declared.flags.Flag.TheVariants as flags
 use Rattle.cm_running.specs.Texts.{words_text}
 
 -- the number of a kind (COMEDI_SUBD_..)
@@ -20,35 +22,30 @@ kind_number kinds.Di = 3
 kind_number kinds.Do = 4
 kind_number kinds.Dio = 5
 
--- the flag of channels that are read (SDF_READABLE)
-abbrev pub readable : ℕ
-readable = 2 ^ 16
+-- the kinds whose channels can be written
+abbrev pub is_written : Kind → Bool
+is_written kind = is_output kind || is_dio kind
 
--- the flag of channels that are written (SDF_WRITABLE)
-abbrev pub writable : ℕ
-writable = 2 ^ 17
-
--- the flags of channels with the four references (SDF_GROUND, SDF_COMMON, SDF_DIFF and SDF_OTHER)
-abbrev pub references : ℕ
-references = 15 * 2 ^ 20
-
--- the flags of a kind
-abbrev pub kind_flags : Kind → ℕ
-kind_flags kinds.Unused = 0
-kind_flags kinds.Ai = readable + references
-kind_flags kinds.Ao = readable + writable + references
-kind_flags kinds.Di = readable
-kind_flags kinds.Do = writable
-kind_flags kinds.Dio = readable + writable
-
--- the flags of commands, whose buffer can be mapped (SDF_CMD and SDF_MMAP, with SDF_CMD_WRITE or SDF_CMD_READ)
+-- the flags of commands (SDF_CMD, with SDF_CMD_WRITE or SDF_CMD_READ)
 abbrev pub command_flags : SubText → ℕ
-command_flags s =
-    if takes_commands s then 2 ^ 12 + 2 ^ 26 + (if is_output s.kind then 2 ^ 14 else 2 ^ 15) else 0
+command_flags s = if takes_commands s then 2 ^ 12 + (if is_output s.kind then 2 ^ 14 else 2 ^ 15) else 0
 
 -- a flag where something holds
 abbrev pub flag : ℕ → Bool → ℕ
 flag number holds = if holds then number else 0
+
+-- the flags of its references (SDF_GROUND, SDF_COMMON, SDF_DIFF and SDF_OTHER)
+abbrev pub reference_flags : SubText → ℕ
+reference_flags s =
+    flag (2 ^ 20) (has_flag s flags.Ground) + flag (2 ^ 21) (has_flag s flags.Common)
+    + flag (2 ^ 22) (has_flag s flags.Diff)
+    + flag (2 ^ 23) (has_flag s flags.Other)
+
+-- the flags of what it offers (SDF_READABLE, SDF_WRITABLE, its references and SDF_MMAP)
+abbrev pub offered_flags : SubText → ℕ
+offered_flags s =
+    flag (2 ^ 16) (has_flag s flags.Readable) + flag (2 ^ 17) (is_written s.kind) + reference_flags s
+    + flag (2 ^ 26) (has_flag s flags.Mapped)
 
 -- a channel has a greatest code of its own
 abbrev pub has_own_code : ChanText → Bool
@@ -66,11 +63,11 @@ greatest_codes s = map (maxdata_of s) (range_with_len 0 s.channels)
 abbrev pub has_long_codes : SubText → Bool
 has_long_codes s = list_any (nat_lt 65535) (greatest_codes s)
 
--- the flags that don't change: those of the kind and of commands, and whether channels have codes of their own
+-- the flags that don't change: those of what it offers and of commands, and whether channels have codes of their own
 -- (SDF_MAXDATA), ranges of their own (SDF_RANGETYPE), and samples have 32 bits (SDF_LSAMPL)
 abbrev pub lasting_flags : SubText → ℕ
 lasting_flags s =
-    kind_flags s.kind + command_flags s + flag (2 ^ 4) (list_any has_own_code s.chans)
+    offered_flags s + command_flags s + flag (2 ^ 4) (list_any has_own_code s.chans)
     + flag (2 ^ 6) (list_any has_own_ranges s.chans)
     + flag (2 ^ 28) (has_long_codes s)
 

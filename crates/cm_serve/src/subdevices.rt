@@ -1,19 +1,20 @@
 // The board's subdevices in numbers, as Comedi has them.
-ghost use Rattle.std.specs.Prelude.{◌≡◌, ◌<◌, ◌^◌, ◌++◌, flat_map, OnOk};
+ghost use Rattle.std.specs.Prelude.{◌≡◌, ◌≤◌, ◌<◌, ◌^◌, ◌++◌, flat_map, OnOk};
 ghost use Rattle.std.specs.List.{list_any};
 ghost use Rattle.cm_serve.specs.Subdevices as spec;
 
 use cm_base::numbers::{put_i64, put_u64};
 use cm_base::transfer::NoMemory;
 use cm_board::board::{BoardDesc, ChanSet, Kind, Range, Sub};
+use cm_board::flags::Flag;
 use cm_running::text::put_spaced;
 
-// Flags of a subdevice (Comedi: `SDF_*`), those of its references and of its commands together.
+// Flags of a subdevice (Comedi: `SDF_*`).
 const OWN_CODES: u32 = 0x10;
 
 const OWN_RANGES: u32 = 0x40;
 
-const COMMANDS: u32 = 0x400_1000;
+const COMMANDS: u32 = 0x1000;
 
 const WRITTEN: u32 = 0x4000;
 
@@ -23,7 +24,15 @@ const READABLE: u32 = 0x1_0000;
 
 const WRITABLE: u32 = 0x2_0000;
 
-const REFERENCES: u32 = 0xf0_0000;
+const GROUND: u32 = 0x10_0000;
+
+const COMMON: u32 = 0x20_0000;
+
+const DIFF: u32 = 0x40_0000;
+
+const OTHER: u32 = 0x80_0000;
+
+const MAPPED: u32 = 0x400_0000;
 
 const LONG_CODES: u32 = 0x1000_0000;
 
@@ -41,25 +50,17 @@ fn kind_number(kind: Kind) -> u32
     }
 }
 
-// The flags of a kind.
-fn kind_flags(kind: Kind) -> u32
-    ensures value { result ≡ spec.kind_flags kind }
-    ensures small { result < 2 ^ 24 }
+// Whether channels of a kind can be written.
+fn is_written(kind: Kind) -> bool
+    ensures { result ≡ spec.is_written kind }
 {
-    match kind {
-        Kind::Unused => 0,
-        Kind::Ai => READABLE + REFERENCES,
-        Kind::Ao => READABLE + WRITABLE + REFERENCES,
-        Kind::Di => READABLE,
-        Kind::Do => WRITABLE,
-        Kind::Dio => READABLE + WRITABLE,
-    }
+    kind.is_output() || kind.is_dio()
 }
 
 // The flags of commands, where the subdevice takes any.
 fn command_flags(sub: &Sub) -> u32
     ensures value { result ≡ spec.command_flags sub.now }
-    ensures small { result < 2 ^ 27 }
+    ensures small { result < 2 ^ 16 }
 {
     if !sub.takes_commands() {
         return 0;
@@ -73,11 +74,32 @@ fn command_flags(sub: &Sub) -> u32
 
 // A flag where something holds.
 fn flag(number: u32, holds: bool) -> u32
-    requires { number < 2 ^ 29 }
     ensures value { result ≡ spec.flag number holds }
-    ensures small { result < 2 ^ 29 }
+    ensures small { result ≤ number }
 {
     if holds { number } else { 0 }
+}
+
+// The flags of the references that the subdevice offers.
+fn reference_flags(sub: &Sub) -> u32
+    ensures value { result ≡ spec.reference_flags sub.now }
+    ensures small { result < 2 ^ 24 }
+{
+    flag(GROUND, sub.has_flag(Flag::Ground))
+        + flag(COMMON, sub.has_flag(Flag::Common))
+        + flag(DIFF, sub.has_flag(Flag::Diff))
+        + flag(OTHER, sub.has_flag(Flag::Other))
+}
+
+// The flags of what the subdevice offers.
+fn offered_flags(sub: &Sub) -> u32
+    ensures value { result ≡ spec.offered_flags sub.now }
+    ensures small { result < 2 ^ 27 }
+{
+    flag(READABLE, sub.has_flag(Flag::Readable))
+        + flag(WRITABLE, is_written(sub.kind))
+        + reference_flags(sub)
+        + flag(MAPPED, sub.has_flag(Flag::Mapped))
 }
 
 fn has_own_code(chan: &ChanSet) -> bool
@@ -122,7 +144,7 @@ fn has_long_codes(sub: &Sub) -> bool
 fn lasting_flags(sub: &Sub) -> u32
     ensures { result ≡ spec.lasting_flags sub.now }
 {
-    kind_flags(sub.kind)
+    offered_flags(sub)
         + command_flags(sub)
         + flag(OWN_CODES, have_own_codes(&sub.chans))
         + flag(OWN_RANGES, have_own_ranges(&sub.chans))

@@ -1,6 +1,6 @@
 use Rattle.std.proofs.Common.{List, ℕ, ◌++◌, ap, ◌∙◌}
 use Rattle.cm_serve.specs.Subdevices.{channel_text}
-use Rattle.cm_serve.proofs.Numbers.{text_more}
+use Rattle.cm_running.proofs.Texts.{text_more}
 use Rattle.cm_serve.proofs.subdevices.put_channels.Goals as goal
 
 pub loop-chan-preserved : goal.loop-chan-preserved

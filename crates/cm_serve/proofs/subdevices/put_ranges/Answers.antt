@@ -2,7 +2,7 @@ use Rattle.std.proofs.Common.{List, ℕ, ◌++◌, ap, ◌∙◌}
 use Rattle.cm_board.specs.Board.{range_of}
 use Rattle.cm_board.specs.declared.board.Range.{Range}
 use Rattle.cm_serve.specs.Subdevices.{range_text}
-use Rattle.cm_serve.proofs.Numbers.{text_more}
+use Rattle.cm_running.proofs.Texts.{text_more}
 use Rattle.cm_serve.proofs.subdevices.put_ranges.Goals as goal
 
 pub loop-index-preserved : goal.loop-index-preserved
