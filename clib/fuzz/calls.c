@@ -208,7 +208,8 @@ static void look(void)
 	stream_ready_to_read(0);
 	stream_ready_to_write(0);
 	stream_next_time(0, 1, 1, &time);
-	stream_next_event(0, 0, &time);
+	if (device->subdevices)
+		stream_next_event(0, 0, &time);
 }
 
 static void map_buffers(void)

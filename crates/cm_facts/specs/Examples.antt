@@ -48,6 +48,7 @@ Demo =
     ++ codes "50000 read 1 0 10\n")
     (codes "version comedi 1\n"
     ++ codes "name demo\n"
+    ++ codes "greatest_horizon 1000000000000\n"
     ++ codes "subdevices 1\n"
     ++ codes "kind 0 ai\n"
     ++ codes "channels 0 2\n"
@@ -112,6 +113,7 @@ Bench =
     ++ codes "range 0 5000000 0\n")
     (codes "version comedi 2\n"
     ++ codes "name bench\n"
+    ++ codes "greatest_horizon 1000000000000\n"
     ++ codes "subdevices 2\n"
     ++ codes "kind 0 ai\n"
     ++ codes "channels 0 4\n"
@@ -205,6 +207,7 @@ Wider =
     ++ codes "falls 0 250 750\n")
     (codes "version zendrouz 1\n"
     ++ codes "name wider\n"
+    ++ codes "greatest_horizon 1000000000000000\n"
     ++ codes "subdevices 2\n"
     ++ codes "kind 0 unused\n"
     ++ codes "channels 0 0\n"

@@ -4,6 +4,7 @@ use Rattle.cm_board.specs.Board.{BoardText, SubText, is_unused, takes_commands}
 use Rattle.cm_board.specs.Flags.{has_flag}
 use Rattle.cm_board.specs.declared.flags.Flag.TheVariants as flags
 use Rattle.cm_board_text.specs.Printed.{kind_text, version_line}
+use Rattle.cm_signal_text.specs.SignalsPart.{greatest_horizon}
 use Rattle.cm_facts.specs.ChannelFacts.{channels_facts, code_facts}
 use Rattle.cm_facts.specs.CommandFacts.{command_facts, flag_fact, number_fact}
 use Rattle.cm_facts.specs.FactLine.{fact_line}
@@ -42,10 +43,12 @@ abbrev pub subs_facts : ℕ → List SubText → List ℕ
 subs_facts index [] = []
 subs_facts index (s ∷ more) = sub_facts index s ++ subs_facts (index + 1) more
 
--- a board: the words of its version, its name, how many subdevices it has, and each of them
+-- a board: the words of its version, its name, the greatest horizon that its signals may have, how many subdevices it
+-- has, and each of them
 abbrev pub board_facts : BoardText → List ℕ
 board_facts b =
     fact_line (codes "version") [] (version_line b.version)
     ++ fact_line (codes "name") [] (b.name ∷ [])
+    ++ fact_line (codes "greatest_horizon") [] (decimal (greatest_horizon b.version) ∷ [])
     ++ fact_line (codes "subdevices") [] (decimal (length b.subs) ∷ [])
     ++ subs_facts 0 b.subs

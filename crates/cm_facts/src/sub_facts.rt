@@ -12,6 +12,7 @@ use cm_base::transfer::NoMemory;
 use cm_board::board::{BoardDesc, Sub};
 use cm_board::flags::Flag;
 use cm_board::versions::is_wide;
+use cm_signal_text::reading::greatest_horizon;
 
 /// Appends the facts of a board.
 pub(crate) fn put_board(text: &mut Vec<u8>, board: &BoardDesc) -> Result<(), NoMemory>
@@ -19,6 +20,8 @@ pub(crate) fn put_board(text: &mut Vec<u8>, board: &BoardDesc) -> Result<(), NoM
 {
     put_version(text, board.version)?;
     put_fact(text, b"name", &[], &[FactWord::Fixed(&board.name)])?;
+    let horizon = greatest_horizon(board.version);
+    put_fact(text, b"greatest_horizon", &[], &[FactWord::Number(horizon)])?;
     put_count(text, b"subdevices", &[], board.subs.len())?;
     put_subs(text, 0, &board.subs)
 }

@@ -78,9 +78,13 @@ said_after board s line = said_line board s.horizon line >>= λ what. added s wh
 abbrev pub is_session : LineText → Bool
 is_session = begins (codes "session")
 
--- the horizon: at most 1,000 seconds, and in the wider texts 1,000,000
+-- the greatest horizon: 1,000 seconds, and in the wider texts 1,000,000
+abbrev pub greatest_horizon : ℕ → ℕ
+greatest_horizon version = most_in version 1000000000000 1000000000000000
+
+-- the horizon
 abbrev pub horizon_words : ℕ → Form ℕ
-horizon_words version = one (λ horizon. horizon) (number_in 0 (most_in version 1000000000000 1000000000000000))
+horizon_words version = one (λ horizon. horizon) (number_in 0 (greatest_horizon version))
 
 -- the lines up to the `session` line, and those from it on
 abbrev pub lines_inside : List LineText → List LineText

@@ -5,10 +5,10 @@ ghost use Rattle.cm_base.specs.Parts as parts;
 ghost use Rattle.cm_base.specs.ReadStop.{Gives};
 ghost use Rattle.cm_base.specs.Reading.{at_line};
 ghost use Rattle.cm_base.specs.Words.{alone};
-ghost use Rattle.cm_board.specs.Versions.{most_in};
 ghost use Rattle.cm_signal.specs.Fitting.{FitBoard};
 ghost use Rattle.cm_signal.specs.Adding.{added, with_said};
 ghost use Rattle.cm_signal.specs.Said.{IsSaid};
+ghost use Rattle.cm_signal_text.specs.SignalsPart as spec;
 ghost use Rattle.cm_signal_text.specs.SignalsPart.{horizon_words, said_after, signals_at, signals_after, signals_of};
 
 use crate::said::read_signal;
@@ -85,12 +85,12 @@ fn horizon(version: u32, words: &[&[u8]]) -> Result<u64, Fault>
     ensures limit { IfOk result (λ horizon. horizon ≤ 10 ^ 15) }
 {
     let horizon = one(words)?;
-    time_in(horizon, 0, most_horizon(version))
+    time_in(horizon, 0, greatest_horizon(version))
 }
 
-// The greatest horizon in texts of a version.
-fn most_horizon(version: u32) -> u64
-    ensures { result ≡ most_in version (10 ^ 12) (10 ^ 15) }
+/// The greatest horizon in texts of a version, in nanoseconds.
+pub fn greatest_horizon(version: u32) -> u64
+    ensures { result ≡ spec.greatest_horizon version }
 {
     if is_wide(version) {
         1_000_000_000_000_000
