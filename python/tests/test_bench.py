@@ -12,7 +12,7 @@ from unittest import mock
 from needed import CLIB_TESTS, CLIENTS, SMALL, Case, build_clients, needs
 from zendrouz import Board, Overrun, ProgramTimedOut, RecordCut, Signals, const, find, replay
 from zendrouz.bench import CommandEnd, ProgramRun, run_program
-from zendrouz.texts import GREATEST_HORIZON, head_of
+from zendrouz.facts import facts_of, head_of
 
 
 def runs(process: str) -> bool:
@@ -30,9 +30,16 @@ class Head(Case):
         self.assertEqual(head_of(SMALL), text)
         self.assertEqual(head_of(str(SMALL)), text)
 
-    def test_a_board_without_signals_has_the_greatest_horizon(self) -> None:
-        board = Board.named("ni_pci_6221")
-        self.assertEqual(head_of(board), "%ssignals %d\nsession\n" % (board, GREATEST_HORIZON))
+    @needs("comedi_facts")
+    def test_a_board_without_signals_has_the_greatest_horizon_of_its_version(self) -> None:
+        for name, horizon in (("ni_pci_6221", 10 ** 12), ("comedi_test.comedi_test", 10 ** 15)):
+            board = Board.named(name)
+            self.assertEqual(head_of(board), "%ssignals %d\nsession\n" % (board, horizon))
+            self.assertEqual(facts_of(board).greatest_horizon, horizon)
+
+    @needs("comedi_facts")
+    def test_a_board_that_is_refused_is_left_for_the_program(self) -> None:
+        self.assertEqual(head_of("comedi 1\nboard x\n"), "comedi 1\nboard x\nsignals 0\nsession\n")
 
     def test_signals_stand_in_place_of_the_boards_own(self) -> None:
         signals = Signals(5000, {(0, 0): const(7)})

@@ -4,6 +4,7 @@ Times are in nanoseconds, and levels in micro-units. docs/BENCH.md has the first
 """
 from .answers import Conversion, Done, Dry, End, Fifo, Idle, Out, Overrun, Sample, Taken, Underrun
 from .bench import CommandEnd, ProgramRun, ProgramTimedOut, RecordCut, run_program
+from .facts import Facts, facts_of
 from .jobs import ask, expand, insn, loop, replay, run, soak, test, watch
 from .programs import Missing, find
 from .refusals import ComediError, Failed, Refused, TimedOut
@@ -14,8 +15,8 @@ from .texts import (FALLING, Board, Channel, ChannelForm, Command, Flag, Job, Re
 
 __all__ = [
     "Board", "Channel", "ChannelForm", "ComediError", "Command", "CommandEnd", "Conversion", "Done", "Dry", "End",
-    "FALLING", "Failed", "Fifo", "Flag", "Idle", "Info", "Job", "Missing", "Out", "Overrun", "ProgramRun", "ProgramTimedOut",
+    "FALLING", "Facts", "Failed", "Fifo", "Flag", "Idle", "Info", "Job", "Missing", "Out", "Overrun", "ProgramRun", "ProgramTimedOut",
     "RecordCut", "Reference", "Refused", "Sample", "Session", "Signals", "Source", "Subdevice", "SweepFailed", "Taken", "TimedOut", "Underrun",
-    "Wave", "ask", "const", "expand", "find", "insn", "loop", "record", "replay", "run", "run_program", "saw", "sine",
+    "Wave", "ask", "const", "expand", "facts_of", "find", "insn", "loop", "record", "replay", "run", "run_program", "saw", "sine",
     "soak", "square", "sweep", "table", "test", "watch",
 ]

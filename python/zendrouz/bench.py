@@ -16,9 +16,10 @@ from pathlib import Path
 from typing import IO, Dict, Mapping, Optional, Sequence, Tuple, Union
 
 from .answers import Done, Dry, End, end_of
+from .facts import head_of
 from .programs import find, kill
 from .refusals import TimedOut
-from .texts import Board, PathLike, Signals, head_of, write_file
+from .texts import Board, PathLike, Signals, write_file
 
 _END = re.compile(r"^# (\d+) end: (?:ok 0|err 32) (.*)$", re.M)
 #: The date that a program's clocks show where it opens the board, so that it does the same in each run.

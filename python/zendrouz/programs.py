@@ -1,4 +1,4 @@
-"""Where the programs are: `comedi`, `comedi_serve` and the device library.
+"""Where the programs are: `comedi`, `comedi_serve`, `comedi_facts` and the device library.
 
 A program is looked for in its variable, in the clone or the pack that this package stands in or was installed from, and
 in PATH. Nothing is built here.
@@ -27,6 +27,9 @@ _PROGRAMS: Dict[str, _Place] = {
     "comedi_serve": _Place("ZENDROUZ_SERVE", ("crates/comedi_serve/out/comedi_serve", "lib/zendrouz/comedi_serve",
                                               "bin/comedi_serve"),
                            "`./comedi_serve --build` in a clone builds it"),
+    "comedi_facts": _Place("ZENDROUZ_FACTS", ("crates/comedi_facts/out/comedi_facts", "lib/zendrouz/comedi_facts",
+                                              "bin/comedi_facts"),
+                           "`./comedi_facts --build` in a clone builds it"),
     "libzendrouz_comedi.so": _Place("ZENDROUZ_LIBRARY", ("clib/out/libzendrouz_comedi.so",
                                                          "lib/zendrouz/libzendrouz_comedi.so",
                                                          "lib/libzendrouz_comedi.so"),
@@ -48,7 +51,7 @@ class Missing(Exception):
 
 
 def find(name: str) -> Path:
-    """The path of `comedi`, `comedi_serve` or `libzendrouz_comedi.so`; Missing where it isn't there."""
+    """The path of one of the programs or of `libzendrouz_comedi.so`; Missing if it isn't there."""
     place = _PROGRAMS[name]
     given = os.environ.get(place.variable, "")
     if given:

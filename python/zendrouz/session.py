@@ -13,10 +13,11 @@ from typing import (TYPE_CHECKING, Any, Callable, Dict, Iterable, Iterator, List
 from .answers import End, Out, Outs, Sample, Samples, end_of
 from .commands import Channel, Command, Number, whole
 from .dialogue import Dialogue
+from .facts import head_of
 from .jobs import Tested, error_of
 from .programs import find
 from .refusals import Refused, refusal_of
-from .texts import Board, PathLike, Signals, Subdevice, head_of
+from .texts import Board, PathLike, Signals, Subdevice
 
 if TYPE_CHECKING:
     from numpy.typing import NDArray

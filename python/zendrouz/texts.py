@@ -28,8 +28,8 @@ _VALUES = ("bits", "munge", "sources", "tick", "scan", "convert", "list", "scans
 _FLAGS = ("samerange", "invert", "halfdown", "scanfits", "samearef", "samepolarity")
 # The lines of a block that can come more often, by their fields.
 _REPEATED = {"flags": "flag", "forbid": "forbid"}
-# How many values the table of a wave holds, and the greatest horizon, in nanoseconds.
-TABLE, GREATEST_HORIZON = 64, 1_000_000_000_000
+# How many values the table of a wave holds.
+TABLE = 64
 
 
 def _numbers(values: Iterable[Number]) -> str:
@@ -376,17 +376,3 @@ class Job:
     def __str__(self) -> str:
         session = self.session if isinstance(self.session, str) else "".join(map(_ended, self.session))
         return _ended(str(self.board)) + _ended(str(self.signals)) + "session\n" + _ended(session)
-
-
-def head_of(board: Union[Board, PathLike], signals: Union[Signals, str, None] = None) -> str:
-    """The head of a job: the board, its signals, and the line `session`.
-
-    `board` is a `Board`, a text, or the path of a file. A text may have signals, which count where no others are given,
-    and a session, which doesn't count. Without any signals the horizon is the greatest, and all levels are 0.
-    """
-    if isinstance(board, Board) or isinstance(board, str) and "\n" in board:
-        text = str(board)
-    else:
-        text = read_file(board)
-    own = str(Signals.parse(text)) or str(Signals(GREATEST_HORIZON))
-    return str(Job(Board.parse(text), own if signals is None else signals))
