@@ -330,5 +330,7 @@ void clocks_start(void);
 int copy_in(void *to, const void *from, size_t bytes);
 int copy_out(void *to, const void *from, size_t bytes);
 int memory_lengthen(int descriptor, size_t bytes);
+/* anywhere */
+int memory_is_there(const void *from, size_t bytes);
 
 #endif

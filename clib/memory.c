@@ -9,6 +9,8 @@
 #include "device.h"
 #include "server.h"
 #include <errno.h>
+#include <linux/futex.h>
+#include <stdint.h>
 #include <string.h>
 #include <sys/resource.h>
 #include <sys/syscall.h>
@@ -52,6 +54,25 @@ int copy_out(void *to, const void *from, size_t bytes)
 			return -EFAULT;
 	}
 	return 0;
+}
+
+/* Returns whether the kernel can read a word of the client's memory: it compares it with another, and changes nothing. */
+static int has_word(uintptr_t at)
+{
+	void *word = (void *)(at & ~(uintptr_t)3);
+	return syscall(SYS_futex, word, FUTEX_CMP_REQUEUE_PRIVATE, 0, 0, word, 0) >= 0 || errno != EFAULT;
+}
+
+int memory_is_there(const void *from, size_t bytes)
+{
+	uintptr_t at = (uintptr_t)from, last = at + bytes - 1, page = sysconf(_SC_PAGESIZE);
+	int before = errno, is_there = last >= at;
+	if (!bytes)
+		return 1;
+	for (; is_there && at <= last; at = (at / page + 1) * page)
+		is_there = has_word(at);
+	errno = before;
+	return is_there;
 }
 
 /* Makes a file of the library's own memory as long as it has to be. One that the client's limit of file sizes forbids isn't

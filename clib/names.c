@@ -70,6 +70,12 @@ PUBLIC int ioctl(int descriptor, unsigned long request, ...)
 	return names_answer(control(file, request, argument));
 }
 
+/* Returns whether bytes end where no client has memory. The kernel looks at that before it moves any. */
+static int ends_beyond(const void *bytes, size_t count)
+{
+	return count >= MOST_MAPPED || (uintptr_t)bytes >= MOST_MAPPED - count;
+}
+
 /* Reads or writes as one call. A file that was opened for one of them alone can't do the other. */
 static ssize_t move(int file, int writes, void *bytes, size_t count)
 {
@@ -79,7 +85,7 @@ static ssize_t move(int file, int writes, void *bytes, size_t count)
 	int mode = device->file[file].mode;
 	if (mode != O_RDWR && mode != (writes ? O_WRONLY : O_RDONLY))
 		return -EBADF;
-	if (count >= MOST_MAPPED)
+	if (ends_beyond(bytes, count))
 		return -EFAULT;
 	if (!device_begin_call(file))
 		return -EBADF;
@@ -137,46 +143,47 @@ PUBLIC ssize_t write(int descriptor, const void *from, size_t bytes)
 AT_PLACE(pread, __pread_chk, pwrite)
 AT_PLACE(pread64, __pread64_chk, pwrite64)
 
-/* Several pieces: one after another, up to the first that isn't whole. */
-PUBLIC ssize_t readv(int descriptor, const struct iovec *pieces, int count)
+/* Returns why pieces can't be moved, or 0. */
+static int check_pieces(const struct iovec *pieces, int count)
 {
-	if (names_file(descriptor) == NO_FILE)
-		return REAL(readv)(descriptor, pieces, count);
 	if (count < 0 || count > IOV_MAX)
-		return names_answer(-EINVAL);
-	ssize_t done = 0;
-	for (int i = 0; i < count; i++) {
-		if (!pieces[i].iov_len)
-			continue;
-		ssize_t result = read(descriptor, pieces[i].iov_base, pieces[i].iov_len);
-		if (result < 0)
-			return done ? done : result;
-		done += result;
-		if ((size_t)result < pieces[i].iov_len)
-			break;
-	}
-	return done;
+		return -EINVAL;
+	if (!memory_is_there(pieces, count * sizeof *pieces))
+		return -EFAULT;
+	for (int i = 0; i < count; i++)
+		if (pieces[i].iov_len > SSIZE_MAX)
+			return -EINVAL;
+	for (int i = 0; i < count; i++)
+		if (ends_beyond(pieces[i].iov_base, pieces[i].iov_len))
+			return -EFAULT;
+	return 0;
 }
 
-PUBLIC ssize_t writev(int descriptor, const struct iovec *pieces, int count)
-{
-	if (names_file(descriptor) == NO_FILE)
-		return REAL(writev)(descriptor, pieces, count);
-	if (count < 0 || count > IOV_MAX)
-		return names_answer(-EINVAL);
-	ssize_t done = 0;
-	for (int i = 0; i < count; i++) {
-		if (!pieces[i].iov_len)
-			continue;
-		ssize_t result = write(descriptor, pieces[i].iov_base, pieces[i].iov_len);
-		if (result < 0)
-			return done ? done : result;
-		done += result;
-		if ((size_t)result < pieces[i].iov_len)
-			break;
+/* Several pieces: one after another, up to the first that isn't whole. */
+#define PIECES(name, moves) \
+	PUBLIC ssize_t name(int descriptor, const struct iovec *pieces, int count) \
+	{ \
+		if (names_file(descriptor) == NO_FILE) \
+			return REAL(name)(descriptor, pieces, count); \
+		int refused = check_pieces(pieces, count); \
+		if (refused) \
+			return names_answer(refused); \
+		ssize_t done = 0; \
+		for (int i = 0; i < count; i++) { \
+			if (!pieces[i].iov_len) \
+				continue; \
+			ssize_t result = moves(descriptor, pieces[i].iov_base, pieces[i].iov_len); \
+			if (result < 0) \
+				return done ? done : result; \
+			done += result; \
+			if ((size_t)result < pieces[i].iov_len) \
+				break; \
+		} \
+		return done; \
 	}
-	return done;
-}
+
+PIECES(readv, read)
+PIECES(writev, write)
 
 #define PIECES_AT_PLACE(reads, writes) \
 	PUBLIC ssize_t reads(int descriptor, const struct iovec *pieces, int count, off_t place) \

@@ -8,6 +8,7 @@
 #include "names.h"
 #include "server.h"
 #include <errno.h>
+#include <limits.h>
 #include <poll.h>
 #include <stddef.h>
 #include <string.h>
@@ -283,9 +284,17 @@ int polls_wait_for_set(int set, unsigned changes, struct pollfd *asked, nfds_t c
 	return poll_ours(&a, nanoseconds);
 }
 
+/* Returns whether what is asked can be read. If not, the kernel refuses it. */
+static int can_ask(const struct pollfd *asked, nfds_t count)
+{
+	return count <= INT_MAX && memory_is_there(asked, count * sizeof *asked);
+}
+
 PUBLIC int poll(struct pollfd *asked, nfds_t count, int milliseconds)
 {
 	struct ask a;
+	if (!can_ask(asked, count))
+		return REAL(poll)(asked, count, milliseconds);
 	int64_t nanoseconds = milliseconds < 0 ? -1 : milliseconds * 1000000ll;
 	find_ask(&a, asked, count);
 	return is_ours(&a, nanoseconds) ? poll_ours(&a, nanoseconds) : REAL(poll)(asked, count, milliseconds);
@@ -324,6 +333,8 @@ static int poll_masked(struct ask *a, int64_t nanoseconds, const sigset_t *signa
 PUBLIC int ppoll(struct pollfd *asked, nfds_t count, const struct timespec *time, const sigset_t *signals)
 {
 	struct ask a;
+	if (!can_ask(asked, count))
+		return REAL(ppoll)(asked, count, time, signals);
 	find_ask(&a, asked, count);
 	if ((time && !clocks_is_time(time)) || !is_ours(&a, clocks_nanoseconds(time)))
 		return REAL(ppoll)(asked, count, time, signals);
@@ -342,6 +353,20 @@ struct sets {
 	int count;
 	fd_set *reads, *writes, *others;
 };
+
+static int can_read_set(const fd_set *set, int count)
+{
+	return !set || memory_is_there(set, (count + NFDBITS - 1) / NFDBITS * sizeof(fd_mask));
+}
+
+/* Returns whether a select may be for the device: its count can be that of sets, and these can be read. If not, the kernel
+ * refuses it. */
+static int can_select(const struct sets *sets)
+{
+	int count = sets->count;
+	return device && count >= 0 && count <= FD_SETSIZE && can_read_set(sets->reads, count) && can_read_set(sets->writes, count) &&
+		can_read_set(sets->others, count);
+}
 
 /* Returns what a number is asked for. */
 static short events_of(const struct sets *sets, int number)
@@ -423,7 +448,7 @@ static int select_nothing(int64_t nanoseconds)
 PUBLIC int select(int count, fd_set *reads, fd_set *writes, fd_set *others, struct timeval *time)
 {
 	const struct sets sets = { count, reads, writes, others };
-	if (!device || count < 0 || count > FD_SETSIZE || (time && (time->tv_sec < 0 || time->tv_usec < 0)))
+	if (!can_select(&sets) || (time && (time->tv_sec < 0 || time->tv_usec < 0)))
 		return REAL(select)(count, reads, writes, others, time);
 	struct timespec same = { time ? time->tv_sec : 0, time ? time->tv_usec * 1000 : 0 };
 	int64_t nanoseconds = time ? clocks_nanoseconds(&same) : -1;
@@ -442,7 +467,7 @@ PUBLIC int select(int count, fd_set *reads, fd_set *writes, fd_set *others, stru
 PUBLIC int pselect(int count, fd_set *reads, fd_set *writes, fd_set *others, const struct timespec *time, const sigset_t *signals)
 {
 	const struct sets sets = { count, reads, writes, others };
-	if (!device || count < 0 || count > FD_SETSIZE || (time && !clocks_is_time(time)))
+	if (!can_select(&sets) || (time && !clocks_is_time(time)))
 		return REAL(pselect)(count, reads, writes, others, time, signals);
 	int result = select_ours(&sets, clocks_nanoseconds(time), signals);
 	if (result == NOT_OURS && !count && time && !signals)

@@ -123,7 +123,7 @@ static int change(int set, int what, int descriptor, const struct epoll_event *e
 {
 	struct quiet quiet;
 	struct epoll_event nothing;
-	if (what != EPOLL_CTL_DEL && !event)
+	if (what != EPOLL_CTL_DEL && !memory_is_there(event, sizeof *event))
 		return -EFAULT;
 	/* the kernel's answer if a number isn't a set */
 	if (REAL(epoll_ctl)(set, EPOLL_CTL_DEL, descriptor, &nothing) && (errno == EBADF || errno == EINVAL))
@@ -252,8 +252,11 @@ static int poll_members(int set, struct epoll_event *events, int most, int64_t n
 	for (;;) {
 		unsigned seen = sets_changes();
 		int count = ask_of(set, asked);
-		if (polls_wait_for_set(set, seen, asked, count, nanoseconds, signals) < 0)
+		int ready = polls_wait_for_set(set, seen, asked, count, nanoseconds, signals);
+		if (ready < 0)
 			return -1;
+		if (ready && !memory_is_there(events, sizeof *events))
+			return names_answer(-EFAULT);
 		int done = take_events(asked, count, events, most);
 		if (done || (end != NEVER && device->client_now >= end))
 			return done;

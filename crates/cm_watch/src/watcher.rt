@@ -49,6 +49,7 @@ impl<'a> Watcher<'a> {
         ensures boards { IfOk result (λ w. w.boards ≡ map alarm_of events.now.lines.items) }
         ensures awake { IfOk result (λ w. w.announced ≡ false) }
         ensures idle { IfOk result (λ w. w.idle ≡ false) }
+        ensures over { IfOk result (λ w. w.over ≡ false) }
     {
         Ok(Watcher {
             sleeper: events.client(),
@@ -82,6 +83,7 @@ impl<'a> Watcher<'a> {
         ensures told { self.new.told ≡ slice_set self.old.told line released }
         ensures rung { HasRung line (untold self.old.told line released) self.old self.new }
         ensures idle { self.new.idle ≡ self.old.idle }
+        ensures over { self.new.over ≡ self.old.over }
     {
         self.sleeper.go_on();
         let line = line as usize;
