@@ -22,33 +22,93 @@ import glob
 import os
 import re
 import sys
+from concurrent.futures import ThreadPoolExecutor
 
 import jobs
 import usage
+from facts import Facts
 
 TOP = os.path.dirname(os.path.dirname(os.path.abspath(__file__)))
 UNITS = {"0": "V", "1": "mA", "2": ""}
 
 
 class Board:
-    """A board text: its name, the vendor and model of its first comment, and its blocks, each as its first line's words
-    and its other lines by their first words."""
+    """A board text: its name, the vendor and model of its first comment, and the core's facts of it."""
 
     def __init__(self, path):
-        self.name, self.model, self.blocks = os.path.basename(path).rsplit(".", 1)[0], "", []
-        with open(path, encoding="ascii", errors="replace") as file:
-            for number, line in enumerate(file):
-                words = line.split()
-                if words and words[0].startswith("#"):
-                    self.model = self.model if number else re.split(r"[.:,]\s|[.:]$", line[1:].strip())[0]
-                elif words and words[0] == "signals":
-                    break
-                elif words and words[0] == "subdevice":
-                    self.blocks.append((words[1], words[2], {}))
-                elif words and self.blocks:
-                    self.blocks[-1][2].setdefault(words[0], []).append(words[1:])
-        if not self.blocks:
-            raise ValueError
+        with open(path, "rb") as file:
+            text = file.read()
+        first = text.decode("ascii", "replace").split("\n")[0]
+        self.path, self.text, self.facts = path, text, None
+        self.name, self.model = os.path.basename(path).rsplit(".", 1)[0], ""
+        if first.startswith("#"):
+            self.model = re.split(r"[.:,]\s|[.:]$", first[1:].strip())[0]
+
+    def ask(self):
+        """Asks for the facts of the text, which the program has to take."""
+        try:
+            self.facts = Facts(self.text)
+        except jobs.Fault as fault:
+            raise jobs.Fault("%s: this isn't a board text that the program takes (%s)" % (self.path, fault))
+
+    def subdevices(self):
+        return [Subdevice(self, at) for at in range(int(self.facts.one("subdevices")[0]))]
+
+
+class Subdevice:
+    """A subdevice of a board, by its number."""
+
+    def __init__(self, board, at):
+        self.board, self.at = board, at
+        self.kind, self.channels = self.word("kind"), self.word("channels")
+        self.sources = self.board.facts.one("sources", at)
+
+    def word(self, key, none="-"):
+        """The first word of a fact, or what holds without it."""
+        return (self.board.facts.one(key, self.at) or [none])[0]
+
+    def all(self, key):
+        return self.board.facts.all(key, self.at)
+
+    def bits(self):
+        """The bits of its codes."""
+        greatest = self.word("maxdata")
+        return greatest if greatest == "-" else str(int(greatest).bit_length())
+
+    def rate(self):
+        """Samples a second of a command that goes as fast as it can."""
+        if not self.sources:
+            return "-"
+        timed = "timer" in self.sources[2].split("|")
+        least, tick = int(self.word("convert" if timed else "scan")), int(self.word("tick"))
+        return str(1000000000 // (-(-least // tick) * tick))
+
+    def ranges(self):
+        """Its ranges in their order, each as +-10 or 0..5, with the unit."""
+        made, units = [], []
+        whole = [words[1:] for words in self.all("range")]
+        for low, high, unit in whole:
+            both = int(low) == -int(high)
+            made.append("+-" + millionths(high) if both else millionths(low) + ".." + millionths(high))
+            units.append(UNITS[unit])
+        own = "+" if any(words[2:] not in whole for words in self.all("chan_range")) else ""
+        return " ".join(made + sorted(set(units))) + own
+
+    def numbers(self):
+        return [self.board.name, str(self.at), self.kind, self.channels, self.bits(), self.word("tick"), self.word("scan"),
+                self.word("convert"), self.rate(), self.word("list"), self.word("lines", none="0"), self.ranges()]
+
+    def asked(self):
+        """The sources of its triggers."""
+        return [self.board.name, str(self.at), self.kind] + self.sources + [str(len(self.all("forbid"))) + " pairs"]
+
+    def pairs(self):
+        """The pairs of sources that a command of this subdevice may not have, a line for each."""
+        made = ["  forbidden: %s %s with %s %s" % tuple(words[1:]) for words in self.all("forbid")]
+        if "follow" in self.sources[1].split("|"):
+            made += ["  forbidden: scan_begin follow with convert %s, on every board" % source
+                     for source in self.sources[2].split("|") if source in ("now", "follow")]
+        return made
 
 
 class Search:
@@ -62,9 +122,9 @@ class Search:
     def takes_board(self, board):
         return self.word in (board.name + " " + board.model).lower()
 
-    def takes(self, kind, channels, lines):
-        numbers = {"-c": int(channels), "-b": int(one(lines, "bits", none="0")), "-r": int(rate(lines).replace("-", "0"))}
-        return self.kind in (None, kind) and all(numbers[name] >= least for name, least in self.least.items())
+    def takes(self, sub):
+        numbers = {"-c": int(sub.channels), "-b": int(sub.bits().replace("-", "0")), "-r": int(sub.rate().replace("-", "0"))}
+        return self.kind in (None, sub.kind) and all(numbers[name] >= least for name, least in self.least.items())
 
 
 def millionths(text):
@@ -73,78 +133,28 @@ def millionths(text):
     return "%g" % number
 
 
-def ranges(lines):
-    """The ranges of a subdevice in their order, each as +-10 or 0..5, with the unit."""
-    made, units = [], []
-    for low, high, unit in lines.get("range", []):
-        both = int(low) == -int(high)
-        made.append("+-" + millionths(high) if both else millionths(low) + ".." + millionths(high))
-        units.append(UNITS[unit])
-    own = "+" if any(words[1] == "range" for words in lines.get("chan", [])) else ""
-    return " ".join(made + sorted(set(units))) + own
-
-
-def one(lines, name, place=0, none="-"):
-    """A word of a line that stands once."""
-    return lines[name][0][place] if name in lines else none
-
-
-def rate(lines):
-    """Samples a second of a command that goes as fast as it can."""
-    if "sources" not in lines:
-        return "-"
-    timed = "timer" in one(lines, "sources", 2).split("|")
-    least, tick = int(one(lines, "convert" if timed else "scan")), int(one(lines, "tick"))
-    return str(1000000000 // (-(-least // tick) * tick))
-
-
-def numbers(name, at, kind, channels, lines):
-    return [name, str(at), kind, channels, one(lines, "bits"), one(lines, "tick"), one(lines, "scan"),
-            one(lines, "convert"), rate(lines), one(lines, "list"), one(lines, "lines", none="0"), ranges(lines)]
-
-
-def sources(name, at, kind, channels, lines):
-    return [name, str(at), kind] + lines["sources"][0] + [str(len(lines.get("forbid", []))) + " pairs"]
-
-
-def pairs(lines):
-    """The pairs of sources that a command of this subdevice may not have, a line for each."""
-    made = ["  forbidden: %s %s with %s %s" % tuple(words) for words in lines.get("forbid", [])]
-    if "follow" in one(lines, "sources", 1).split("|"):
-        made += ["  forbidden: scan_begin follow with convert %s, on every board" % source
-                 for source in one(lines, "sources", 2).split("|") if source in ("now", "follow")]
-    return made
-
-
-def table(asks, search, boards):
-    """The rows of all boards, and after which row the pairs of which subdevice stand."""
+def table(asks, search, boards, with_pairs):
+    """The rows of all boards, and after which row the pairs of which subdevice come, if they are wanted."""
     rows = [["board", "sub", "kind", "START", "SCAN_BEGIN", "CONVERT", "SCAN_END", "STOP", "forbidden"] if asks else
             ["board", "sub", "kind", "ch", "bits", "tick", "scan", "convert", "samples/s", "list", "lines", "ranges"]]
     under = {}
-    for board in filter(search.takes_board, boards):
-        for at, (kind, channels, lines) in enumerate(board.blocks):
-            if not search.takes(kind, channels, lines) or asks and "sources" not in lines:
+    for board in boards:
+        for sub in board.subdevices():
+            if not search.takes(sub) or asks and not sub.sources:
                 continue
-            rows.append((sources if asks else numbers)(board.name, at, kind, channels, lines))
-            if search.any:
-                rows[-1].append(board.model)
-            if asks and len(boards) == 1:
-                under[len(rows) - 1] = pairs(lines)
-    if search.any:
-        rows[0].append("model")
-    if any(len(row) != len(rows[0]) for row in rows):
-        raise ValueError
+            rows.append((sub.asked() if asks else sub.numbers()) + [board.model] * search.any)
+            if asks and with_pairs:
+                under[len(rows) - 1] = sub.pairs()
+    rows[0] += ["model"] * search.any
     return rows, under
 
 
-def board_of(path, asks):
-    """The board of a text, whose rows can be made."""
-    try:
-        board = Board(path)
-        table(asks, Search({}), [board])
-        return board
-    except (ValueError, IndexError, KeyError, TypeError, ZeroDivisionError):
-        raise jobs.Fault("%s: this isn't a board text that the program takes" % path)
+def boards_of(files, search):
+    """The boards of these files whose name is looked for, with their facts, which are asked for side by side."""
+    boards = list(filter(search.takes_board, map(Board, files)))
+    with ThreadPoolExecutor(os.cpu_count()) as pool:
+        list(pool.map(Board.ask, boards))
+    return boards
 
 
 def main(arguments):
@@ -152,7 +162,7 @@ def main(arguments):
     asks, search = "-s" in options, Search(options)
     folders = [os.path.join("examples", "boards")] + ["boards"] * search.any
     files = words or [path for folder in folders for path in sorted(glob.glob(os.path.join(TOP, folder, "*.txt")))]
-    rows, under = table(asks, search, [board_of(path, asks) for path in files])
+    rows, under = table(asks, search, boards_of(files, search), len(files) == 1)
     wide = [max(len(row[at]) for row in rows) for at in range(len(rows[0]))]
     for at, row in enumerate(rows):
         print("  ".join(word.ljust(width) for word, width in zip(row, wide)).rstrip())

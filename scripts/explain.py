@@ -16,10 +16,10 @@ Ends with status 0 where nothing is refused, no line is answered `err`, and each
 that isn't so; with 2 where the words are wrong or a file can't be read.
 """
 import os
-import shutil
 import sys
 
 import usage
+from facts import program
 from jobs import Fault
 from places import FIRST, NAMED, SIGNALS, Job, Refusal, block_of, broken_rule
 from refusals import COMMAND, Texts, key_of
@@ -339,23 +339,11 @@ def explain(job, texts, command, where):
     return 1 if wrong else 0
 
 
-def program_of(given):
-    """The program that answers jobs."""
-    near = os.path.join(os.path.dirname(TOP), "bin", "comedi")
-    for name in [given] if given else [os.path.join(TOP, "comedi"), os.path.join(TOP, "bin", "comedi"), near]:
-        if os.path.isfile(name) and os.access(name, os.X_OK):
-            return os.path.abspath(name)
-    found = shutil.which(given or "comedi")
-    if not found:
-        raise Fault("%s: No such file or directory" % (given or "comedi"))
-    return found
-
-
 def main(arguments):
     words, options = usage.words_of(arguments, 1, 2, "-p")
     try:
         with open(words[-1], encoding="utf-8", errors="surrogateescape", newline="\n") as file:
-            job = Job(file.read(), program_of(options.get("-p")))
+            job = Job(file.read(), program("comedi", options.get("-p")))
         command = words[0] if len(words) == 2 else job.guess()
         return explain(job, Texts(os.path.join(TOP, "docs")), command, words[-1])
     except Fault as fault:
