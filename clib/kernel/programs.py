@@ -3,9 +3,10 @@ only what must hold of them is: how many samples there are, what they sum up to,
 
 import re
 
+ADDRESS = r"0x[0-9a-f]{9,}"
 # what is other in each run: the text before it stays
 OTHER_EACH_TIME = [
-    (r"0x[0-9a-f]{9,}", "ADDRESS"),
+    (ADDRESS, "ADDRESS"),
     (r"\d{9,}\.\d{6}\b", "TIME"),
     (r"(time:|difference \(us\):) -?\d+(\.\d+)?", r"\1 TIME"),
     (r"^(\d+), \d+$", r"\1 samples, COUNT reads"),
@@ -19,6 +20,11 @@ LEVELS = (29490, 29491, 36043, 36044)
 # of a saw of 1 V and 100 ms, in codes of 16 bits over 20 V
 SLOPE = 65.535
 HEIGHT = 6553.5
+
+
+def without_addresses(line):
+    """A line with the same word for each address."""
+    return re.sub(ADDRESS, "ADDRESS", line)
 
 
 def code_of(number):
