@@ -43,12 +43,16 @@ abbrev pub subs_facts : ℕ → List SubText → List ℕ
 subs_facts index [] = []
 subs_facts index (s ∷ more) = sub_facts index s ++ subs_facts (index + 1) more
 
+-- the greatest horizon that the signals of a text of this version may have
+abbrev pub horizon_fact : ℕ → List ℕ
+horizon_fact version = fact_line (codes "greatest_horizon") [] (decimal (greatest_horizon version) ∷ [])
+
 -- a board: the words of its version, its name, the greatest horizon that its signals may have, how many subdevices it
 -- has, and each of them
 abbrev pub board_facts : BoardText → List ℕ
 board_facts b =
     fact_line (codes "version") [] (version_line b.version)
     ++ fact_line (codes "name") [] (b.name ∷ [])
-    ++ fact_line (codes "greatest_horizon") [] (decimal (greatest_horizon b.version) ∷ [])
+    ++ horizon_fact b.version
     ++ fact_line (codes "subdevices") [] (decimal (length b.subs) ∷ [])
     ++ subs_facts 0 b.subs

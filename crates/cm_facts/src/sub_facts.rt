@@ -20,8 +20,7 @@ pub(crate) fn put_board(text: &mut Vec<u8>, board: &BoardDesc) -> Result<(), NoM
 {
     put_version(text, board.version)?;
     put_fact(text, b"name", &[], &[FactWord::Fixed(&board.name)])?;
-    let horizon = greatest_horizon(board.version);
-    put_fact(text, b"greatest_horizon", &[], &[FactWord::Number(horizon)])?;
+    put_greatest_horizon(text, board.version)?;
     put_count(text, b"subdevices", &[], board.subs.len())?;
     put_subs(text, 0, &board.subs)
 }
@@ -40,6 +39,14 @@ fn put_version(text: &mut Vec<u8>, version: u32) -> Result<(), NoMemory>
         ];
         put_fact(text, b"version", &[], &words)
     }
+}
+
+// Appends the greatest horizon that the signals of a text of this version may have.
+fn put_greatest_horizon(text: &mut Vec<u8>, version: u32) -> Result<(), NoMemory>
+    ensures { OnOk result (text.new.items ≡ text.old.items ++ spec.horizon_fact version) }
+{
+    let horizon = greatest_horizon(version);
+    put_fact(text, b"greatest_horizon", &[], &[FactWord::Number(horizon)])
 }
 
 // Appends subdevices, numbered from a number on.
