@@ -332,5 +332,6 @@ int copy_out(void *to, const void *from, size_t bytes);
 int memory_lengthen(int descriptor, size_t bytes);
 /* anywhere */
 int memory_is_there(const void *from, size_t bytes);
+int memory_takes_events(void *to);
 
 #endif

@@ -41,6 +41,14 @@ static int can_write(void *to, size_t bytes)
 	return bytes && bytes <= MOST_PROBED && !syscall(SYS_rt_sigpending, to, bytes);
 }
 
+/* Returns whether the kernel can write events to a pointer. What was there is lost. */
+int memory_takes_events(void *to)
+{
+	int before = errno, takes = can_write(to, MOST_PROBED) || errno != EFAULT;
+	errno = before;
+	return takes;
+}
+
 int copy_out(void *to, const void *from, size_t bytes)
 {
 	if (can_write(to, bytes)) {

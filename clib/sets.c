@@ -255,7 +255,7 @@ static int poll_members(int set, struct epoll_event *events, int most, int64_t n
 		int ready = polls_wait_for_set(set, seen, asked, count, nanoseconds, signals);
 		if (ready < 0)
 			return -1;
-		if (ready && !memory_is_there(events, sizeof *events))
+		if (ready && !memory_takes_events(events))
 			return names_answer(-EFAULT);
 		int done = take_events(asked, count, events, most);
 		if (done || (end != NEVER && device->client_now >= end))

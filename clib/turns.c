@@ -54,9 +54,9 @@ struct turn {
 };
 
 static struct turn turns[MOST_TURNS];
-static uint64_t last_number, last_turn;
-/* when the board sends a signal next, as the last look found */
-static uint64_t next_signal = NEVER;
+static uint64_t last_number;
+/* when a turn began last, and when the board sends a signal next, as the last look found */
+static _Atomic uint64_t last_turn, next_signal = NEVER;
 static pthread_mutex_t lock = PTHREAD_MUTEX_INITIALIZER;
 static __thread struct quiet outside;
 
@@ -114,8 +114,8 @@ static uint64_t own_end_of(const struct turn *turn)
 /* Returns up to when a wait lets the time go on. A signal of the board may come before the wait's end. */
 static uint64_t end_of(const struct turn *turn)
 {
-	uint64_t end = own_end_of(turn);
-	return next_signal < end ? next_signal : end;
+	uint64_t end = own_end_of(turn), signal = next_signal;
+	return signal < end ? signal : end;
 }
 
 /* The number of a thread's last wait, or 0 where it has none. */
@@ -226,7 +226,7 @@ static int is_first(const struct turn *turn)
 /* Whether the threads that run have run for long enough. */
 static int is_over(const struct turn *turn)
 {
-	uint64_t since = last_turn > turn->began ? last_turn : turn->began;
+	uint64_t turn_began = last_turn, since = turn_began > turn->began ? turn_began : turn->began;
 	return device->client_now > end_of(turn) + OVERTIME || time_of_wall() > since + PATIENCE;
 }
 
@@ -252,10 +252,7 @@ static int take_turn(const struct turn *turn)
  * looks again soon, and later more seldom. */
 static uint64_t has_turn(struct turn *turn)
 {
-	uint64_t signal = events_next();
-	enter();
-	next_signal = signal;
-	leave();
+	next_signal = events_next();
 	if (!is_first(turn)) {
 		turn->piece = 0;
 		return 0;
