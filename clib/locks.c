@@ -57,22 +57,22 @@ PUBLIC int sem_timedwait(sem_t *restrict semaphore, const struct timespec *restr
 }
 
 /* How often the condition variables of an address were signalled: between two pieces of a wait nobody would see it. */
-static unsigned signalled[256];
+static _Atomic unsigned signalled[256];
 
-static unsigned *signals_of(const pthread_cond_t *condition)
+static _Atomic unsigned *signals_of(const pthread_cond_t *condition)
 {
 	return signalled + (uintptr_t)condition / sizeof *condition % 256;
 }
 
 PUBLIC int pthread_cond_signal(pthread_cond_t *condition)
 {
-	__atomic_add_fetch(signals_of(condition), 1, __ATOMIC_SEQ_CST);
+	++*signals_of(condition);
 	return REAL(pthread_cond_signal)(condition);
 }
 
 PUBLIC int pthread_cond_broadcast(pthread_cond_t *condition)
 {
-	__atomic_add_fetch(signals_of(condition), 1, __ATOMIC_SEQ_CST);
+	++*signals_of(condition);
 	return REAL(pthread_cond_broadcast)(condition);
 }
 
@@ -90,7 +90,7 @@ static int pause_condition(void *what, uint64_t nanoseconds, const sigset_t *sig
 	signals_let_in(signals);
 	int result = REAL(pthread_cond_clockwait)(c->variable, c->mutex, CLOCK_MONOTONIC, &end);
 	signals_keep_out(signals);
-	if (result == ETIMEDOUT && *(volatile unsigned *)signals_of(c->variable) == c->signals)
+	if (result == ETIMEDOUT && *signals_of(c->variable) == c->signals)
 		return 0;
 	return result && result != ETIMEDOUT ? -result : CAME;
 }

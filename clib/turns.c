@@ -50,7 +50,8 @@ struct turn {
 	pthread_t self;
 	const struct wait *wait;
 	const sigset_t *signals;
-	uint64_t start, end, number, began, piece, sent;
+	uint64_t start, end, number, began, piece;
+	_Atomic uint64_t sent;
 };
 
 static struct turn turns[MOST_TURNS];
@@ -200,7 +201,7 @@ static int have_news(void)
 static int was_sent_signal(struct turn *turn)
 {
 	uint64_t ending = 0;
-	if (!__atomic_load_n(&turn->sent, __ATOMIC_SEQ_CST))
+	if (!turn->sent)
 		return 0;
 	enter();
 	for (int i = 1; i < NSIG; i++)
